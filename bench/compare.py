@@ -1,13 +1,13 @@
 #!/usr/bin/env python3
 """Times capnp_cli beside the reference library on the same files, and prints the ratios of their times.
 
-    compare.py --build FOLDER --data FOLDER [--runs 7] [--only WORD] [--cpu 1] [--enforce]
+    compare.py --build FOLDER --data FOLDER [--runs 7] [--only WORD] [--cpu 1] [--enforce] [--history FILE]
 
 `make BUILD=FOLDER` makes the one folder, `generate` fills the other. The two programs run in turn, once with what they
 write compared, and then timed with nothing done with it. A ratio is ours over the reference's: below 1 we are faster.
 Times are processor seconds, of user and system together, so that other work on the machine shows little; the spread is
 the median over the least, ours and the reference's. With --enforce the status is 1 where a ratio passes its goal, or
-where what is written differs.
+where what is written differs. With --history each ratio is appended to FILE; plot.py draws it.
 """
 import argparse
 import hashlib
@@ -16,6 +16,8 @@ import pathlib
 import statistics
 import subprocess
 import sys
+
+import history
 
 COMMAND = pathlib.Path(__file__).resolve().parent.parent / "crates/cp_cli/out/cp_cli"
 
@@ -42,7 +44,7 @@ def run(words, cpu, out=subprocess.DEVNULL):
 
 
 def compare(job, name, args):
-    """Prints a row; whether the goal is met and what was written is the same."""
+    """Prints a row; the ratio, and whether the goal is met and what was written is the same."""
     form = "packed" if job in ("check --packed", "unpack") else "plain"
     words = [*job.split(), str(args.data / f"{name}.{form}")]
     programs = [[str(it), *words] for it in (args.command, args.build / "reference")]
@@ -56,7 +58,7 @@ def compare(job, name, args):
     spread = f"{mine / min(ours):.2f} {other / min(theirs):.2f}"
     note = "" if met else "over" if same else "OTHER OUTPUT"
     print(f"{job:<15}{name:<9}{mine:>8.1f} ms{other:>8.1f} ms{mine / other:>8.2f}{goal:>7.2f}   {spread}  {note}", flush=True)
-    return met
+    return mine / other, met
 
 
 def main():
@@ -68,11 +70,17 @@ def main():
     words.add_argument("--only", default="")
     words.add_argument("--cpu", default="1")
     words.add_argument("--enforce", action="store_true")
+    words.add_argument("--history", type=pathlib.Path)
     args = words.parse_args()
     print(f"{args.runs} runs of each, in turn; load {os.getloadavg()[0]:.1f}")
     print(f"{'job':<15}{'input':<9}{'ours':>11}{'reference':>11}{'ratio':>8}{'goal':>7}   spread")
-    met = [compare(job, name, args) for job in GOALS for name in GOALS[job] if args.only in f"{job}/{name}"]
-    return 1 if args.enforce and not all(met) else 0
+    names = [(job, name) for job in GOALS for name in GOALS[job] if args.only in f"{job}/{name}"]
+    load = os.getloadavg()[0]
+    found = [compare(*it, args) for it in names]
+    if args.history:
+        rows = [(*it, f"{ratio:.2f}", "ratio") for it, (ratio, _) in zip(names, found)]
+        history.keep(args.history, "compare.py", rows, f"load {load:.1f} at first, medians of {args.runs} runs")
+    return 1 if args.enforce and not all(met for _, met in found) else 0
 
 
 if __name__ == "__main__":
