@@ -1,0 +1,100 @@
+//! Capabilities, in the notation of scripts.
+
+use crate::number::integer_of;
+use crate::reader::Reader;
+use crate::token::Token;
+use crate::value::Value;
+
+impl<'s, 't> Reader<'s, 't> {
+    /// A capability, or null.
+    pub(crate) fn cap(&mut self) -> Value {
+        if let Token::Name(b"null") = self.token {
+            self.advance();
+            return Value::Null;
+        }
+        if self.caps.is_none() {
+            self.miss("null, since a message by itself has no capabilities");
+            return Value::Null;
+        }
+        let mut words = String::new(self.alloc);
+        self.cap_words(&mut words);
+        self.add_cap(words)
+    }
+
+    /// Adds a capability to those that were named.
+    fn add_cap(&mut self, words: String) -> Value {
+        let Some(caps) = &mut self.caps else {
+            return Value::Null;
+        };
+        let index = caps.len();
+        let pushed = caps.push(words);
+        match u32::try_from(index) {
+            Ok(index) if pushed.is_ok() => Value::Cap(index),
+            _ => {
+                self.starve();
+                Value::Null
+            }
+        }
+    }
+
+    /// Takes off what names a capability, and adds it without blanks.
+    fn cap_words(&mut self, words: &mut String) {
+        let kind = match self.token {
+            Token::Name(b"question") => "question:",
+            Token::Name(b"import") => "import:",
+            Token::Name(b"object") => "object:",
+            Token::Name(b"promise") => "promise:",
+            _ => {
+                self.miss("null, question:N[FIELDS], import:N, object:N or promise:N");
+                return;
+            }
+        };
+        self.advance();
+        self.put(words, kind);
+        self.skip(b':', ":");
+        self.count(words, u32::MAX as u64);
+        if kind == "question:" {
+            self.path(words);
+        }
+    }
+
+    /// Takes the fields off by which a result is reached, and adds them.
+    fn path(&mut self, words: &mut String) {
+        self.skip(b'[', "[");
+        self.put(words, "[");
+        for place in 0..=self.most() {
+            if !self.goes_on(place, b']', ", or ]") {
+                break;
+            }
+            if place > 0 {
+                self.put(words, ",");
+            }
+            self.count(words, u16::MAX as u64);
+        }
+        self.put(words, "]");
+    }
+
+    /// Takes a number of at most this off, and adds it.
+    fn count(&mut self, words: &mut String, most: u64) {
+        let number = match self.token {
+            Token::Number(numeral) => integer_of(numeral),
+            _ => None,
+        };
+        match number {
+            Some(number) if number <= most => {
+                self.advance();
+                if write!(words, "{number}").is_err() {
+                    self.starve();
+                }
+            }
+            _ => self.miss("a number"),
+        }
+    }
+
+    /// Adds a word.
+    fn put(&mut self, words: &mut String, word: &str) {
+        if words.push_str(word).is_err() {
+            self.starve();
+        }
+    }
+}

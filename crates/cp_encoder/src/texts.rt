@@ -1,0 +1,56 @@
+//! Texts and data.
+
+use crate::escape::{push_hex, push_text};
+use crate::reader::Reader;
+use crate::token::Token;
+use crate::value::Value;
+
+impl<'s, 't> Reader<'s, 't> {
+    /// A text.
+    pub(crate) fn text(&mut self) -> Value {
+        if !matches!(self.token, Token::Text(_)) {
+            self.miss("Text");
+            return Value::Null;
+        }
+        Value::Text(self.texts())
+    }
+
+    /// Data.
+    pub(crate) fn data_bytes(&mut self) -> Value {
+        match self.token {
+            Token::Text(_) => Value::Bytes(self.texts()),
+            Token::Hex(raw) => Value::Bytes(self.hex(raw)),
+            _ => {
+                self.miss("Data");
+                Value::Null
+            }
+        }
+    }
+
+    /// The bytes of texts that stand one after another.
+    fn texts(&mut self) -> Vec<u8> {
+        let mut bytes = Vec::new(self.alloc);
+        for _ in 0..=self.most() {
+            let Token::Text(raw) = self.token else {
+                break;
+            };
+            match push_text(&mut bytes, raw) {
+                Ok(true) => self.advance(),
+                Ok(false) => self.miss("a text with right escapes"),
+                Err(_) => self.starve(),
+            }
+        }
+        bytes
+    }
+
+    /// The bytes of data in hexadecimal.
+    fn hex(&mut self, raw: &[u8]) -> Vec<u8> {
+        let mut bytes = Vec::new(self.alloc);
+        match push_hex(&mut bytes, raw) {
+            Ok(true) => self.advance(),
+            Ok(false) => self.miss("two hexadecimal digits for each byte"),
+            Err(_) => self.starve(),
+        }
+        bytes
+    }
+}
