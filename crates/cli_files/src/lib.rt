@@ -1,7 +1,9 @@
 //! The commands of `capnp_cli` on a file, by its path.
 #![tactic(auto)]
 
+mod encoded;
 mod named;
 mod paths;
+mod schema;
 
 pub use paths::{BUFFER, STDIN, act_on_file, failed};

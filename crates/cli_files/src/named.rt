@@ -1,6 +1,7 @@
 //! Messages by the names of a schema.
 
 use crate::paths::{InputForm, on_file};
+use crate::schema::schema_at;
 use cli_words::SchemaNames;
 use cp_commands::{Asked, BROKEN, Names, Plan, REFUSED};
 use cp_schema::{Decoder, Schema};
@@ -13,20 +14,14 @@ pub(crate) fn show_by(
     by: &SchemaNames<'_>,
     path: &str,
 ) -> io::Result<u8> {
-    let bytes = fs::read(rt, by.request)?;
-    let schema = Schema::read(rt.alloc(), &bytes);
-    drop(bytes);
-    match (schema, by.name) {
+    match (schema_at(rt, by.request), by.name) {
         (Ok(schema), Some(name)) => {
             let status = show_structs(rt, form, by, &schema, name, path);
             drop(schema);
             status
         }
         (Ok(schema), None) => show_calls(rt, form, by, schema, path),
-        (Err(fault), _) => {
-            let _ = eprintln!(rt; "{}: {fault}", by.request);
-            Ok(BROKEN)
-        }
+        (Err(status), _) => Ok(status),
     }
 }
 

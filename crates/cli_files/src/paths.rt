@@ -1,5 +1,6 @@
 //! A command on the file at a path.
 
+use crate::encoded::encode_file;
 use crate::named::show_by;
 use cli_words::FileCommand;
 use cp_commands::{BROKEN, Plan, act};
@@ -29,6 +30,7 @@ pub fn act_on_file(rt: &HostRuntime, command: &FileCommand, path: &str) -> u8 {
             limits,
             names: Some(names),
         } => show_by(rt, &InputForm { mode, limits }, &names, path),
+        FileCommand::Encode { mode, structs } => encode_file(rt, mode, &structs, path),
         _ => on_plain(rt, command, path),
     };
     done.unwrap_or_else(|error| failed(rt, path, error))
@@ -50,9 +52,10 @@ fn on_plain(rt: &HostRuntime, command: &FileCommand, path: &str) -> io::Result<u
 
 // It is an `Option` since rattle's borrow checker doesn't cover a plan that is made where it is lent.
 
-/// What a command without names does.
+/// What a command on frames does without names.
 fn plan_of<'p>(command: &FileCommand) -> Option<Plan<'p>> {
     let plan = match *command {
+        FileCommand::Encode { .. } => return None,
         FileCommand::Show { mode, limits, .. } => Plan::Show { mode, limits },
         FileCommand::Check { mode, limits } => Plan::Check { mode, limits },
         FileCommand::Pack => Plan::Pack,

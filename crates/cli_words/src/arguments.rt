@@ -74,6 +74,8 @@ pub(crate) enum ArgumentForm {
     Flag,
     /// An option with a text, which help calls so.
     Text(&'static str),
+    /// The same, which has to be there.
+    Needed(&'static str),
     /// The same, which isn't taken without one option, or with another.
     Beside {
         value: &'static str,
@@ -118,6 +120,7 @@ impl Argument {
             ArgumentForm::Text(value) | ArgumentForm::Beside { value, .. } => arg
                 .long(self.name)
                 .value_name(value),
+            ArgumentForm::Needed(value) => { arg.long(self.name).value_name(value).required(true) }
             ArgumentForm::Number(value, most) => self.number(arg, value, most),
             ArgumentForm::Size(value, most) => self.number(arg, value, most).required(true),
             ArgumentForm::Place => arg.required(true),

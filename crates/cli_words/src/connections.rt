@@ -75,8 +75,14 @@ const CALLS: Argument = Argument {
 /// The words of `loop`.
 pub(crate) const LOOP: Words = Words {
     name: "loop",
-    about: "Serve the messages of FILE over a connection, and print each answer as a line",
-    after_help: "Example: capnp_cli loop calls.bin",
+    about: "Serve two sample objects to the calls of FILE, and print each answer as a line",
+    after_help: "Exit status:\n\
+         \x20 0  every message was accepted\n\
+         \x20 1  a message was refused; standard error says at which byte, and why\n\
+         \x20 2  the command line is wrong, or a file failed\n\
+         \n\
+         Example:\n\
+         \x20 capnp_cli loop calls.bin",
 };
 
 /// The arguments of `loop`.

@@ -3,7 +3,7 @@
 use crate::arguments::{
     Argument, ArgumentForm, FILE, MOST_WORDS, NESTING, PACKED, TRAVERSAL, Words, limits_of, mode_of,
 };
-use crate::task::{FileCommand, SchemaNames, Task};
+use crate::task::{FileCommand, SchemaNames, StructName, Task};
 use clap::ArgMatches;
 
 /// The schema by which messages are shown.
@@ -35,6 +35,27 @@ const CALLS: Argument = Argument {
     help: "The messages of the other direction: results are shown by the methods that these call",
 };
 
+/// The schema by which texts are read.
+const TEXT_SCHEMA: Argument = Argument {
+    name: "schema",
+    form: ArgumentForm::Needed("REQUEST"),
+    help: "The schema of the texts: what `capnp compile -o- X.capnp` prints",
+};
+
+/// The struct that each text is.
+const TEXT_TYPE: Argument = Argument {
+    name: "type",
+    form: ArgumentForm::Needed("NAME"),
+    help: "The struct that each text is, as Person or Person.PhoneNumber",
+};
+
+/// The file of texts.
+const TEXTS: Argument = Argument {
+    name: "FILE",
+    form: ArgumentForm::Last,
+    help: "A file of texts, one after another; without it, or with -, standard input",
+};
+
 /// The greatest number of words in a segment.
 const WORDS: Argument = Argument {
     name: "words",
@@ -46,7 +67,17 @@ const WORDS: Argument = Argument {
 pub(crate) const SHOW: Words = Words {
     name: "show",
     about: "Print each message of FILE as a line",
-    after_help: "Example: capnp_cli show --packed calls.packed",
+    after_help: "A message is one of rpc.capnp, or with --type a struct of your schema.\n\
+         \n\
+         Exit status:\n\
+         \x20 0  every message was accepted\n\
+         \x20 1  a message was refused; standard error says at which byte, and why\n\
+         \x20 2  the command line is wrong, or a file failed\n\
+         \n\
+         Examples:\n\
+         \x20 capnp_cli show calls.bin\n\
+         \x20 capnp_cli show --schema addressbook.request --type AddressBook book.bin\n\
+         \x20 capnp_cli show --schema store.request --calls client.bin server.bin",
 };
 
 /// The arguments of `show`.
@@ -54,11 +85,35 @@ pub(crate) static SHOW_ARGUMENTS: [Argument; 7] = [
     SCHEMA, TYPE, CALLS, PACKED, NESTING, TRAVERSAL, FILE,
 ];
 
+/// The words of `encode`.
+pub(crate) const ENCODE: Words = Words {
+    name: "encode",
+    about: "Write each text of FILE as a message of a struct of your schema",
+    after_help: "A text is what `show --schema --type` prints, and what `capnp encode` reads.\n\
+         \n\
+         Exit status:\n\
+         \x20 0  every text was written\n\
+         \x20 1  a text was refused; standard error says where, and why\n\
+         \x20 2  the command line is wrong, or a file failed\n\
+         \n\
+         Example:\n\
+         \x20 echo '(id = 1, name = \"Alice\")' | capnp_cli encode --schema addressbook.request --type Person",
+};
+
+/// The arguments of `encode`.
+pub(crate) static ENCODE_ARGUMENTS: [Argument; 4] = [TEXT_SCHEMA, TEXT_TYPE, PACKED, TEXTS];
+
 /// The words of `check`.
 pub(crate) const CHECK: Words = Words {
     name: "check",
     about: "Print how many messages FILE has, if all are accepted",
-    after_help: "Example: capnp_cli check --nesting 32 calls.bin",
+    after_help: "Exit status:\n\
+         \x20 0  every message was accepted\n\
+         \x20 1  a message was refused; standard error says at which byte, and why\n\
+         \x20 2  the command line is wrong, or a file failed\n\
+         \n\
+         Example:\n\
+         \x20 capnp_cli check --nesting 32 calls.bin",
 };
 
 /// The arguments of `check`.
@@ -67,8 +122,14 @@ pub(crate) static CHECK_ARGUMENTS: [Argument; 4] = [PACKED, NESTING, TRAVERSAL, 
 /// The words of `pack`.
 pub(crate) const PACK: Words = Words {
     name: "pack",
-    about: "Write the plain frames of FILE in the packed form",
-    after_help: "Example: capnp_cli pack calls.bin > calls.packed",
+    about: "Write the messages of FILE in the packed form",
+    after_help: "Exit status:\n\
+         \x20 0  every message was accepted\n\
+         \x20 1  a message was refused; standard error says at which byte, and why\n\
+         \x20 2  the command line is wrong, or a file failed\n\
+         \n\
+         Example:\n\
+         \x20 capnp_cli pack calls.bin > calls.packed",
 };
 
 /// The arguments of `pack`.
@@ -77,8 +138,14 @@ pub(crate) static PACK_ARGUMENTS: [Argument; 1] = [FILE];
 /// The words of `unpack`.
 pub(crate) const UNPACK: Words = Words {
     name: "unpack",
-    about: "Write the packed frames of FILE in the plain form",
-    after_help: "Example: capnp_cli unpack calls.packed > calls.bin",
+    about: "Write the packed messages of FILE in the plain form",
+    after_help: "Exit status:\n\
+         \x20 0  every message was accepted\n\
+         \x20 1  a message was refused; standard error says at which byte, and why\n\
+         \x20 2  the command line is wrong, or a file failed\n\
+         \n\
+         Example:\n\
+         \x20 capnp_cli unpack calls.packed > calls.bin",
 };
 
 /// The arguments of `unpack`.
@@ -87,8 +154,14 @@ pub(crate) static UNPACK_ARGUMENTS: [Argument; 1] = [FILE];
 /// The words of `recut`.
 pub(crate) const RECUT: Words = Words {
     name: "recut",
-    about: "Write each tree of FILE again, in segments of limited size",
-    after_help: "Example: capnp_cli recut --words 64 calls.bin > short.bin",
+    about: "Write each message of FILE in segments of at most N words",
+    after_help: "Exit status:\n\
+         \x20 0  every message was accepted\n\
+         \x20 1  a message was refused; standard error says at which byte, and why\n\
+         \x20 2  the command line is wrong, or a file failed\n\
+         \n\
+         Example:\n\
+         \x20 capnp_cli recut --words 64 calls.bin > short.bin",
 };
 
 /// The arguments of `recut`.
@@ -102,6 +175,18 @@ pub(crate) fn show_of<'a, 'b>(matches: &'b ArgMatches<'a>) -> Option<Task<'a, 'b
         limits,
         names: names_of(matches),
     };
+    Some(Task::OnFile { command, path })
+}
+
+/// What the words of `encode` ask for.
+pub(crate) fn encode_of<'a, 'b>(matches: &'b ArgMatches<'a>) -> Option<Task<'a, 'b>> {
+    let path = matches.get_str("FILE").unwrap_or("-");
+    let structs = StructName {
+        request: matches.get_str("schema")?,
+        name: matches.get_str("type")?,
+    };
+    let mode = mode_of(matches);
+    let command = FileCommand::Encode { mode, structs };
     Some(Task::OnFile { command, path })
 }
 

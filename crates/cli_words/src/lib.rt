@@ -9,6 +9,7 @@ mod task;
 mod words;
 
 pub use task::{
-    Calling, FileCommand, GivenPlace, GivenService, Relaying, SchemaNames, Serving, Task,
+    Calling, FileCommand, GivenPlace, GivenService, Relaying, SchemaNames, Serving, StructName,
+    Task,
 };
 pub use words::{Acts, WRONG, run};

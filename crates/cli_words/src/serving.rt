@@ -71,10 +71,22 @@ pub(crate) fn is_open(words: &[String]) -> bool {
 /// The words of `serve`.
 pub(crate) const SERVE: Words = Words {
     name: "serve",
-    about: "Serve a Desk and a Cell to each of COUNT connections on PORT",
-    after_help: "With COUNT - there is no end. With this or with --at-once, --idle, --listen or --socket, the first line of standard error says \
-         where it listens. With --socket there is no PORT. With - in place of PORT and COUNT, serve one peer over standard input and \
-         output.\n\nExample: capnp_cli serve 7000 1",
+    about: "Serve two sample objects, a Desk and a Cell, to COUNT connections on PORT",
+    after_help: "Forms:\n\
+         \x20 capnp_cli serve [OPTIONS] PORT COUNT       on 127.0.0.1, or on the address of --listen\n\
+         \x20 capnp_cli serve --socket PATH COUNT        on a Unix socket\n\
+         \x20 capnp_cli serve -                          to one peer, over standard input and output\n\
+         COUNT is a number, or - for no end. With -, --at-once, --idle, --listen or --socket the first line of standard error says where\n\
+         it listens.\n\
+         \n\
+         Exit status:\n\
+         \x20 0  no message was refused, and no connection failed\n\
+         \x20 1  a message was refused or a limit was reached; standard error says why\n\
+         \x20 2  the command line is wrong, or a connection failed\n\
+         \n\
+         Examples:\n\
+         \x20 capnp_cli serve 7000 1\n\
+         \x20 capnp_cli serve --at-once 100 7000 -",
 };
 
 /// The arguments of `serve`.

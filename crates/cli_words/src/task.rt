@@ -34,6 +34,11 @@ pub enum FileCommand<'a> {
         limits: Limits,
         names: Option<SchemaNames<'a>>,
     },
+    /// The frame of each text, by a struct of a schema.
+    Encode {
+        mode: Mode,
+        structs: StructName<'a>,
+    },
     /// The number of messages.
     Check {
         mode: Mode,
@@ -59,6 +64,14 @@ pub struct SchemaNames<'a> {
     pub name: Option<&'a str>,
     /// The path of the other direction's messages, whose calls they return from.
     pub calls: Option<&'a str>,
+}
+
+/// A struct of a schema.
+#[derive(Clone, Copy)]
+pub struct StructName<'a> {
+    /// The path of the file that has the schema.
+    pub request: &'a str,
+    pub name: &'a str,
 }
 
 /// What is served.

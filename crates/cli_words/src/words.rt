@@ -15,8 +15,9 @@ pub const WRONG: u8 = 2;
 const VERSION: &str = "0.2.0";
 
 /// The commands, in the order of the help.
-const ALL: [Name; 9] = [
+const ALL: [Name; 10] = [
     Name::Show,
+    Name::Encode,
     Name::Check,
     Name::Pack,
     Name::Unpack,
@@ -37,6 +38,7 @@ pub trait Acts {
 #[derive(Clone, Copy)]
 enum Name {
     Show,
+    Encode,
     Check,
     Pack,
     Unpack,
@@ -142,6 +144,7 @@ impl Name {
     fn words(self) -> Words {
         match self {
             Name::Show => files::SHOW,
+            Name::Encode => files::ENCODE,
             Name::Check => files::CHECK,
             Name::Pack => files::PACK,
             Name::Unpack => files::UNPACK,
@@ -157,6 +160,7 @@ impl Name {
     fn arguments(self, is_open: bool) -> &'static [Argument] {
         match self {
             Name::Show => &files::SHOW_ARGUMENTS,
+            Name::Encode => &files::ENCODE_ARGUMENTS,
             Name::Check => &files::CHECK_ARGUMENTS,
             Name::Pack => &files::PACK_ARGUMENTS,
             Name::Unpack => &files::UNPACK_ARGUMENTS,
@@ -173,6 +177,7 @@ impl Name {
     fn task<'a, 'b>(self, matches: &'b ArgMatches<'a>) -> Option<Task<'a, 'b>> {
         match self {
             Name::Show => files::show_of(matches),
+            Name::Encode => files::encode_of(matches),
             Name::Check => files::check_of(matches),
             Name::Pack => files::pack_of(matches),
             Name::Unpack => files::unpack_of(matches),

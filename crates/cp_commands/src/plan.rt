@@ -4,7 +4,8 @@ use crate::asked::Occurrences;
 use crate::batch::Batch;
 use crate::fault::Stop;
 use crate::names::Names;
-use crate::status::{ACCEPTED, BROKEN, REFUSED};
+use crate::status::ACCEPTED;
+use crate::stop::stopped;
 use cp_frame::{FrameReader, Mode};
 use cp_lines::push_line;
 use cp_reading::{View, read_root};
@@ -218,22 +219,7 @@ pub fn act<R: Read, W: Write, E: Write>(
     }
     match done {
         Ok(()) => ACCEPTED,
-        Err(Stop::Refused(fault)) => {
-            let _ = writeln!(err, "refused at byte {}: {fault}", progress.bytes);
-            REFUSED
-        }
-        Err(Stop::Wrong(fault)) => {
-            let _ = writeln!(err, "refused at byte {}: {fault}", progress.bytes);
-            REFUSED
-        }
-        Err(Stop::Reading(error)) => {
-            let _ = writeln!(err, "device: can't read: {error}");
-            BROKEN
-        }
-        Err(Stop::Writing(error)) => {
-            let _ = writeln!(err, "device: can't write: {error}");
-            BROKEN
-        }
+        Err(stop) => stopped(stop, progress.bytes, err),
     }
 }
 

@@ -32,7 +32,7 @@ fn limits_of(nesting: Option<&str>, traversal: Option<&str>) -> Option<Limits> {
 
 /// The command of a row: `pack`, `unpack`, `recut MODE WORDS`, `decode MODE STRUCT`, `names MODE`, `returns MODE`, or `show` or
 /// `check` with a mode and maybe limits.
-fn plan_of<'p>(text: &str, names: &'p Names) -> Option<Plan<'p>> {
+pub fn plan_of<'p>(text: &str, names: &'p Names) -> Option<Plan<'p>> {
     let mut words = text.split(' ');
     let name = words.next()?;
     if name == "pack" {
@@ -110,7 +110,7 @@ fn done(alloc: Global, plan: &Plan<'_>, mut file: &[u8]) -> Result<String, Fault
 }
 
 /// By what a row's messages are shown: a schema, and for `returns` the calls of the row's own file.
-fn names_of(alloc: Global, request: &[u8], words: &str, file: &[u8]) -> Result<Names, Fault> {
+pub fn names_of(alloc: Global, request: &[u8], words: &str, file: &[u8]) -> Result<Names, Fault> {
     let asked = if words == "returns plain" {
         Some(Asked::read(alloc, file, Mode::Plain, Limits::standard())?)
     } else {

@@ -8,6 +8,7 @@ mod fault;
 mod frame;
 mod row;
 mod stream;
+mod text;
 
 use crate::fault::Fault;
 use crate::row::Row;
@@ -22,14 +23,12 @@ const STREAMS: [(&str, &str); 3] = [
     ("rust.1.c2s", "rust.1.c2s.show"),
 ];
 
-/// The schema by which messages are shown: what `capnp compile -o-` printed of `shown.capnp`, beside it.
-const REQUEST: &str = "shown.request";
-
-/// The files of rows: `frames.txt`, and `commands.txt`.
+/// The files of rows: `frames.txt`, `commands.txt`, and `texts.txt`.
 #[derive(Clone, Copy)]
 enum Rows {
     Frames,
     Commands,
+    Texts,
 }
 
 impl Rows {
@@ -37,6 +36,15 @@ impl Rows {
         match self {
             Rows::Frames => "frames.txt",
             Rows::Commands => "commands.txt",
+            Rows::Texts => "texts.txt",
+        }
+    }
+
+    /// The schema of its structs: what `capnp compile -o-` printed of the file of the same name.
+    fn request(self) -> &'static str {
+        match self {
+            Rows::Frames | Rows::Commands => "shown.request",
+            Rows::Texts => "texts.request",
         }
     }
 
@@ -45,19 +53,21 @@ impl Rows {
         match self {
             Rows::Frames => Row::parse(alloc, line).and_then(|row| row.try_all(alloc)),
             Rows::Commands => command::try_line(alloc, request, line),
+            Rows::Texts => text::try_line(alloc, request, line),
         }
     }
 
     /// Tries each row of the file, and prints what was tried.
-    fn try_all(self, rt: &HostRuntime, alloc: Global, request: &[u8]) -> anyhow::Result<bool> {
+    fn try_all(self, rt: &HostRuntime, alloc: Global) -> anyhow::Result<bool> {
         let name = self.name();
+        let request = fs::read(rt, self.request())?;
         let text = fs::read_to_string(rt, name)?;
         let (mut rows, mut trials, mut failed) = (0u64, 0u64, 0u64);
         for (i, line) in text.as_str().lines().enumerate() {
             if line.starts_with('#') {
                 continue;
             }
-            match self.try_line(alloc, request, line) {
+            match self.try_line(alloc, &request, line) {
                 Ok(tried) => trials = trials.saturating_add(tried),
                 Err(fault) => {
                     println!(rt; "{name} line {}: {fault}", i.saturating_add(1))?;
@@ -90,9 +100,9 @@ fn streams(rt: &HostRuntime, alloc: Global) -> anyhow::Result<bool> {
 
 fn main(rt: HostRuntime) -> anyhow::Result<ExitCode> {
     let alloc = rt.alloc();
-    let request = fs::read(&rt, REQUEST)?;
-    let good = Rows::Frames.try_all(&rt, alloc, &request)?
-        & Rows::Commands.try_all(&rt, alloc, &request)?
+    let good = Rows::Frames.try_all(&rt, alloc)?
+        & Rows::Commands.try_all(&rt, alloc)?
+        & Rows::Texts.try_all(&rt, alloc)?
         & streams(&rt, alloc)?;
     Ok(if good {
         ExitCode::SUCCESS
