@@ -36,6 +36,8 @@ mod full;
 #[cfg(test)]
 mod groups;
 #[cfg(test)]
+mod handles;
+#[cfg(test)]
 mod lists;
 #[cfg(test)]
 mod look;

@@ -1,0 +1,4 @@
+pub mod ReaderHandles
+pub mod Values
+pub mod Reading
+pub mod Counting

@@ -1,0 +1,3 @@
+pub mod Tell
+pub mod Reader
+pub mod Codec

@@ -1,0 +1,124 @@
+//! What a call answers C.
+
+ghost use Rattle.std.specs.Prelude.{◌≡◌};
+ghost use Rattle.jamdrosek_c.specs.Reader.{mode_of};
+ghost use Rattle.jamdrosek_c.specs.Tell.{Tells, TellsStep, TellsNumbers, end_code, done_code};
+
+use c_handles::{CallFault, MessageNumbers, NOWHERE, Spot};
+use cp_frame::{FrameFault, Mode};
+
+/// All went well.
+pub(crate) const DONE: u32 = 0;
+
+/// The handle is closed.
+pub(crate) const CLOSED: u32 = 1;
+
+/// F6.
+pub(crate) const NO_MEMORY: u32 = 106;
+
+/// How many bytes were taken, and whether a frame is there.
+#[repr(C)]
+#[derive(Clone, Copy, PartialEq, Eq, Debug)]
+pub struct Step {
+    pub taken: usize,
+    pub has_frame: bool,
+}
+
+impl Step {
+    /// None, and none.
+    pub(crate) const NONE: Step = Step {
+        taken: 0,
+        has_frame: false,
+    };
+}
+
+/// No kind and no numbers.
+const NO_NUMBERS: MessageNumbers = MessageNumbers {
+    kind: 0,
+    id: 0,
+    interface: 0,
+    method: 0,
+    releases: false,
+    count: 0,
+};
+
+/// The form of a stream.
+pub(crate) fn mode_of(packed: bool) -> Mode
+    ensures { result ≡ mode_of packed }
+{
+    if packed { Mode::Packed } else { Mode::Plain }
+}
+
+/// How many bytes were taken, or the fault.
+pub(crate) fn tell_step(taken: Result<usize, FrameFault>, has_frame: bool, step: &mut Step) -> u32
+    ensures { TellsStep taken has_frame step.new result }
+{
+    match taken {
+        Ok(taken) => {
+            *step = Step { taken, has_frame };
+            DONE
+        }
+        Err(fault) => {
+            *step = Step::NONE;
+            CallFault::from(fault).code()
+        }
+    }
+}
+
+/// How a stream ended.
+pub(crate) fn tell_end(ended: Result<(), FrameFault>) -> u32
+    ensures { result ≡ end_code ended }
+{
+    match ended {
+        Ok(()) => DONE,
+        Err(fault) => CallFault::from(fault).code(),
+    }
+}
+
+/// The fault of a call, without what is to blame.
+pub(crate) fn tell_bytes(done: Result<(), CallFault>) -> u32
+    ensures { result ≡ done_code done }
+{
+    match done {
+        Ok(()) => DONE,
+        Err(fault) => fault.code(),
+    }
+}
+
+/// The fault of a call, and what is to blame.
+pub(crate) fn tell(done: Result<(), CallFault>, spot: &mut Spot) -> u32
+    ensures { Tells done spot.new result }
+{
+    match done {
+        Ok(()) => {
+            *spot = NOWHERE;
+            DONE
+        }
+        Err(fault) => {
+            *spot = fault.spot();
+            fault.code()
+        }
+    }
+}
+
+/// The numbers of a message, or the fault and what is to blame.
+pub(crate) fn tell_numbers(
+    numbers: Result<MessageNumbers, CallFault>,
+    message: &mut MessageNumbers,
+    spot: &mut Spot,
+) -> u32
+    ensures { TellsNumbers numbers message.new spot.new result }
+{
+    match numbers {
+        Ok(numbers) => {
+            *message = numbers;
+            *spot = NOWHERE;
+            DONE
+        }
+        Err(fault) => {
+            *message = NO_NUMBERS;
+            *spot = fault.spot();
+            fault.code()
+        }
+    }
+}
