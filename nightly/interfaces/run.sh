@@ -37,9 +37,10 @@ expect "name: a directory in C++
 watch: done
 add: 2
 promised: hello yourself
-found: Ada, 36, says hello, hello" "$build/interfaces" directory "$port"
+found: Ada, 36, says hello, hello
+alone: 3" "$build/interfaces" directory "$port"
 end
-echo "a directory in C++: a friend called before it came, and one that is the client's own; a watcher of the client's"
+echo "a directory in C++: a friend called before it came, one that is the client's own, and none; a watcher of the client's"
 
 begin "$port" "$build/interfaces" serve reckoner "$port"
 expect "6 * 7: 42

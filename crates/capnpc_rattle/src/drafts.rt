@@ -69,13 +69,15 @@ const CLIENT: &str = "    pub fn set_$0_client(
     ) -> Result<(), DraftFault>
         ensures set { OnOk result (self.new.body ≡ with_pointer ";
 
-const CLIENT_SET: &str = " $2 (cap_tree (length table.old))) }
-        ensures added { OnOk result (table.new ≡ table.old ++ value.target ∷ []) }
+const CLIENT_SET: &str = " $2 (pointer_naming table.old value.target)) }
+        ensures added { OnOk result (table.new ≡ with_named table.old value.target) }
         ensures left { OnErr result ((self.new ≡ self.old) × (table.new ≡ table.old)) }
         ensures full { result ≡ Err TooLong ↔ 2 ^ 32 ≤ length table.old + 1 }
     {
-        let place = table.add(value.target.into_cap())?;
-        self.set_$0(place);
+        let pointer = table.add(value.target.into_cap())?;
+";
+
+const CLIENT_END: &str = "        self.body.set_pointer($2, pointer);
         Ok(())
     }
 ";
@@ -213,6 +215,14 @@ fn code<'b>(out: &mut Out, part: &Part<'_>, field: &StructField, setter: &Setter
         out.fill(setter.code, &args);
         out.put(";\n");
     }
+    choose(out, part, field);
+    out.fill(setter.shape.call, &args);
+    out.fill(if is_first { "whole" } else { setter.code }, &args);
+    out.put(setter.shape.end);
+}
+
+/// Writes the line that chooses a field's member of the union, if it is one.
+fn choose(out: &mut Out, part: &Part<'_>, field: &StructField) {
     if field.is_member() {
         let args = [
             Arg::Number(part.of.tag_place as u64),
@@ -220,9 +230,6 @@ fn code<'b>(out: &mut Out, part: &Part<'_>, field: &StructField, setter: &Setter
         ];
         out.fill("        self.body.set_u16($0, $1);\n", &args);
     }
-    out.fill(setter.shape.call, &args);
-    out.fill(if is_first { "whole" } else { setter.code }, &args);
-    out.put(setter.shape.end);
 }
 
 /// Writes the method that sets a field to a capability of this interface, but its comment.
@@ -240,6 +247,8 @@ fn by_client<'n>(
     sheet.code.fill(CLIENT, &args);
     chosen(&mut sheet.code, part, field);
     sheet.code.fill(CLIENT_SET, &args);
+    choose(&mut sheet.code, part, field);
+    sheet.code.fill(CLIENT_END, &args);
     sheet.cite(named, "Client");
     sheet.libraries.put(CLIENT_CITED);
 }

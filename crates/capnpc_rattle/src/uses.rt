@@ -7,7 +7,7 @@ use crate::sheet::Sheet;
 type Module = (&'static str, &'static [&'static str]);
 
 /// The words of the libraries that generated text cites.
-const LIBRARY: [Module; 13] = [
+const LIBRARY: [Module; 14] = [
     (
         "std.specs.Int",
         &["cast_signed", "cast_unsigned", "w16", "w32", "w64", "w8"],
@@ -52,6 +52,10 @@ const LIBRARY: [Module; 13] = [
             "with_uint",
             "words_tree",
         ],
+    ),
+    (
+        "cp_servants.specs.Naming",
+        &["pointer_naming", "with_named"],
     ),
     ("cp_stubs.specs.Calls", &["Makes", "request_of"]),
     (

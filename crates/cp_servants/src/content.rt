@@ -47,10 +47,11 @@ impl Model for Content {
 
 impl Content {
     ghost use Rattle.std.specs.Prelude.{◌≡◌, ◌⊎◌, ◌↔◌, ◌+◌, ◌≤◌, ◌^◌, ◌++◌, ◌∷◌, [], length, Err, IfOk};
-    ghost use Rattle.cp_builder.specs.Drafts.{text_tree, bytes_tree, cap_tree};
+    ghost use Rattle.cp_builder.specs.Drafts.{text_tree, bytes_tree};
     ghost use Rattle.cp_builder.specs.declared.fault.DraftFault.TheVariants.{TooLong};
     ghost use Rattle.cp_refs.specs.declared.outcome.Outcome.TheVariants.{Results};
     ghost use Rattle.cp_servants.specs.Made.{nothing, with_word, with_pointer, content_of};
+    ghost use Rattle.cp_servants.specs.Naming.{pointer_naming, with_named};
 
     /// A struct without fields.
     pub fn new(alloc: Global) -> Content
@@ -111,11 +112,15 @@ impl Content {
         }
     }
 
-    /// One pointer more, to a capability.
+    /// One pointer more, to a capability. It is null for one that is null or broken, which no descriptor says.
     pub fn cap(self, cap: Cap) -> Result<Content, DraftFault>
-        ensures made { IfOk result (λ c. c ≡ record (with_pointer self (cap_tree (length self.caps))) { caps = self.caps ++ cap ∷ [] }) }
+        ensures made { IfOk result (λ c. c ≡ record (with_pointer self (pointer_naming self.caps cap)) { caps = with_named self.caps cap }) }
         ensures long { result ≡ Err TooLong ↔ 2 ^ 16 ≤ length self.pointers + 1 }
     {
+        if matches!(&cap, Cap::None | Cap::Broken(_)) {
+            drop(cap);
+            return self.pointer(Whole::null());
+        }
         let index = self.caps.len() as u32;
         let mut named = self.pointer(cap_of(index))?;
         named.caps.push(cap)?;

@@ -1,10 +1,12 @@
 //! The capabilities that a draft names.
 
-ghost use Rattle.std.specs.Prelude.{◌≡◌, ◌↔◌, ◌+◌, ◌≤◌, ◌^◌, ◌++◌, ◌∷◌, [], length, Err, IfOk, OnOk, OnErr};
+ghost use Rattle.std.specs.Prelude.{◌≡◌, ◌↔◌, ◌+◌, ◌≤◌, ◌^◌, [], length, Err, IfOk, OnOk, OnErr};
 ghost use Rattle.cp_builder.specs.declared.fault.DraftFault.TheVariants.{TooLong};
+ghost use Rattle.cp_servants.specs.Naming.{pointer_naming, with_named};
 
-use cp_builder::DraftFault;
+use cp_builder::{DraftFault, cap_of};
 use cp_refs::{Cap, Caps};
+use cp_tree::Whole;
 use std::alloc::Global;
 use std::marker::Model;
 
@@ -47,10 +49,11 @@ impl Table {
         }
     }
 
-    /// Adds a capability, and gives its place. `TooLong` says that the table is full: it has 2^32 - 1 of them.
-    pub fn add(&mut self, cap: Cap) -> Result<u32, DraftFault>
-        ensures place { IfOk result (λ place. place ≡ length self.old) }
-        ensures added { OnOk result (self.new ≡ self.old ++ cap ∷ []) }
+    /// Adds a capability, and gives the pointer that names it. One that is null or broken isn't added, as no descriptor says it: its
+    /// pointer is null. `TooLong` says that the table is full: it has 2^32 - 1 of them.
+    pub fn add(&mut self, cap: Cap) -> Result<Whole, DraftFault>
+        ensures pointer { IfOk result (λ pointer. pointer ≡ pointer_naming self.old cap) }
+        ensures added { OnOk result (self.new ≡ with_named self.old cap) }
         ensures left { OnErr result (self.new ≡ self.old) }
         ensures full { result ≡ Err TooLong ↔ 2 ^ 32 ≤ length self.old + 1 }
     {
@@ -60,8 +63,12 @@ impl Table {
             drop(cap);
             return Err(DraftFault::TooLong);
         }
+        if matches!(&cap, Cap::None | Cap::Broken(_)) {
+            drop(cap);
+            return Ok(Whole::null());
+        }
         self.caps.push(cap)?;
-        Ok(place as u32)
+        Ok(cap_of(place as u32))
     }
 
     /// The table, as a call or an outcome has it.

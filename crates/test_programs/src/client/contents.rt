@@ -1,9 +1,10 @@
 //! Contents that are made field by field, and read.
 
 use cp_builder::DraftFault;
-use cp_refs::{Cap, Outcome, Request};
+use cp_refs::{Cap, Outcome, Request, failed};
 use cp_servants::{Content, data_in, outcome_of, results_of, text_in, word_in};
-use cp_tree::Whole;
+use cp_stubs::Table;
+use cp_tree::{Tree, Whole};
 use std::alloc::Global;
 
 /// A call with two words, a text, data and a capability.
@@ -24,6 +25,40 @@ fn a_call_has_its_fields(rt: HostRuntime) {
     check!(&rt; data_in(content, 1) == Some([1, 2].as_slice()));
     check!(&rt; matches!(request.caps.caps(), [Cap::Import(3)]));
     drop(request);
+}
+
+/// A call that names a null capability, a broken one and an import.
+fn naming(alloc: Global) -> Result<Request, DraftFault> {
+    let broken = Cap::Broken(failed(alloc, "lost")?);
+    let content = Content::new(alloc).cap(Cap::None)?.cap(broken)?;
+    Ok(content.cap(Cap::Import(3))?.request(9, 2))
+}
+
+/// The pointers of a struct.
+fn pointers(content: &Whole) -> &[Tree] {
+    match content.tree() {
+        Tree::Struct(body) => &body.ptrs,
+        _ => &[],
+    }
+}
+
+#[test]
+fn a_null_or_broken_capability_is_a_null_pointer(rt: HostRuntime) {
+    let request = naming(rt.alloc()).expect(&rt, "memory");
+    let named = pointers(&request.content);
+    check!(&rt; matches!(named, [Tree::Null, Tree::Null, Tree::Cap(0)]));
+    check!(&rt; matches!(request.caps.caps(), [Cap::Import(3)]));
+    drop(request);
+}
+
+#[test]
+fn a_table_has_no_null_capability(rt: HostRuntime) {
+    let mut table = Table::new(rt.alloc());
+    let null = table.add(Cap::None).expect(&rt, "memory");
+    let named = table.add(Cap::Import(3)).expect(&rt, "memory");
+    let caps = table.into_caps();
+    check!(&rt; matches!((null.tree(), named.tree()), (Tree::Null, Tree::Cap(0))));
+    check!(&rt; matches!(caps.caps(), [Cap::Import(3)]));
 }
 
 #[test]
