@@ -1,0 +1,10 @@
+pub mod Cases
+pub mod Entries
+pub mod Counting
+pub mod Turning
+pub mod Plain
+pub mod Right
+pub mod Times
+pub mod Lent
+pub mod VatRuns
+pub mod Bridging

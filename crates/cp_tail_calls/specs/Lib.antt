@@ -1,0 +1,10 @@
+pub mod Tails
+pub mod TailsCode
+pub mod Seen
+pub mod Receiving
+pub mod Sending
+pub mod Runs
+pub mod Answering
+pub mod Lending
+pub mod Serving
+pub mod Bridging
