@@ -9,7 +9,7 @@ use Rattle.cp_tables.specs.Table.{Table}
 use Rattle.cp_refs.specs.declared.outcome.Outcome.{Outcome}
 use Rattle.cp_vat_machine.specs.declared.effect.Reason.{Reason}
 use Rattle.cp_connection.specs.declared.fault.ConnectionFault.{ConnectionFault}
-use Rattle.cp_connection.specs.Link.{Link, new_link}
+use Rattle.cp_connection.specs.Link.{Link, new_link_with_tails}
 
 -- A reader or a writer, by its bytes where they are known and by how many of its calls failed.
 pub record Device : Type 0 where
@@ -44,7 +44,7 @@ pub record Seat : Type 0 where
 
 -- a client that asked nothing, whose peer gets this object for its Bootstrap
 abbrev pub seat_with : Mode → Bounds → Option ℕ → Device → Device → Seat
-seat_with mode limits bootstrap from to = record { link = new_link mode limits bootstrap; left = []; asked = empty; closed = None; over = None; from = from; to = to }
+seat_with mode limits bootstrap from to = record { link = new_link_with_tails mode limits bootstrap; left = []; asked = empty; closed = None; over = None; from = from; to = to }
 
 -- a client that asked nothing, and has no object for it
 abbrev pub new_seat : Mode → Bounds → Device → Device → Seat

@@ -142,7 +142,8 @@ impl<R: Read + Drop, W: Write + Drop> Client<R, W> {
         self.session.finish(question.number)
     }
 
-    /// Gives an import back, with its whole count. Refused as `Vat::release`.
+    /// Gives an import back, with its whole count. Refused as `Vat::release`: so while results of a call of the peer's name it,
+    /// as those of a tail call do until the peer finishes that.
     pub fn release(&mut self, import: u32) -> Result<(), ClientFault>
         ensures releases { let at = seat R.remaining W.contents in OnOk result (Releases (at self.old) import (at self.new)) }
         ensures undone { let at = seat R.remaining W.contents in IfErr result (λ f. IsUndone (at self.old) (events.Release import) f (at self.new)) }

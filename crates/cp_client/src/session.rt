@@ -45,7 +45,7 @@ impl Session {
     {
         Session {
             alloc,
-            connection: Connection::new(alloc, mode, limits, bootstrap),
+            connection: Connection::with_tail_calls(alloc, mode, limits, bootstrap),
             piece: Piece::new(alloc),
             asked: Entries::new(alloc),
             closed: None,

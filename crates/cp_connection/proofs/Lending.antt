@@ -5,29 +5,38 @@ use Rattle.std.proofs.lemmas.List.{nil_from_length}
 use Rattle.cp_words.specs.Limits.{Bounds}
 use Rattle.cp_messages.specs.declared.message.Message.{Message}
 use Rattle.cp_stream.specs.Stream.{Holds}
+use Rattle.cp_vat_machine.specs.Asked.{stage_of}
+use Rattle.cp_vat_machine.specs.Run.{Moment}
 use Rattle.cp_vat_machine.specs.State.{State}
 use Rattle.cp_vat_machine.specs.Step.{Step}
+use Rattle.cp_vat_machine.specs.Supported.{is_supported_to_caller}
 use Rattle.cp_vat_machine.specs.declared.acted.Acted.{Acted}
 use Rattle.cp_vat_machine.specs.declared.effect.Effect.{Effect}
-use Rattle.cp_vat_machine.specs.declared.event.Event.{Event}
+use Rattle.cp_vat_machine.specs.declared.event.Event.TheVariants as events
 use Rattle.cp_vat_machine.specs.declared.event.Value.TheVariants as values
 use Rattle.cp_vat_machine.specs.declared.fault.VatFault.{VatFault}
 use Rattle.cp_vat.specs.Lending.{deliveries, effects_lending}
 use Rattle.cp_vat.specs.Stepping as vat
 use Rattle.cp_vat.specs.declared.lent.Lent.{Lent}
+use Rattle.cp_tail_calls.specs.Serving.{Settles, Goes, Serves, closes, comes_of, moment}
+use Rattle.cp_tail_calls.specs.Tails.{Tails}
+use Rattle.cp_tail_calls.specs.declared.owed.Trigger.TheVariants as triggers
 use Rattle.cp_connection.specs.declared.agenda.Agenda.{Agenda}
 use Rattle.cp_connection.specs.declared.fault.ConnectionFault.{ConnectionFault}
 use Rattle.cp_connection.specs.declared.fault.ConnectionFault.TheVariants as faults
 use Rattle.cp_connection.specs.declared.happening.Happening.{Happening}
 use Rattle.cp_connection.specs.declared.parts.Parts.{Parts}
-use Rattle.cp_connection.specs.Doing.{Refuses}
-use Rattle.cp_connection.specs.Effects.{closes, happening_by}
+use Rattle.cp_connection.specs.Doing.{Does, Refuses}
+use Rattle.cp_connection.specs.Effects.{happening_by}
 use Rattle.cp_connection.specs.Lending.{DoesLending, delivered}
-use Rattle.cp_connection.specs.LinkOf.{link_of, CountsOne, GivesFrame, KeepsUp, NotesAll, RefusesFrame, closed_if, refused_by}
+use Rattle.cp_connection.specs.Link.{Link}
+use Rattle.cp_connection.specs.LinkOf.{link_of, CountsOne, GivesFrame, KeepsUp, RefusesFrame, closed_if, tails_if, refused_by}
 use Rattle.cp_connection.specs.Noting.{Notes}
 use Rattle.cp_connection.specs.Receiving.{IsUnreceived, IsUnread, Reads}
-use Rattle.cp_connection.proofs.Concluding.{does_noted, loses, refuses}
+use Rattle.cp_connection.specs.Settling.{behind, closed_by, Follows, GetsFor, NotesAll}
+use Rattle.cp_connection.proofs.Concluding.{does_noted, goes_so, was_still}
 use Rattle.cp_connection.proofs.Reading.{reads_one, unread_message}
+use Rattle.cp_connection.proofs.Taking.{GetsTo, back, does_take, gets_same, gets_to, got, loses_message, refuses_message}
 
 -- ---- a frame ends in a piece
 
@@ -79,27 +88,58 @@ zero_by n e = grind (arith, nat_tests)
 pub none_by : {X : Type 0} (items : List X) (n : ℕ) (b : Bool) → n ≡ length items → b ≡ (n == 0) → b ≡ true → items ≡ []
 none_by items n b long is holds = nil_from_length items (sym long ∙ zero_by n (sym is ∙ holds))
 
-module _ (p : Parts) (before : State) (event : Event) (open_ : p.fault ≡ None) (kept : p.is_lost ≡ false) (none : p.agenda.happened.items ≡ []) where
-  ends_so : (effects : List Effect) (f : Option ConnectionFault) → f ≡ (if closes effects then Some faults.Closed else p.fault) → f ≡ (if closes effects then Some faults.Closed else None)
-  ends_so effects f e = e ∙ ap (λ (x : Option ConnectionFault). if closes effects then Some faults.Closed else x) open_
+-- what comes of a delivery, and of those after it
+comes_deliver : (t : Option Tails) (lent : Lent) (more : List Effect)
+    → comes_of triggers.Message t (deliveries (Some lent) ++ more) ≡ (deliveries (Some lent) ++ (comes_of triggers.Message t more).0, (comes_of triggers.Message t more).1)
+comes_deliver None lent more = refl
+comes_deliver (Some t) lent more = refl
 
-  lends_value : (value : Option Lent) (effects : List Effect) (a : Agenda) (f : Option ConnectionFault) → Step before event (Ok values.Nothing) (deliveries value ++ effects) p.vat
-      → Notes p.agenda effects a → f ≡ (if closes effects then Some faults.Closed else p.fault)
-      → DoesLending (record (link_of p) { vat = before }) event value (link_of (record p { agenda = a; fault = f }))
-  lends_value None effects a f step noted e = (_, does_noted p before event open_ kept values.Nothing effects a f step noted (ends_so effects f e), refl)
-  lends_value (Some lent) effects a f step noted e = (
-    record (link_of (record p { agenda = a; fault = f })) { happened = delivered lent ∷ a.happened.items },
+module _ (p : Parts) (t : Option Tails) (v : State) (m : Message) (open_ : p.fault ≡ None) (kept : p.is_lost ≡ false) (none : p.agenda.happened.items ≡ []) where
+  abbrev after : Parts
+  after = got p t v m open_ kept
+
+  -- the vat lent a call, and what follows was noted
+  goes_lent : (x : Message) (lent : Lent) (by : List Effect) (q : Parts) → Step p.vat (events.Receive x) (Ok values.Nothing) (deliveries (Some lent) ++ by) v → (f : Follows after triggers.Message by q)
+      → Goes is_supported_to_caller stage_of (record { vat = p.vat; tails = t }) (events.Receive x) values.Nothing (moment (events.Receive x) (Ok values.Nothing) (deliveries (Some lent) ++ by) ∷ f.later)
+      (deliveries (Some lent) ++ ((comes_of triggers.Message t by).0 ++ f.rest)) (behind q)
+  goes_lent x lent by q step f =
+      let comes = comes_deliver t lent by in
+      record {
+        by = deliveries (Some lent) ++ by;
+        vat = v;
+        step = step;
+        later = f.later;
+        rest = f.rest;
+        settles =
+            subst (λ (u : Option Tails). Settles is_supported_to_caller stage_of (closes by) (record { vat = v; tails = u }) f.later f.rest (behind q))
+            (sym (ap (λ (c : List Effect × Option Tails). c.1) comes)) f.settles;
+        whole = refl;
+        all = ap (λ (c : List Effect × Option Tails). c.0 ++ f.rest) (sym comes);
+      }
+
+  -- a call that was lent happened first
+  lent_at : (lent : Lent) (history : List Moment) (out : List Effect) (a : Agenda) (w : State) (u : Option Tails) (f : Option ConnectionFault)
+      → Serves is_supported_to_caller stage_of (record { vat = p.vat; tails = p.tails }) (events.Receive m) (Ok values.Nothing) history (deliveries (Some lent) ++ out) (record { vat = w; tails = u })
+      → Notes p.agenda out a → f ≡ closed_by out → DoesLending (link_of p) (events.Receive m) (Some lent) (link_of (record after { agenda = a; vat = w; tails = u; fault = f }))
+  lent_at lent history out a w u f serves noted ends = (
+    record (link_of (record after { agenda = a; vat = w; tails = u; fault = f })) { happened = delivered lent ∷ a.happened.items },
     record {
       was_open = open_;
-      effects = deliveries (Some lent) ++ effects;
-      step = subst (λ (s : State). Step before event (Ok values.Nothing) (deliveries (Some lent) ++ effects) s) (sym (ap (λ (b : Bool). closed_if b p.vat) kept)) step;
+      history = history;
+      effects = deliveries (Some lent) ++ out;
+      serves =
+          subst
+          (λ (b : Bool). Serves is_supported_to_caller stage_of (record { vat = closed_if b p.vat; tails = tails_if b p.tails }) (events.Receive m) (Ok values.Nothing) history (deliveries (Some lent) ++ out) (record { vat = closed_if b w; tails = tails_if b u }))
+          (sym kept) serves;
       bytes = noted.bytes;
       are_frames = noted.frames;
       goes_out = noted.goes_out;
-      happens = ap (λ (h : List Happening). delivered lent ∷ h) (noted.happens ∙ ap (λ (h : List Happening). h ++ happening_by effects) none) ∙ sym (ap (λ (h : List Happening). h ++ (delivered lent ∷ happening_by effects)) none);
+      happens =
+          ap (λ (h : List Happening). delivered lent ∷ h) (noted.happens ∙ ap (λ (h : List Happening). h ++ happening_by out) none)
+          ∙ sym (ap (λ (h : List Happening). h ++ (delivered lent ∷ happening_by out)) none);
       counts = noted.counts;
       same_tally = refl;
-      ends = ends_so effects f e;
+      ends = ends;
       same_mode = noted.same_mode;
       same_limits = refl;
       same_reading = refl;
@@ -107,29 +147,63 @@ module _ (p : Parts) (before : State) (event : Event) (open_ : p.fault ≡ None)
     (refl, refl),
   )
 
+  lends_value : (x : Message) (value : Option Lent) (by : List Effect) (q : Parts) → GetsTo p m (Some x) t → Step p.vat (events.Receive x) (Ok values.Nothing) (deliveries value ++ by) v
+      → Follows after triggers.Message by q → DoesLending (link_of p) (events.Receive m) value (link_of q)
+  lends_value x None by q is step f = (
+    _,
+    subst (λ (l : Link). Does l (events.Receive m) (Ok values.Nothing) (link_of q)) (back p t v m open_ kept)
+        (does_noted after p.vat p.tails (events.Receive m) open_ kept values.Nothing _ _ q
+        (does_take p t v m open_ kept x by _ _ q is step (goes_so after q p.vat (events.Receive x) values.Nothing by step f)) f.noted f.ended f.same),
+    refl,
+  )
+  lends_value x (Some lent) by q is step f =
+      subst (λ (y : Parts). DoesLending (link_of p) (events.Receive m) (Some lent) (link_of y)) (sym f.same)
+      (lent_at lent _ ((comes_of triggers.Message t by).0 ++ f.rest) q.agenda q.vat q.tails q.fault
+      (does_take p t v m open_ kept x (deliveries (Some lent) ++ by) _ _ q is step (goes_lent x lent by q step f)) f.noted f.ended)
+
   -- what was lent
-  pub lends : (acted : Result (Acted (Option Lent)) VatFault) (result : Result (Option Lent) ConnectionFault) (new : Parts)
-      → Step before event (vat.answered (λ _. values.Nothing) acted) (effects_lending acted) p.vat → NotesAll p acted result new
-      → IfOk result (λ lent. DoesLending (record (link_of p) { vat = before }) event lent (link_of new))
-  lends (Ok acted) (Ok lent) new step noted =
-      subst (λ (x : Parts). DoesLending (record (link_of p) { vat = before }) event lent (link_of x)) (sym noted.2)
-      (subst (λ (v : Option Lent). DoesLending (record (link_of p) { vat = before }) event v (link_of (record p { agenda = new.agenda; fault = new.fault }))) (sym noted.0)
-      (lends_value acted.value acted.effects new.agenda new.fault step noted.1 noted.3))
-  lends (Ok acted) (Err fault) new step noted = tt
-  lends (Err refusal) (Ok lent) new step noted = absurd noted
-  lends (Err refusal) (Err fault) new step noted = tt
+  pub lends : (x : Message) (acted : Result (Acted (Option Lent)) VatFault) (result : Result (Option Lent) ConnectionFault) (q : Parts) → GetsTo p m (Some x) t
+      → Step p.vat (events.Receive x) (vat.answered (λ _. values.Nothing) acted) (effects_lending acted) v → NotesAll after triggers.Message acted result q
+      → IfOk result (λ lent. DoesLending (link_of p) (events.Receive m) lent (link_of q))
+  lends x (Ok acted) (Ok lent) q is step noted =
+      subst (λ (value : Option Lent). DoesLending (link_of p) (events.Receive m) value (link_of q)) (sym noted.0) (lends_value x acted.value acted.effects q is step noted.1)
+  lends x (Ok acted) (Err fault) q is step noted = tt
+  lends x (Err refusal) (Ok lent) q is step noted = absurd noted
+  lends x (Err refusal) (Err fault) q is step noted = tt
 
   -- why nothing was
-  pub lends_not : (acted : Result (Acted (Option Lent)) VatFault) (result : Result (Option Lent) ConnectionFault) (new : Parts)
-      → Step before event (vat.answered (λ _. values.Nothing) acted) (effects_lending acted) p.vat → NotesAll p acted result new
-      → IfErr result (λ fault. Refuses (record (link_of p) { vat = before }) event fault (link_of new))
-  lends_not (Ok acted) (Ok lent) new step noted = tt
-  lends_not (Ok acted) (Err fault) new step noted =
-      subst (λ (x : Parts). Refuses (record (link_of p) { vat = before }) event fault (link_of x)) (sym noted.2)
-      (subst (λ (f : ConnectionFault). Refuses (record (link_of p) { vat = before }) event f (link_of (record p { agenda = new.agenda; is_lost = true; fault = Some faults.OutOfMemory }))) (sym noted.0)
-      (loses p before event open_ kept values.Nothing (effects_lending (Ok acted)) new.agenda step noted.1))
-  lends_not (Err refusal) (Ok lent) new step noted = absurd noted
-  lends_not (Err refusal) (Err fault) new step noted =
-      subst (λ (x : Parts). Refuses (record (link_of p) { vat = before }) event fault (link_of x)) (sym noted.1)
-      (subst (λ (f : ConnectionFault). Refuses (record (link_of p) { vat = before }) event f (link_of (record p { fault = refused_by refusal p.fault }))) (sym noted.0)
-      (refuses p before event open_ kept refusal step))
+  pub lends_not : (x : Message) (acted : Result (Acted (Option Lent)) VatFault) (result : Result (Option Lent) ConnectionFault) (q : Parts) → GetsTo p m (Some x) t
+      → Step p.vat (events.Receive x) (vat.answered (λ _. values.Nothing) acted) (effects_lending acted) v → NotesAll after triggers.Message acted result q
+      → IfErr result (λ fault. Refuses (link_of p) (events.Receive m) fault (link_of q))
+  lends_not x (Ok acted) (Ok lent) q is step noted = tt
+  lends_not x (Ok acted) (Err fault) q is step noted =
+      subst (λ (f : ConnectionFault). Refuses (link_of p) (events.Receive m) f (link_of q)) (sym noted.0)
+      (loses_message p t v m open_ kept q (was_still step) noted.1)
+  lends_not x (Err refusal) (Ok lent) q is step noted = absurd noted
+  lends_not x (Err refusal) (Err fault) q is step noted =
+      subst (λ (y : Parts). Refuses (link_of p) (events.Receive m) fault (link_of y)) (sym noted.1)
+      (subst (λ (f : ConnectionFault). Refuses (link_of p) (events.Receive m) f (link_of (record after { fault = refused_by refusal p.fault }))) (sym noted.0)
+      (refuses_message p t v m open_ kept x refusal is step))
+
+-- ---- the same, as functions say it
+
+module _ (p q r : Parts) (m : Message) (on : Option Message) (open_ : p.fault ≡ None) (kept : p.is_lost ≡ false) (none : p.agenda.happened.items ≡ []) (given : GetsFor p m on q) (v : State) (x : Message)
+    (acted : Result (Acted (Option Lent)) VatFault) (result : Result (Option Lent) ConnectionFault) (is : on ≡ Some x) (step : Step q.vat (events.Receive x) (vat.answered (λ _. values.Nothing) acted) (effects_lending acted) v)
+    (noted : NotesAll (record q { vat = v }) triggers.Message acted result r) where
+  same : q ≡ record p { tails = q.tails }
+  same = gets_same p q m on given
+
+  to_it : GetsTo p m (Some x) q.tails
+  to_it = subst (λ (o : Option Message). GetsTo p m o q.tails) is (gets_to p q m on given)
+
+  stepped : Step p.vat (events.Receive x) (vat.answered (λ _. values.Nothing) acted) (effects_lending acted) v
+  stepped = subst (λ (s : State). Step s (events.Receive x) (vat.answered (λ _. values.Nothing) acted) (effects_lending acted) v) (ap (λ (y : Parts). y.vat) same) step
+
+  noted_so : NotesAll (record p { tails = q.tails; vat = v }) triggers.Message acted result r
+  noted_so = subst (λ (y : Parts). NotesAll (record y { vat = v }) triggers.Message acted result r) same noted
+
+  pub lends_message : IfOk result (λ lent. DoesLending (link_of p) (events.Receive m) lent (link_of r))
+  lends_message = lends p q.tails v m open_ kept none x acted result r to_it stepped noted_so
+
+  pub lends_no_message : IfErr result (λ fault. Refuses (link_of p) (events.Receive m) fault (link_of r))
+  lends_no_message = lends_not p q.tails v m open_ kept none x acted result r to_it stepped noted_so

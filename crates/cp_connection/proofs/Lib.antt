@@ -2,8 +2,13 @@ pub mod Results
 pub mod Keeping
 pub mod Noting
 pub mod Writable
+pub mod Owing
+pub mod Settling
 pub mod Concluding
+pub mod Taking
 pub mod Reading
+pub mod Serving
+pub mod Turns
 pub mod Moving
 pub mod Living
 pub mod Lending

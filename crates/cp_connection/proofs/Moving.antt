@@ -8,21 +8,29 @@ use Rattle.cp_frame.specs.Reader as frames
 use Rattle.cp_frame.specs.Stream.{Open}
 use Rattle.cp_messages.specs.declared.message.Message.{Message}
 use Rattle.cp_stream.specs.Stream.{Messages}
+use Rattle.cp_vat_machine.specs.Asked.{stage_of}
 use Rattle.cp_vat_machine.specs.State.{State}
+use Rattle.cp_vat_machine.specs.Supported.{is_supported_to_caller}
 use Rattle.cp_vat_machine.specs.Run.{Moment, Steps}
 use Rattle.cp_vat_machine.specs.declared.event.Event.{Event}
 use Rattle.cp_vat_machine.specs.declared.event.Event.TheVariants as events
 use Rattle.cp_vat_machine.specs.declared.event.Value.{Value}
 use Rattle.cp_vat_machine.specs.declared.fault.VatFault.{VatFault}
+use Rattle.cp_tail_calls.specs.Bridging.{HaveDone, message_of, messages_of, sent_in, sent_of}
+use Rattle.cp_tail_calls.specs.Runs.{Turn}
+use Rattle.cp_tail_calls.proofs.VatRuns.{runs_behind}
 use Rattle.cp_connection.specs.declared.fault.ConnectionFault.{ConnectionFault}
 use Rattle.cp_connection.specs.declared.happening.Happening.{Happening}
-use Rattle.cp_connection.specs.Effects.{sent_by, happening_by, AreFramesOf, received_by, received, sent, happened}
+use Rattle.cp_connection.specs.Effects.{happening_by, AreFramesOf, happened}
 use Rattle.cp_connection.specs.Link.{Link, HasCome}
-use Rattle.cp_connection.specs.Doing.{Does, Refuses, Acts}
+use Rattle.cp_connection.specs.Doing.{Does, Refuses, Acts, served}
 use Rattle.cp_connection.specs.Receiving.{Reads, ReadsOn, Receives, Fails, IsUnreceived, EndsWell, EndsBadly, Wrote, HandsOut}
-use Rattle.cp_connection.specs.Moves.{Takes, StaysEnded, Moves}
+use Rattle.cp_connection.specs.Moves.{Takes, StaysEnded, IsAlone, Moves}
 use Rattle.cp_connection.specs.Lives.{IsCall}
 use Rattle.cp_connection.proofs.Noting.{frames_both}
+use Rattle.cp_connection.specs.Turns.{NoneLost, TellTurns}
+use Rattle.cp_connection.proofs.Turns.{kept_first, kept_later, tells_both, tells_event, tells_none}
+use Rattle.cp_connection.proofs.Serving.{is_step, stays_alone, serves_happen}
 
 -- ---- one history after another
 
@@ -30,25 +38,14 @@ steps_both : (a b : List Moment) (old mid new : State) → Steps old a mid → S
 steps_both [] b old mid new h k = subst (λ (s : State). Steps s b new) h k
 steps_both (m ∷ a) b old mid new h k = (h.0, h.1, steps_both a b h.0 mid new h.2 k)
 
-received_one : (e : Event) (a b : List Message) → received_by e (a ++ b) ≡ received_by e a ++ b
-received_one (events.Receive m) a b = refl
-received_one events.Bootstrap a b = refl
-received_one (events.Call cap request) a b = refl
-received_one (events.Answer origin outcome) a b = refl
-received_one events.Promise a b = refl
-received_one (events.Resolve p cap) a b = refl
-received_one (events.Finish q) a b = refl
-received_one (events.Release i) a b = refl
-received_one (events.Forget p) a b = refl
-received_one events.Idle a b = refl
-
-received_both : (a b : List Moment) → received (a ++ b) ≡ received a ++ received b
+received_both : (a b : List Moment) → messages_of (a ++ b) ≡ messages_of a ++ messages_of b
 received_both [] b = refl
-received_both (m ∷ a) b = ap (λ (x : List Message). received_by m.event x) (received_both a b) ∙ received_one m.event (received a) (received b)
+received_both (m ∷ a) b =
+    ap (λ (x : List Message). message_of m.event ++ x) (received_both a b) ∙ sym (append_assoc (message_of m.event) (messages_of a) (messages_of b))
 
-sent_both : (a b : List Moment) → sent (a ++ b) ≡ sent a ++ sent b
-sent_both [] b = refl
-sent_both (m ∷ a) b = ap (λ (x : List Message). sent_by m.effects ++ x) (sent_both a b) ∙ sym (append_assoc (sent_by m.effects) (sent a) (sent b))
+sent_all : (a b : List Moment) → sent_in (a ++ b) ≡ sent_in a ++ sent_in b
+sent_all [] b = refl
+sent_all (m ∷ a) b = ap (λ (x : List Message). sent_of m.effects ++ x) (sent_all a b) ∙ sym (append_assoc (sent_of m.effects) (sent_in a) (sent_in b))
 
 happened_both : (a b : List Moment) → happened (a ++ b) ≡ happened a ++ happened b
 happened_both [] b = refl
@@ -70,61 +67,89 @@ chain o m n front next first more h k =
 
 module _ {a b x y : List ℕ} {out others : List Happening} (old mid new : Link) (h : Moves old a x out mid) (k : Moves mid b y others new) where
   -- the second takes up what came with the first
-  takes_more : (rest : List ℕ) (first : Takes old a h.history mid rest) → HasCome mid first.left → Takes old (a ++ b) (h.history ++ k.history) new rest
+  takes_more : (rest : List ℕ) (first : Takes old a h.came mid rest) → HasCome mid first.left → Takes old (a ++ b) (h.came ++ k.came) new rest
   takes_more rest first came =
       let next = k.takes first.left came in
       record {
         left = next.left;
         messages =
-            subst (λ (z : List ℕ). Messages old.mode old.limits z (received (h.history ++ k.history)) next.left) (append_assoc rest a b)
-            (subst (λ (ms : List Message). Messages old.mode old.limits ((rest ++ a) ++ b) ms next.left) (sym (received_both h.history k.history))
-            (messages_both old.mode old.limits (received h.history) (received k.history) (rest ++ a) b first.left next.left first.messages
-            (subst (λ (l : Bounds). Messages old.mode l (first.left ++ b) (received k.history) next.left) h.same_limits
-            (subst (λ (m : Mode). Messages m mid.limits (first.left ++ b) (received k.history) next.left) h.same_mode next.messages))));
+            subst (λ (z : List ℕ). Messages old.mode old.limits z (h.came ++ k.came) next.left) (append_assoc rest a b)
+            (messages_both old.mode old.limits h.came k.came (rest ++ a) b first.left next.left first.messages
+            (subst (λ (l : Bounds). Messages old.mode l (first.left ++ b) k.came next.left) h.same_limits
+            (subst (λ (m : Mode). Messages m mid.limits (first.left ++ b) k.came next.left) h.same_mode next.messages)));
         is_open = subst (λ (l : Bounds). Open old.mode l next.left) h.same_limits (subst (λ (m : Mode). Open m mid.limits next.left) h.same_mode next.is_open);
         came = next.came;
       }
 
+  none_ended : {X : Type 0} {f : ConnectionFault} → None ≡ Some f → X
+  none_ended e = absurd (true≢false (ap is_none e))
+
   -- or the connection had ended, and nothing was taken
-  takes_none : (rest : List ℕ) (fault : ConnectionFault) → Takes old a h.history mid rest → StaysEnded fault b k.history new → Takes old (a ++ b) (h.history ++ k.history) new rest
+  takes_none : (rest : List ℕ) (fault : ConnectionFault) → Takes old a h.came mid rest → StaysEnded fault b k.came k.history k.went new → Takes old (a ++ b) (h.came ++ k.came) new rest
   takes_none rest fault first ended = record {
     left = first.left;
     messages =
-        subst (λ (z : List ℕ). Messages old.mode old.limits (rest ++ z) (received (h.history ++ k.history)) first.left) (sym (ap (λ (z : List ℕ). a ++ z) ended.none_taken ∙ append-nil a))
-        (subst (λ (z : List Moment). Messages old.mode old.limits (rest ++ a) (received z) first.left) (sym (ap (λ (z : List Moment). h.history ++ z) ended.none_done ∙ append-nil h.history)) first.messages);
+        subst (λ (z : List ℕ). Messages old.mode old.limits (rest ++ z) (h.came ++ k.came) first.left) (sym (ap (λ (z : List ℕ). a ++ z) ended.none_taken ∙ append-nil a))
+        (subst (λ (z : List Message). Messages old.mode old.limits (rest ++ a) z first.left) (sym (ap (λ (z : List Message). h.came ++ z) ended.none_came ∙ append-nil h.came)) first.messages);
     is_open = first.is_open;
-    came = λ still. absurd (none_some (sym still ∙ ended.still));
+    came = λ still. none_ended (sym still ∙ ended.still);
   }
-    where
-      none_some : {f : ConnectionFault} → None ≡ Some f → ⊥
-      none_some e = true≢false (ap is_none e)
 
-  takes_by : (f : Option ConnectionFault) → mid.fault ≡ f → (rest : List ℕ) → Takes old a h.history mid rest → Takes old (a ++ b) (h.history ++ k.history) new rest
+  takes_by : (f : Option ConnectionFault) → mid.fault ≡ f → (rest : List ℕ) → Takes old a h.came mid rest → Takes old (a ++ b) (h.came ++ k.came) new rest
   takes_by None is rest first = takes_more rest first (first.came is)
   takes_by (Some fault) is rest first = takes_none rest fault first (k.stays fault is)
 
-  stays_both : (fault : ConnectionFault) → StaysEnded fault a h.history mid → StaysEnded fault (a ++ b) (h.history ++ k.history) new
+  stays_both : (fault : ConnectionFault) → StaysEnded fault a h.came h.history h.went mid → StaysEnded fault (a ++ b) (h.came ++ k.came) (h.history ++ k.history) (h.went ++ k.went) new
   stays_both fault first =
       let next = k.stays fault first.still in
       record {
         none_taken = ap (λ (z : List ℕ). z ++ b) first.none_taken ∙ next.none_taken;
+        none_came = ap (λ (z : List Message). z ++ k.came) first.none_came ∙ next.none_came;
         none_done = ap (λ (z : List Moment). z ++ k.history) first.none_done ∙ next.none_done;
+        none_went = ap (λ (z : List Message). z ++ k.went) first.none_went ∙ next.none_went;
         still = next.still;
       }
+
+  -- no tail calls are served
+  alone_both : IsAlone h.came h.history h.went mid → (f : Option ConnectionFault) → mid.fault ≡ f → IsAlone (h.came ++ k.came) (h.history ++ k.history) (h.went ++ k.went) new
+  alone_both first None is =
+      let next = k.alone (first.still is) in
+      record {
+        received = ap (λ (z : List Message). z ++ k.came) first.received ∙ ap (λ (z : List Message). messages_of h.history ++ z) next.received ∙ sym (received_both h.history k.history);
+        sent = ap (λ (z : List Message). z ++ k.went) first.sent ∙ ap (λ (z : List Message). sent_in h.history ++ z) next.sent ∙ sym (sent_all h.history k.history);
+        still = next.still;
+      }
+  alone_both first (Some fault) is =
+      let ended = k.stays fault is in
+      let history : h.history ++ k.history ≡ h.history = ap (λ (z : List Moment). h.history ++ z) ended.none_done ∙ append-nil h.history in
+      record {
+        received = ap (λ (z : List Message). h.came ++ z) ended.none_came ∙ append-nil h.came ∙ first.received ∙ sym (ap messages_of history);
+        sent = ap (λ (z : List Message). h.went ++ z) ended.none_went ∙ append-nil h.went ∙ first.sent ∙ sym (ap sent_in history);
+        still = λ open_. none_ended (sym open_ ∙ ended.still);
+      }
+
+  -- tail calls go on by turns
+  turns_more : (past : List Turn) → HaveDone (served old) past → NoneLost (h.history ++ k.history) → TellTurns past (h.came ++ k.came) (h.history ++ k.history) (h.went ++ k.went) (served new)
+  turns_more past done kept =
+      let first = h.turns past done (kept_first h.history k.history kept) in
+      let next = k.turns first.0 first.1 (kept_later h.history k.history kept) in
+      (next.0, next.1, tells_both received_both sent_all past first.0 next.0 h.came k.came h.history k.history h.went k.went first.2 next.2)
 
   pub moves_both : Moves old (a ++ b) (x ++ y) (out ++ others) new
   moves_both = record {
     history = h.history ++ k.history;
     steps = steps_both h.history k.history old.vat mid.vat new.vat h.steps k.steps;
+    came = h.came ++ k.came;
     takes = λ rest came. takes_by mid.fault refl rest (h.takes rest came);
+    went = h.went ++ k.went;
     bytes = h.bytes ++ k.bytes;
-    are_frames =
-        subst (λ (ms : List Message). AreFramesOf old.mode ms (h.bytes ++ k.bytes)) (sym (sent_both h.history k.history))
-        (frames_both old.mode (sent h.history) (sent k.history) h.bytes k.bytes h.are_frames (subst (λ (m : Mode). AreFramesOf m (sent k.history) k.bytes) h.same_mode k.are_frames));
+    are_frames = frames_both old.mode h.went k.went h.bytes k.bytes h.are_frames (subst (λ (m : Mode). AreFramesOf m k.went k.bytes) h.same_mode k.are_frames);
     goes_out = chain old.unwritten mid.unwritten new.unwritten x y h.bytes k.bytes h.goes_out k.goes_out;
     happens =
         ap (λ (z : List Happening). old.happened ++ z) (happened_both h.history k.history)
         ∙ chain old.happened mid.happened new.happened out others (happened h.history) (happened k.history) h.happens k.happens;
+    alone = λ none. alone_both (h.alone none) mid.fault refl;
+    turns = turns_more;
     stays = λ fault is. stays_both fault (h.stays fault is);
     same_mode = k.same_mode ∙ h.same_mode;
     same_limits = k.same_limits ∙ h.same_limits;
@@ -134,17 +159,21 @@ module _ {a b x y : List ℕ} {out others : List Happening} (old mid new : Link)
 
 -- no event is done, and what came of the open frame stays, unless the connection ends
 module _ (old new : Link) (vat : new.vat ≡ old.vat) (mode : new.mode ≡ old.mode) (limits : new.limits ≡ old.limits)
-    (came : (rest : List ℕ) → HasCome old rest → new.fault ≡ None → HasCome new rest) (stays : (fault : ConnectionFault) → old.fault ≡ Some fault → new.fault ≡ Some fault) where
+    (tails : new.tails ≡ old.tails) (came : (rest : List ℕ) → HasCome old rest → new.fault ≡ None → HasCome new rest) (stays : (fault : ConnectionFault) → old.fault ≡ Some fault → new.fault ≡ Some fault) where
   pub moves_quietly : {written : List ℕ} {handed : List Happening} → old.unwritten ≡ written ++ new.unwritten → old.happened ≡ handed ++ new.happened → Moves old [] written handed new
   moves_quietly goes_out happens = record {
     history = [];
     steps = vat;
+    came = [];
     takes = λ rest here. record { left = rest; messages = append-nil rest; is_open = is_open_of old.reading rest here.0 here.1; came = came rest here };
+    went = [];
     bytes = [];
     are_frames = refl;
     goes_out = append-nil old.unwritten ∙ goes_out;
     happens = append-nil old.happened ∙ happens;
-    stays = λ fault is. record { none_taken = refl; none_done = refl; still = stays fault is };
+    alone = λ none. record { received = refl; sent = refl; still = λ _. tails ∙ none };
+    turns = λ past done kept. tells_none (served old) (served new) past tails done;
+    stays = λ fault is. record { none_taken = refl; none_came = refl; none_done = refl; none_went = refl; still = stays fault is };
     same_mode = mode;
     same_limits = limits;
   }
@@ -168,23 +197,37 @@ came_same old new rest m l r h = rw (m, l, r) h
 
 -- ---- an event
 
-module _ (old mid new : Link) (event : Event) (result : Result Value VatFault) (d : Does mid event result new) (vat : mid.vat ≡ old.vat) (mode : mid.mode ≡ old.mode)
+module _ (old mid new : Link) (event : Event) (result : Result Value VatFault) (d : Does mid event result new) (vat : mid.vat ≡ old.vat) (tails : mid.tails ≡ old.tails) (mode : mid.mode ≡ old.mode)
     (limits : mid.limits ≡ old.limits) (unwritten : mid.unwritten ≡ old.unwritten) (happened_ : mid.happened ≡ old.happened) (fault : mid.fault ≡ old.fault) where
-  pub moves_event : {taken : List ℕ} → ((rest : List ℕ) → HasCome old rest → Takes old taken (record { event = event; result = result; effects = d.effects } ∷ []) new rest) → Moves old taken [] [] new
+  alone_one : old.tails ≡ None → IsAlone (message_of event) d.history (sent_of d.effects) new
+  alone_one none =
+      let alone = is_step d (tails ∙ none) in
+      record {
+        received = sym (append-nil (message_of event)) ∙ sym (ap messages_of alone.one);
+        sent = sym (append-nil (sent_of d.effects)) ∙ sym (ap sent_in alone.one);
+        still = stays_alone d (tails ∙ none);
+      }
+
+  pub moves_event : {taken : List ℕ} → ((rest : List ℕ) → HasCome old rest → Takes old taken (message_of event) new rest) → Moves old taken [] [] new
   moves_event takes = record {
-    history = record { event = event; result = result; effects = d.effects } ∷ [];
-    steps = (new.vat, rw (← vat) d.step, refl);
+    history = d.history;
+    steps = subst (λ (s : State). Steps s d.history new.vat) vat (runs_behind is_supported_to_caller stage_of (served mid) (served new) event result d.history d.effects d.serves);
+    came = message_of event;
     takes = takes;
+    went = sent_of d.effects;
     bytes = d.bytes;
-    are_frames = rw (append-nil (sent_by d.effects), ← mode) d.are_frames;
+    are_frames = rw (← mode) d.are_frames;
     goes_out = ap (λ (x : List ℕ). x ++ d.bytes) (sym unwritten) ∙ sym d.goes_out;
-    happens = ap (λ (x : List Happening). x ++ (happening_by d.effects ++ [])) (sym happened_) ∙ ap (λ (x : List Happening). mid.happened ++ x) (append-nil (happening_by d.effects)) ∙ sym d.happens;
+    happens =
+        ap (λ (x : List Happening). x ++ happened d.history) (sym happened_) ∙ ap (λ (x : List Happening). mid.happened ++ x) (serves_happen d.serves) ∙ sym d.happens;
+    alone = alone_one;
+    turns = λ past done kept. tells_event result d.serves past (done.0, tails ∙ done.1, done.2) kept;
     stays = λ f is. none_some old.fault (sym fault ∙ d.was_open) is;
     same_mode = d.same_mode ∙ mode;
     same_limits = d.same_limits ∙ limits;
   }
 
-no_message : (event : Event) → IsCall event → received_by event [] ≡ []
+no_message : (event : Event) → IsCall event → message_of event ≡ []
 no_message (events.Receive m) h = absurd h
 no_message events.Bootstrap h = refl
 no_message (events.Call cap request) h = refl
@@ -198,7 +241,7 @@ no_message events.Idle h = refl
 
 -- a call of the application
 moves_done : (old new : Link) (event : Event) (result : Result Value VatFault) → IsCall event → Does old event result new → Moves old [] [] [] new
-moves_done old new event result call d = moves_event old old new event result d refl refl refl refl refl refl (λ rest came. record {
+moves_done old new event result call d = moves_event old old new event result d refl refl refl refl refl refl refl (λ rest came. record {
   left = rest;
   messages = rw (no_message event call) (append-nil rest);
   is_open = opens old.mode old.limits old.reading rest came.0 came.1;
@@ -208,8 +251,8 @@ moves_done old new event result call d = moves_event old old new event result d 
 -- a message that was read
 moves_read : (old mid new : Link) (front : List ℕ) (m : Message) (result : Result Value VatFault) → Reads old front m mid → Does mid (events.Receive m) result new → Moves old front [] [] new
 moves_read old mid new front m result reads d =
-    moves_event old mid new (events.Receive m) result d (ap (λ (l : Link). l.vat) reads.same) (ap (λ (l : Link). l.mode) reads.same) (ap (λ (l : Link). l.limits) reads.same)
-    (ap (λ (l : Link). l.unwritten) reads.same) (ap (λ (l : Link). l.happened) reads.same) (ap (λ (l : Link). l.fault) reads.same) (λ rest came. record {
+    moves_event old mid new (events.Receive m) result d (ap (λ (l : Link). l.vat) reads.same) (ap (λ (l : Link). l.tails) reads.same) (ap (λ (l : Link). l.mode) reads.same)
+    (ap (λ (l : Link). l.limits) reads.same) (ap (λ (l : Link). l.unwritten) reads.same) (ap (λ (l : Link). l.happened) reads.same) (ap (λ (l : Link). l.fault) reads.same) (λ rest came. record {
       left = [];
       messages = (rest ++ front, [], sym (append-nil (rest ++ front)), reads.is_frame rest came, refl);
       is_open =
@@ -226,16 +269,20 @@ moves_on old new piece reads =
     record {
       history = [];
       steps = ap (λ (l : Link). l.vat) reads.same;
+      came = [];
       takes = λ rest came. record {
         left = rest ++ piece;
         messages = refl;
         is_open = rw (← mode, ← limits) (opens new.mode new.limits new.reading (rest ++ piece) (reads.came rest came).0 (reads.came rest came).1);
         came = λ still. reads.came rest came;
       };
+      went = [];
       bytes = [];
       are_frames = refl;
       goes_out = append-nil old.unwritten ∙ sym (ap (λ (l : Link). l.unwritten) reads.same);
       happens = append-nil old.happened ∙ sym (ap (λ (l : Link). l.happened) reads.same);
+      alone = λ none. record { received = refl; sent = refl; still = λ _. ap (λ (l : Link). l.tails) reads.same ∙ none };
+      turns = λ past done kept. tells_none (served old) (served new) past (ap (λ (l : Link). l.tails) reads.same) done;
       stays = λ f is. none_some old.fault reads.was_open is;
       same_mode = mode;
       same_limits = limits;
@@ -245,13 +292,13 @@ moves_on old new piece reads =
 
 pub moves_same : (old new : Link) → new ≡ old → Moves old [] [] [] new
 moves_same old new e =
-    moves_quietly old new (ap (λ (l : Link). l.vat) e) (ap (λ (l : Link). l.mode) e) (ap (λ (l : Link). l.limits) e) (λ rest came still. rw e came)
+    moves_quietly old new (ap (λ (l : Link). l.vat) e) (ap (λ (l : Link). l.mode) e) (ap (λ (l : Link). l.limits) e) (ap (λ (l : Link). l.tails) e) (λ rest came still. rw e came)
     (λ fault is. ap (λ (l : Link). l.fault) e ∙ is) (sym (ap (λ (l : Link). l.unwritten) e)) (sym (ap (λ (l : Link). l.happened) e))
 
 moves_failed : (old new : Link) (fault : ConnectionFault) → Fails old fault new → Moves old [] [] [] new
 moves_failed old new fault fails =
     let e = fails.same in
-    moves_quietly old new (ap (λ (l : Link). l.vat) e) (ap (λ (l : Link). l.mode) e) (ap (λ (l : Link). l.limits) e)
+    moves_quietly old new (ap (λ (l : Link). l.vat) e) (ap (λ (l : Link). l.mode) e) (ap (λ (l : Link). l.limits) e) (ap (λ (l : Link). l.tails) e)
     (λ rest came still. none_some new.fault still (ap (λ (l : Link). l.fault) e))
     (λ f is. none_some old.fault fails.was_open is) (sym (ap (λ (l : Link). l.unwritten) e)) (sym (ap (λ (l : Link). l.happened) e))
 
@@ -286,7 +333,7 @@ moves_acted old new event (Err fault) call (inr h) = moves_refused old new event
 
 pub moves_wrote : (old new : Link) (count : ℕ) → Wrote old count new → Moves old [] (take count old.unwritten) [] new
 moves_wrote old new count e =
-    moves_quietly old new (ap (λ (l : Link). l.vat) e) (ap (λ (l : Link). l.mode) e) (ap (λ (l : Link). l.limits) e)
+    moves_quietly old new (ap (λ (l : Link). l.vat) e) (ap (λ (l : Link). l.mode) e) (ap (λ (l : Link). l.limits) e) (ap (λ (l : Link). l.tails) e)
     (λ rest came still. came_same old new rest (ap (λ (l : Link). l.mode) e) (ap (λ (l : Link). l.limits) e) (ap (λ (l : Link). l.reading) e) came)
     (λ fault is. ap (λ (l : Link). l.fault) e ∙ is)
     (sym (take-append-drop count old.unwritten) ∙ ap (λ (x : List ℕ). take count old.unwritten ++ x) (sym (ap (λ (l : Link). l.unwritten) e)))
@@ -296,6 +343,6 @@ pub moves_handed : (old new : Link) (first : Option Happening) → HandsOut old 
 moves_handed old new None h = moves_same old new h.1
 moves_handed old new (Some first) h =
     let e = h.1 in
-    moves_quietly old new (ap (λ (l : Link). l.vat) e) (ap (λ (l : Link). l.mode) e) (ap (λ (l : Link). l.limits) e)
+    moves_quietly old new (ap (λ (l : Link). l.vat) e) (ap (λ (l : Link). l.mode) e) (ap (λ (l : Link). l.limits) e) (ap (λ (l : Link). l.tails) e)
     (λ rest came still. came_same old new rest (ap (λ (l : Link). l.mode) e) (ap (λ (l : Link). l.limits) e) (ap (λ (l : Link). l.reading) e) came)
     (λ fault is. ap (λ (l : Link). l.fault) e ∙ is) (sym (ap (λ (l : Link). l.unwritten) e)) h.0

@@ -138,4 +138,5 @@ on_after_one p r bytes messages taken piece back S on gives =
       rest = [];
       came = (reads_again p.agenda.mode p.limits r.state stood (open_nil p.agenda.mode p.limits), stood);
       kept = on.kept;
+      owes = on.owes;
     }

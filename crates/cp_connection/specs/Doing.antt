@@ -1,16 +1,20 @@
 -- What a call of the application, or a message of the peer, does to a connection.
 use Rattle.std.specs.Prelude.{◌≡◌, ◌≢◌, ◌⊎◌, ℕ, if◌then◌else◌, List, ◌++◌, Option, Some, None, Result, Ok, Err, length}
-use Rattle.cp_vat_machine.specs.Step.{Step}
+use Rattle.cp_vat_machine.specs.Asked.{stage_of}
+use Rattle.cp_vat_machine.specs.Run.{Moment}
+use Rattle.cp_vat_machine.specs.Supported.{is_supported_to_caller}
 use Rattle.cp_vat_machine.specs.declared.effect.Effect.{Effect}
 use Rattle.cp_vat_machine.specs.declared.event.Event.{Event}
 use Rattle.cp_vat_machine.specs.declared.event.Value.{Value}
 use Rattle.cp_vat_machine.specs.declared.fault.VatFault.{VatFault}
 use Rattle.cp_vat_machine.specs.declared.fault.VatFault.TheVariants as refusals
+use Rattle.cp_tail_calls.specs.Bridging.{sent_of}
+use Rattle.cp_tail_calls.specs.Serving.{Served, Serves, closes}
 use Rattle.cp_connection.specs.declared.fault.ConnectionFault.{ConnectionFault}
 use Rattle.cp_connection.specs.declared.fault.ConnectionFault.TheVariants as faults
 use Rattle.cp_connection.specs.Refusing.{refusal_of}
 use Rattle.cp_connection.specs.Counting.{CountsMore}
-use Rattle.cp_connection.specs.Effects.{sent_by, happening_by, closes, AreFramesOf}
+use Rattle.cp_connection.specs.Effects.{happening_by, AreFramesOf}
 use Rattle.cp_connection.specs.Link.{Link}
 
 -- why a connection ends by an event: memory ran out, or the vat closed
@@ -19,17 +23,22 @@ ended_by (Err refusals.OutOfMemory) effects = Some faults.OutOfMemory
 ended_by (Err refusal) effects = None
 ended_by (Ok value) effects = if closes effects then Some faults.Closed else None
 
--- The vat of an open connection did one event. The frames of what it sends come after the bytes that weren't written, and what happens after what wasn't
--- taken.
+-- the vat of a connection, and the tail calls before it
+abbrev pub served : Link → Served
+served link = record { vat = link.vat; tails = link.tails }
+
+-- The vat of an open connection did one event, behind tail calls where they are served. The frames of what is sent come after the bytes that weren't written,
+-- and what happens after what wasn't taken. (Without tail calls that is one step of the vat.)
 pub record Does (old : Link) (event : Event) (result : Result Value VatFault) (new : Link) : Type 0 where
   pub was_open : old.fault ≡ None
+  pub history : List Moment
   pub effects : List Effect
-  pub step : Step old.vat event result effects new.vat
+  pub serves : Serves is_supported_to_caller stage_of (served old) event result history effects (served new)
   pub bytes : List ℕ
-  pub are_frames : AreFramesOf old.mode (sent_by effects) bytes
+  pub are_frames : AreFramesOf old.mode (sent_of effects) bytes
   pub goes_out : new.unwritten ≡ old.unwritten ++ bytes
   pub happens : new.happened ≡ old.happened ++ happening_by effects
-  pub counts : CountsMore old.tally.sent (length (sent_by effects)) new.tally.sent
+  pub counts : CountsMore old.tally.sent (length (sent_of effects)) new.tally.sent
   pub same_tally : new.tally ≡ record old.tally { sent = new.tally.sent }
   pub ends : new.fault ≡ ended_by result effects
   pub same_mode : new.mode ≡ old.mode

@@ -1,5 +1,5 @@
 -- What the effects of a vat ask of a connection, up to the vat's closing.
-use Rattle.std.specs.Prelude.{◌≡◌, ℕ, Bool, true, false, List, [], ◌∷◌, ◌++◌}
+use Rattle.std.specs.Prelude.{◌≡◌, ℕ, List, [], ◌∷◌, ◌++◌}
 use Rattle.cp_words.specs.Limits.{standard}
 use Rattle.cp_frame.specs.declared.mode.Mode.{Mode}
 use Rattle.cp_messages.specs.declared.message.Message.{Message}
@@ -7,31 +7,16 @@ use Rattle.cp_stream.specs.Write.{IsWrittenAs}
 use Rattle.cp_vat_machine.specs.Run.{Moment}
 use Rattle.cp_vat_machine.specs.declared.effect.Effect.{Effect}
 use Rattle.cp_vat_machine.specs.declared.effect.Effect.TheVariants as effects
-use Rattle.cp_vat_machine.specs.declared.event.Event.{Event}
-use Rattle.cp_vat_machine.specs.declared.event.Event.TheVariants as events
 use Rattle.cp_connection.specs.declared.happening.Happening.{Happening}
 use Rattle.cp_connection.specs.declared.happening.Happening.TheVariants as happenings
 
--- the messages that effects send, in order
-abbrev pub sent_by : List Effect → List Message
-sent_by [] = []
-sent_by (effects.Send m ∷ more) = m ∷ sent_by more
-sent_by (effects.Closed reason ∷ more) = []
-sent_by (other ∷ more) = sent_by more
-
--- what happens by them, in order
+-- what happens by effects, in order
 abbrev pub happening_by : List Effect → List Happening
 happening_by [] = []
 happening_by (effects.Send m ∷ more) = happening_by more
 happening_by (effects.Deliver object origin ticket call ∷ more) = happenings.Delivered object origin ticket call ∷ happening_by more
 happening_by (effects.Settled question outcome ∷ more) = happenings.Settled question outcome ∷ happening_by more
 happening_by (effects.Closed reason ∷ more) = happenings.Closed reason ∷ []
-
--- whether the vat closes by them
-abbrev pub closes : List Effect → Bool
-closes [] = false
-closes (effects.Closed reason ∷ more) = true
-closes (other ∷ more) = closes more
 
 -- the frame of a message, of one segment within the standard limits, comes after these bytes
 abbrev pub Puts : Mode → Message → List ℕ → List ℕ → Type 0
@@ -42,21 +27,6 @@ abbrev pub AreFramesOf : Mode → List Message → List ℕ → Type 0
 AreFramesOf mode [] b = b ≡ []
 AreFramesOf mode (m ∷ more) b =
     (front : List ℕ) × (back : List ℕ) × (b ≡ front ++ back) × IsWrittenAs mode standard standard.frame_words 1 m front × AreFramesOf mode more back
-
--- the message that an event is, before others
-abbrev pub received_by : Event → List Message → List Message
-received_by (events.Receive m) more = m ∷ more
-received_by other more = more
-
--- the messages that were received, in order
-abbrev pub received : List Moment → List Message
-received [] = []
-received (moment ∷ more) = received_by moment.event (received more)
-
--- the messages that were sent, in order
-abbrev pub sent : List Moment → List Message
-sent [] = []
-sent (moment ∷ more) = sent_by moment.effects ++ sent more
 
 -- what happened, in order
 abbrev pub happened : List Moment → List Happening

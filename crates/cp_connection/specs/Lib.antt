@@ -8,7 +8,10 @@ pub mod Link
 pub mod Doing
 pub mod Receiving
 pub mod Lending
+pub mod Turns
 pub mod Moves
+pub mod Owing
 pub mod LinkOf
+pub mod Settling
 pub mod Lives
 pub mod LinkCode

@@ -9,6 +9,8 @@ use Rattle.cp_frame.specs.declared.mode.Mode.{Mode}
 use Rattle.cp_frame.specs.contracts.mode.Mode as mode
 use Rattle.cp_vat_machine.specs.State.{State}
 use Rattle.cp_vat.specs.StateCode.{state_code}
+use Rattle.cp_tail_calls.specs.Tails.{Tails}
+use Rattle.cp_tail_calls.specs.TailsCode.{tails_code}
 use Rattle.cp_connection.specs.declared.fault.ConnectionFault.{ConnectionFault}
 use Rattle.cp_connection.specs.contracts.fault.ConnectionFault as fault
 use Rattle.cp_connection.specs.declared.happening.Happening.{Happening}
@@ -53,17 +55,18 @@ reading_code =
 abbrev pub link_code : Coded Link
 link_code =
     code_by
-    (Mode × (Bounds × (frames.State × (State × (List ℕ × (List Happening × (Tally × Option ConnectionFault)))))))
-    (coded× mode.the_row.coded (coded× bounds_code (coded× reading_code (coded× state_code (coded× (coded_list coded_ℕ) (coded× (coded_list happening.the_row.coded) (coded× tally.the_row.coded (coded_option fault.the_row.coded))))))))
-    (λ l. (l.mode, (l.limits, (l.reading, (l.vat, (l.unwritten, (l.happened, (l.tally, l.fault))))))))
+    (Mode × (Bounds × (frames.State × (State × (Option Tails × (List ℕ × (List Happening × (Tally × Option ConnectionFault))))))))
+    (coded× mode.the_row.coded (coded× bounds_code (coded× reading_code (coded× state_code (coded× (coded_option tails_code) (coded× (coded_list coded_ℕ) (coded× (coded_list happening.the_row.coded) (coded× tally.the_row.coded (coded_option fault.the_row.coded)))))))))
+    (λ l. (l.mode, (l.limits, (l.reading, (l.vat, (l.tails, (l.unwritten, (l.happened, (l.tally, l.fault)))))))))
     (λ parts. record {
       mode = parts.0;
       limits = parts.1.0;
       reading = parts.1.1.0;
       vat = parts.1.1.1.0;
-      unwritten = parts.1.1.1.1.0;
-      happened = parts.1.1.1.1.1.0;
-      tally = parts.1.1.1.1.1.1.0;
-      fault = parts.1.1.1.1.1.1.1;
+      tails = parts.1.1.1.1.0;
+      unwritten = parts.1.1.1.1.1.0;
+      happened = parts.1.1.1.1.1.1.0;
+      tally = parts.1.1.1.1.1.1.1.0;
+      fault = parts.1.1.1.1.1.1.1.1;
     })
     (λ _. refl)

@@ -1,5 +1,5 @@
 -- A connection by its parts. No public clause names these.
-use Rattle.std.specs.Prelude.{◌≡◌, ℕ, ◌+◌, ◌-◌, ◌^◌, min, if◌then◌else◌, Bool, true, false, List, Option, Some, None, Result, Ok, Err}
+use Rattle.std.specs.Prelude.{◌≡◌, ℕ, ◌+◌, ◌-◌, ◌^◌, min, Bool, true, false, List, Option, Some, None}
 use Rattle.cp_frame.specs.Reader as readers
 use Rattle.cp_frame.specs.declared.fault.FrameFault.{FrameFault}
 use Rattle.cp_frame.specs.declared.fault.FrameFault.TheVariants as frames
@@ -7,20 +7,13 @@ use Rattle.cp_stream.specs.Stream.{HoldsNone}
 use Rattle.cp_stream.specs.declared.fault.Refusal.{Refusal}
 use Rattle.cp_stream.specs.declared.fault.Refusal.TheVariants as refusals
 use Rattle.cp_vat_machine.specs.State.{State}
-use Rattle.cp_vat_machine.specs.Step.{Step}
-use Rattle.cp_vat_machine.specs.declared.acted.Acted.{Acted}
-use Rattle.cp_vat_machine.specs.declared.event.Event.{Event}
-use Rattle.cp_vat_machine.specs.declared.event.Value.{Value}
 use Rattle.cp_vat_machine.specs.declared.fault.VatFault.{VatFault}
 use Rattle.cp_vat_machine.specs.declared.fault.VatFault.TheVariants as vat_refusals
-use Rattle.cp_vat.specs.Stepping as vat
+use Rattle.cp_tail_calls.specs.Tails.{Tails}
 use Rattle.cp_connection.specs.declared.fault.ConnectionFault.{ConnectionFault}
 use Rattle.cp_connection.specs.declared.fault.ConnectionFault.TheVariants as faults
-use Rattle.cp_connection.specs.Doing.{Acts, answered}
-use Rattle.cp_connection.specs.Effects.{closes}
-use Rattle.cp_connection.specs.Noting.{Notes, Stays}
-use Rattle.cp_connection.specs.Refusing.{refusal_of}
 use Rattle.cp_connection.specs.Link.{Link, HasCome}
+use Rattle.cp_connection.specs.Owing.{OwesSendable}
 use Rattle.cp_connection.specs.declared.parts.Parts.{Parts}
 
 -- the vat, which counts as closed once its effects were lost
@@ -28,25 +21,33 @@ abbrev pub closed_if : Bool → State → State
 closed_if true s = record s { is_closed = true }
 closed_if false s = s
 
+-- the tail calls, of which none are served once effects of the vat were lost
+abbrev pub tails_if : Bool → Option Tails → Option Tails
+tails_if true tails = None
+tails_if false tails = tails
+
 abbrev pub link_of : Parts → Link
 link_of p = record {
   mode = p.agenda.mode;
   limits = p.limits;
   reading = p.frames.state;
   vat = closed_if p.is_lost p.vat;
+  tails = tails_if p.is_lost p.tails;
   unwritten = p.agenda.outgoing;
   happened = p.agenda.happened.items;
   tally = record { bytes = p.bytes; messages = p.messages; sent = p.agenda.sent };
   fault = p.fault;
 }
 
--- Frames are read on, in the form and within the limits of the connection, of which these bytes came of the open one; and no effects were lost.
+-- Frames are read on, in the form and within the limits of the connection, of which these bytes came of the open one; no effects were lost; and what tail
+-- calls owe the peer can be written.
 pub record GoesOn (p : Parts) : Type 0 where
   pub same_mode : p.frames.mode ≡ p.agenda.mode
   pub same_limits : p.frames.limits ≡ p.limits
   pub rest : List ℕ
   pub came : HasCome (link_of p) rest
   pub kept : p.is_lost ≡ false
+  pub owes : OwesSendable p.tails
 
 -- a connection that didn't end goes on
 abbrev pub KeepsUp : Parts → Type 0
@@ -61,12 +62,6 @@ unread_at at fault = faults.Unreadable at (refusals.Frame fault)
 abbrev pub refused_by : VatFault → Option ConnectionFault → Option ConnectionFault
 refused_by vat_refusals.OutOfMemory before = Some faults.OutOfMemory
 refused_by fault before = before
-
--- Whatever event the vat did to give this, the connection did it, from the state that the vat was in before.
-abbrev pub Concludes : {A : Type 0} → Parts → Result (Acted A) VatFault → Result A ConnectionFault → Parts → Type 0
-Concludes {A} old acted result new =
-    (before : State) (event : Event) (value : A → Value) → Step before event (vat.answered value acted) (vat.effects_of acted) old.vat
-    → Acts (record (link_of old) { vat = before }) event (answered value result) (link_of new)
 
 -- The frame with these segments and this many bytes ends in the piece, and this follows it. Nothing changed but the reader of frames.
 pub record GivesFrame (old : Parts) (piece : List ℕ) (taken : ℕ) (segments : List (List ℕ)) (back : List ℕ) (new : Parts) : Type 0 where
@@ -86,15 +81,3 @@ pub record RefusesFrame (old : Parts) (segments : List (List ℕ)) (fault : Conn
   pub none : HoldsNone old.limits segments refusal
   pub told : fault ≡ faults.Unreadable old.bytes refusal
   pub same : new ≡ record old { fault = Some fault }
-
--- What the vat gave is noted, and its value given; or memory ran out for that, and its effects are lost; or it refused, which ends the connection where
--- memory ran out.
-abbrev pub NotesAll : {A : Type 0} → Parts → Result (Acted A) VatFault → Result A ConnectionFault → Parts → Type 0
-NotesAll old (Ok acted) (Ok value) new =
-    (value ≡ acted.value) × Notes old.agenda acted.effects new.agenda
-    × (new ≡ record old { agenda = new.agenda; fault = new.fault }) × (new.fault ≡ (if closes acted.effects then Some faults.Closed else old.fault))
-NotesAll old (Ok acted) (Err fault) new =
-    (fault ≡ faults.OutOfMemory) × Stays old.agenda new.agenda
-    × (new ≡ record old { agenda = new.agenda; is_lost = true; fault = Some faults.OutOfMemory })
-NotesAll old (Err refusal) (Ok value) new = ⊥
-NotesAll old (Err refusal) (Err fault) new = (fault ≡ refusal_of refusal) × (new ≡ record old { fault = refused_by refusal old.fault })

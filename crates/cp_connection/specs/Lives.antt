@@ -10,12 +10,15 @@ use Rattle.cp_vat_machine.specs.declared.event.Event.{Event}
 use Rattle.cp_vat_machine.specs.declared.event.Event.TheVariants as events
 use Rattle.cp_vat_machine.specs.declared.event.Value.{Value}
 use Rattle.cp_vat_laws.specs.Sizes.{AllWritable}
+use Rattle.cp_messages.specs.declared.message.Message.{Message}
+use Rattle.cp_tail_calls.specs.Bridging.{messages_of, sent_in}
 use Rattle.cp_connection.specs.declared.fault.ConnectionFault.{ConnectionFault}
 use Rattle.cp_connection.specs.declared.happening.Happening.{Happening}
-use Rattle.cp_connection.specs.Effects.{AreFramesOf, received, sent, happened}
-use Rattle.cp_connection.specs.Link.{Link, new_link}
-use Rattle.cp_connection.specs.Doing.{Acts}
+use Rattle.cp_connection.specs.Effects.{AreFramesOf, happened}
+use Rattle.cp_connection.specs.Link.{Link, new_link, new_link_with_tails}
+use Rattle.cp_connection.specs.Doing.{Acts, served}
 use Rattle.cp_connection.specs.Receiving.{Receives, IsUnreceived, EndsWell, EndsBadly, Wrote, HandsOut}
+use Rattle.cp_connection.specs.Turns.{NoneLost, TellTurns}
 
 -- the event is a call of the application
 abbrev pub IsCall : Event → Type 0
@@ -45,10 +48,10 @@ pub record IsRunOf (mode : Mode) (limits : Bounds) (bootstrap : Option ℕ) (tak
   pub history : List Moment
   pub steps : Steps (new_state bootstrap) history last.vat
   pub rest : List ℕ
-  pub messages : Messages mode limits taken (received history) rest
+  pub messages : Messages mode limits taken (messages_of history) rest
   pub is_open : Open mode limits rest
   pub bytes : List ℕ
-  pub are_frames : AreFramesOf mode (sent history) bytes
+  pub are_frames : AreFramesOf mode (sent_in history) bytes
   pub goes_out : bytes ≡ written ++ last.unwritten
   pub writable : AllWritable history
   pub happens : happened history ≡ handed ++ last.happened
@@ -64,4 +67,28 @@ abbrev pub AnyCut : Type 0
 AnyCut =
     (mode : Mode) (limits : Bounds) (bootstrap other : Option ℕ) (taken written gone : List ℕ) (handed out : List Happening) (last end : Link)
     (one : IsRunOf mode limits bootstrap taken written handed last) (two : IsRunOf mode limits other taken gone out end)
-    → (received one.history ≡ received two.history) × (one.rest ≡ two.rest)
+    → (messages_of one.history ≡ messages_of two.history) × (one.rest ≡ two.rest)
+
+-- A new vat behind tail calls did this history, and it is a run of it. Of these bytes, which were taken, messages came; a rest of them is an open frame. The
+-- frames of what went out are the bytes that were written and then those that weren't, and nothing else. What happened by the history was handed out, or is
+-- still to be, in order, and nothing else. Unless memory ran out, what came, what the vat got and answered, and what went out are what turns of tail calls
+-- say: so what is shown of turns holds.
+pub record IsRunBehind (mode : Mode) (limits : Bounds) (bootstrap : Option ℕ) (taken written : List ℕ) (handed : List Happening) (last : Link) : Type 0 where
+  pub history : List Moment
+  pub steps : Steps (new_state bootstrap) history last.vat
+  pub came : List Message
+  pub rest : List ℕ
+  pub messages : Messages mode limits taken came rest
+  pub is_open : Open mode limits rest
+  pub went : List Message
+  pub bytes : List ℕ
+  pub are_frames : AreFramesOf mode went bytes
+  pub goes_out : bytes ≡ written ++ last.unwritten
+  pub happens : happened history ≡ handed ++ last.happened
+  pub turns : NoneLost history → TellTurns [] came history went (served last)
+
+-- whatever is done with a connection that serves tail calls
+abbrev pub LivesBehind : Type 0
+LivesBehind =
+    (mode : Mode) (limits : Bounds) (bootstrap : Option ℕ) (taken written : List ℕ) (handed : List Happening) (last : Link)
+    → Life (new_link_with_tails mode limits bootstrap) taken written handed last → IsRunBehind mode limits bootstrap taken written handed last

@@ -1,24 +1,26 @@
 -- What is noted of effects. No public clause names these.
-use Rattle.std.specs.Prelude.{◌≡◌, ℕ, List, [], ◌∷◌, ◌++◌, length}
+use Rattle.std.specs.Prelude.{◌≡◌, ℕ, List, [], ◌∷◌, ◌++◌, length, take}
 use Rattle.cp_frame.specs.declared.mode.Mode.{Mode}
 use Rattle.cp_vat_machine.specs.declared.effect.Effect.{Effect}
+use Rattle.cp_tail_calls.specs.Bridging.{sent_of}
 use Rattle.cp_connection.specs.declared.agenda.Agenda.{Agenda}
+use Rattle.cp_connection.specs.declared.agenda.Mark.{Mark}
 use Rattle.cp_connection.specs.declared.happening.Happening.{Happening}
 use Rattle.cp_connection.specs.Counting.{CountsMore}
-use Rattle.cp_connection.specs.Effects.{sent_by, happening_by, AreFramesOf}
+use Rattle.cp_connection.specs.Effects.{happening_by, AreFramesOf}
 
 -- The frames of what effects send come after those that are to be written, and what happens by them after what happened.
 pub record Notes (old : Agenda) (effects : List Effect) (new : Agenda) : Type 0 where
   pub bytes : List ℕ
-  pub frames : AreFramesOf old.mode (sent_by effects) bytes
+  pub frames : AreFramesOf old.mode (sent_of effects) bytes
   pub goes_out : new.outgoing ≡ old.outgoing ++ bytes
   pub happens : new.happened.items ≡ old.happened.items ++ happening_by effects
-  pub counts : CountsMore old.sent (length (sent_by effects)) new.sent
+  pub counts : CountsMore old.sent (length (sent_of effects)) new.sent
   pub same_mode : new.mode ≡ old.mode
 
 -- The effect sends nothing, and this happens by it.
 pub record IsTold (effect : Effect) (happening : Happening) : Type 0 where
-  pub none_sent : sent_by (effect ∷ []) ≡ []
+  pub none_sent : sent_of (effect ∷ []) ≡ []
   pub happens : happening_by (effect ∷ []) ≡ happening ∷ []
 
 -- Something may have been noted.
@@ -35,6 +37,19 @@ pub record Stays (old new : Agenda) : Type 0 where
   pub same_bytes : new.outgoing ≡ old.outgoing
   pub same_happenings : new.happened.items ≡ old.happened.items
   pub same_count : new.sent ≡ old.sent
+
+-- so much was noted
+pub record Marks (agenda : Agenda) (mark : Mark) : Type 0 where
+  pub bytes : mark.unwritten ≡ length agenda.outgoing
+  pub happenings : mark.happened ≡ length agenda.happened.items
+  pub count : mark.sent ≡ agenda.sent
+
+-- What was noted after this is taken back.
+pub record GoesBack (old : Agenda) (mark : Mark) (new : Agenda) : Type 0 where
+  pub same_mode : new.mode ≡ old.mode
+  pub bytes : new.outgoing ≡ take mark.unwritten old.outgoing
+  pub happenings : new.happened.items ≡ take mark.happened old.happened.items
+  pub count : new.sent ≡ mark.sent
 
 -- Nothing is to be done.
 pub record IsNew (mode : Mode) (new : Agenda) : Type 0 where

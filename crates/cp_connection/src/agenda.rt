@@ -1,8 +1,8 @@
 //! What the effects of a vat ask for.
 
 ghost use Rattle.std.specs.Prelude.{◌≡◌, ◌∷◌, [], IfOk, OnOk, OnErr};
-ghost use Rattle.cp_connection.specs.Effects.{closes};
-ghost use Rattle.cp_connection.specs.Noting.{Notes, IsTold, Grows, Stays, IsNew};
+ghost use Rattle.cp_tail_calls.specs.Serving.{closes, comes_of};
+ghost use Rattle.cp_connection.specs.Noting.{Notes, IsTold, Grows, Stays, IsNew, Marks, GoesBack};
 ghost use Rattle.cp_vat_machine.specs.declared.effect.Effect.{Effect};
 ghost use Rattle.cp_vat_machine.specs.declared.effect.Effect.TheVariants.{Send};
 ghost use Rattle.cp_vat_laws.specs.Sizes.{AreWritable, IsWritable, IsWritten};
@@ -11,6 +11,7 @@ use crate::happening::Happening;
 use crate::outgoing::Outgoing;
 use cp_frame::Mode;
 use cp_rpc::Message;
+use cp_tail_calls::{TailCalls, Trigger};
 use cp_vat_machine::{Effect, Effects};
 use std::alloc::{AllocError, Global};
 use std::collections::VecDeque;
@@ -23,6 +24,14 @@ pub(crate) struct Agenda {
     /// What happened and wasn't taken, in order.
     pub happened: VecDeque<Happening>,
     /// The messages that were sent, at most `u64::MAX`.
+    pub sent: u64,
+}
+
+/// How much an agenda has.
+#[derive(Clone, Copy)]
+pub(crate) struct Mark {
+    pub unwritten: usize,
+    pub happened: usize,
     pub sent: u64,
 }
 
@@ -39,38 +48,23 @@ impl Agenda {
         }
     }
 
-    /// Notes what effects ask for, in order, up to the vat's closing. Says whether it closed. Where memory runs
-    /// out, nothing is noted.
-    pub fn note(&mut self, effects: Effects) -> Result<bool, AllocError>
+    /// Notes what effects ask for, in order, up to the vat's closing, as tail calls pass them on. Says whether it
+    /// closed. Where memory runs out, the first of them were noted.
+    pub fn note(
+        &mut self,
+        effects: Effects,
+        tails: &mut Option<TailCalls>,
+        trigger: Trigger,
+    ) -> Result<bool, AllocError>
         requires writable { AreWritable effects }
         ensures closed { IfOk result (λ closed. closed ≡ closes effects) }
-        ensures noted { OnOk result (Notes self.old effects self.new) }
-        ensures same { OnErr result (Stays self.old self.new) }
-    {
-        let (unwritten, happened, sent) = (self.outgoing.len(), self.happened.len(), self.sent);
-        match self.note_each(effects) {
-            Ok(closed) => Ok(closed),
-            Err(fault) => {
-                // All of an event or nothing: the vat then counts as one that ran out itself (V10), and no effect is half noted.
-                self.outgoing.truncate(unwritten);
-                self.happened.truncate(happened);
-                self.sent = sent;
-                Err(fault)
-            }
-        }
-    }
-
-    /// Notes effects, in order, up to the vat's closing. Says whether it closed. Where memory runs out, the first
-    /// of them were noted.
-    fn note_each(&mut self, effects: Effects) -> Result<bool, AllocError>
-        requires writable { AreWritable effects }
-        ensures closed { IfOk result (λ closed. closed ≡ closes effects) }
-        ensures noted { OnOk result (Notes self.old effects self.new) }
+        ensures noted { OnOk result (Notes self.old (comes_of trigger tails.old effects).0 self.new) }
+        ensures tails { OnOk result (tails.new ≡ (comes_of trigger tails.old effects).1) }
         ensures grown { OnErr result (Grows self.old self.new) }
     {
         for effect in effects.into_effects() {
             let closed = is_closing(&effect);
-            self.note_one(effect)?;
+            self.note_one(effect, tails, trigger)?;
             if closed {
                 return Ok(true);
             }
@@ -78,14 +72,40 @@ impl Agenda {
         Ok(false)
     }
 
-    /// Notes an effect.
-    fn note_one(&mut self, effect: Effect) -> Result<(), AllocError>
+    /// How much is noted.
+    pub fn mark(&self) -> Mark
+        ensures { Marks self.now result }
+    {
+        Mark {
+            unwritten: self.outgoing.len(),
+            happened: self.happened.len(),
+            sent: self.sent,
+        }
+    }
+
+    /// Takes back what was noted after this.
+    pub fn go_back(&mut self, mark: Mark)
+        ensures { GoesBack self.old mark self.new }
+    {
+        self.outgoing.truncate(mark.unwritten);
+        self.happened.truncate(mark.happened);
+        self.sent = mark.sent;
+    }
+
+    /// Notes an effect, as tail calls pass it on.
+    fn note_one(
+        &mut self,
+        effect: Effect,
+        tails: &mut Option<TailCalls>,
+        trigger: Trigger,
+    ) -> Result<(), AllocError>
         requires writable { IsWritten effect }
-        ensures noted { OnOk result (Notes self.old (effect ∷ []) self.new) }
+        ensures noted { OnOk result (Notes self.old (comes_of trigger tails.old (effect ∷ [])).0 self.new) }
+        ensures tails { OnOk result (tails.new ≡ (comes_of trigger tails.old (effect ∷ [])).1) }
         ensures same { OnErr result (Stays self.old self.new) }
     {
         match effect {
-            Effect::Send(message) => self.send(&message),
+            Effect::Send(message) => self.pass_on(message, tails, trigger),
             Effect::Deliver {
                 object,
                 origin,
@@ -104,14 +124,37 @@ impl Agenda {
         }
     }
 
+    /// Sends a message of the vat's, or what tail calls send in its place.
+    fn pass_on(
+        &mut self,
+        message: Message,
+        tails: &mut Option<TailCalls>,
+        trigger: Trigger,
+    ) -> Result<(), AllocError>
+        requires writable { IsWritable message }
+        ensures noted { OnOk result (Notes self.old (comes_of trigger tails.old (Send message ∷ [])).0 self.new) }
+        ensures tails { OnOk result (tails.new ≡ (comes_of trigger tails.old (Send message ∷ [])).1) }
+        ensures same { OnErr result (Stays self.old self.new) }
+    {
+        let Some(tails) = tails else {
+            return self.send(message);
+        };
+        match tails.send(message, trigger)? {
+            Some(message) => self.send(message),
+            None => Ok(()),
+        }
+    }
+
     /// Puts a message's frame after what is to go out.
-    fn send(&mut self, message: &Message) -> Result<(), AllocError>
-        requires writable { IsWritable message.now }
-        ensures noted { OnOk result (Notes self.old (Send message.now ∷ []) self.new) }
+    pub fn send(&mut self, message: Message) -> Result<(), AllocError>
+        requires writable { IsWritable message }
+        ensures noted { OnOk result (Notes self.old (Send message ∷ []) self.new) }
         ensures same { OnErr result (Stays self.old self.new) }
     {
         // Framed now and not when it is written: each call of `Vat` ensures that it can be, so `outgoing` and `wrote` can't fail.
-        self.outgoing.put(message, self.mode)?;
+        let put = self.outgoing.put(&message, self.mode);
+        drop(message);
+        put?;
         self.sent = self.sent.saturating_add(1);
         Ok(())
     }

@@ -5,6 +5,7 @@ use crate::happening::{Happening, Held, Tally};
 use crate::parts::Parts;
 use cp_frame::Mode;
 use cp_refs::{Cap, Origin, Outcome, PromiseId, Request};
+use cp_tail_calls::{TailCalls, Trigger};
 use cp_vat::Lent;
 use cp_vat_machine::Idle;
 use cp_words::{Limits, Segments};
@@ -76,7 +77,7 @@ impl Connection {
     ghost use Rattle.cp_vat_machine.specs.declared.event.Event.TheVariants as events;
     ghost use Rattle.cp_vat_machine.specs.declared.event.Value.TheVariants as values;
     ghost use Rattle.cp_vat.specs.Kept.{entries_of};
-    ghost use Rattle.cp_connection.specs.Link.{HasCome, new_link};
+    ghost use Rattle.cp_connection.specs.Link.{HasCome, new_link, new_link_with_tails};
     ghost use Rattle.cp_connection.specs.Doing.{Acts, answered};
     ghost use Rattle.cp_connection.specs.Receiving.{Receives, IsUnreceived, EndsWell, EndsBadly, Wrote, HandsOut};
     ghost use Rattle.cp_connection.specs.Lending.{ReceivesLending};
@@ -90,6 +91,22 @@ impl Connection {
         Connection {
             parts: Parts::new(alloc, mode, limits, bootstrap),
         }
+    }
+
+    /// The same, which serves tail calls: the peer may send the results of a call that this end made back to it, and its vat
+    /// knows nothing of that.
+    pub fn with_tail_calls(
+        alloc: Global,
+        mode: Mode,
+        limits: Limits,
+        bootstrap: Option<u32>,
+    ) -> Connection
+        ensures fresh { result ≡ new_link_with_tails mode limits bootstrap }
+        ensures came { HasCome result [] }
+    {
+        let mut parts = Parts::new(alloc, mode, limits, bootstrap);
+        parts.tails = Some(TailCalls::new(alloc));
+        Connection { parts }
     }
 
     /// Takes bytes of the peer, up to the end of the next message, and says how many: one at least, where there is one.
@@ -172,7 +189,7 @@ impl Connection {
     {
         self.parts.check_open()?;
         let acted = self.parts.vat.bootstrap();
-        self.parts.conclude(acted)
+        self.parts.conclude(acted, Trigger::Application)
     }
 
     /// Calls a capability, and gives the question's number. Refused as `Vat::call`.
@@ -181,7 +198,7 @@ impl Connection {
     {
         self.parts.check_open()?;
         let acted = self.parts.vat.call(cap, request);
-        self.parts.conclude(acted)
+        self.parts.conclude(acted, Trigger::Application)
     }
 
     /// Answers a call that was delivered. Refused as `Vat::answer`.
@@ -190,7 +207,7 @@ impl Connection {
     {
         self.parts.check_open()?;
         let acted = self.parts.vat.answer(origin, outcome);
-        self.parts.conclude(acted)
+        self.parts.conclude(acted, Trigger::Application)
     }
 
     /// Makes an open promise. Refused as `Vat::promise`.
@@ -199,7 +216,7 @@ impl Connection {
     {
         self.parts.check_open()?;
         let acted = self.parts.vat.promise();
-        self.parts.conclude(acted)
+        self.parts.conclude(acted, Trigger::Application)
     }
 
     /// Settles a promise that the application made. Refused as `Vat::resolve`.
@@ -208,7 +225,7 @@ impl Connection {
     {
         self.parts.check_open()?;
         let acted = self.parts.vat.resolve(promise, value);
-        self.parts.conclude(acted)
+        self.parts.conclude(acted, Trigger::Application)
     }
 
     /// Gives a question up. Refused as `Vat::finish`.
@@ -217,7 +234,7 @@ impl Connection {
     {
         self.parts.check_open()?;
         let acted = self.parts.vat.finish(question);
-        self.parts.conclude(acted)
+        self.parts.conclude(acted, Trigger::Application)
     }
 
     /// Gives an import back, with its whole count. Refused as `Vat::release`.
@@ -226,7 +243,7 @@ impl Connection {
     {
         self.parts.check_open()?;
         let acted = self.parts.vat.release(import);
-        self.parts.conclude(acted)
+        self.parts.conclude(acted, Trigger::Application)
     }
 
     /// Drops a settled promise. Refused as `Vat::forget`.
@@ -235,7 +252,7 @@ impl Connection {
     {
         self.parts.check_open()?;
         let acted = self.parts.vat.forget(promise);
-        self.parts.conclude(acted)
+        self.parts.conclude(acted, Trigger::Application)
     }
 
     /// The imports and the promises that aren't in use.
@@ -244,7 +261,7 @@ impl Connection {
     {
         self.parts.check_open()?;
         let acted = self.parts.vat.idle();
-        self.parts.conclude(acted)
+        self.parts.conclude(acted, Trigger::Application)
     }
 
     /// Why the connection ended, if it did.

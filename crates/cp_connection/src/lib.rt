@@ -3,6 +3,7 @@
 #![tactic(auto)]
 
 mod agenda;
+mod behind;
 mod connection;
 mod fault;
 mod happening;
@@ -13,4 +14,4 @@ mod parts;
 pub use connection::Connection;
 pub use fault::ConnectionFault;
 pub use happening::{Happening, Held, Tally};
-pub use laws::{any_cut, lives};
+pub use laws::{any_cut, lives, lives_behind};

@@ -1,6 +1,7 @@
 //! What a connection is made of.
 
-ghost use Rattle.std.specs.Prelude.{◌≡◌, ◌<◌, [], ℕ, List, Some, None, IfOk, IfErr, IfSome, IfNone, OnOk, length};
+ghost use Rattle.std.specs.Prelude.{◌≡◌, ◌<◌, [], ℕ, List, Some, None, true, false, IfOk, IfErr, IfSome, IfNone, OnOk, OnErr, length};
+ghost use Rattle.std.specs.Option.{option_map};
 ghost use Rattle.cp_rpc.specs.Viewed.{viewed};
 ghost use Rattle.cp_stream.specs.Stream.{Holds};
 ghost use Rattle.cp_vat_machine.specs.declared.event.Event.TheVariants as events;
@@ -11,19 +12,24 @@ ghost use Rattle.cp_connection.specs.Refusing.{refusal_of};
 ghost use Rattle.cp_connection.specs.Link.{new_link, HasCome};
 ghost use Rattle.cp_connection.specs.Doing.{Acts, Refuses, answered};
 ghost use Rattle.cp_connection.specs.Receiving.{Receives, ReadsOn, IsUnreceived, EndsWell, EndsBadly};
-ghost use Rattle.cp_connection.specs.LinkOf.{link_of, KeepsUp, Concludes, CountsOne, GivesFrame, NotesAll, RefusesFrame, unread_at, refused_by};
+ghost use Rattle.cp_connection.specs.LinkOf.{link_of, KeepsUp, CountsOne, GivesFrame, RefusesFrame, unread_at, refused_by};
+ghost use Rattle.cp_connection.specs.Noting.{GoesBack};
+ghost use Rattle.cp_connection.specs.Owing.{IsSendable, OwesSendable};
+ghost use Rattle.cp_connection.specs.Settling.{Concludes, Follows, GetsFor, GivesVat, GoesOnIf, Loses, MayNote, NotesAll, NotesEvent, Passes, PassesIf, Settled};
 ghost use Rattle.cp_connection.specs.Lending.{DoesLending, ReceivesLending};
-ghost use Rattle.cp_connection.specs.declared.fault.ConnectionFault.TheVariants.{Unreadable};
+ghost use Rattle.cp_connection.specs.declared.fault.ConnectionFault.TheVariants.{OutOfMemory, Unreadable};
 
-use crate::agenda::Agenda;
+use crate::agenda::{Agenda, Mark};
+use crate::behind::Behind;
 use crate::fault::ConnectionFault;
 use cp_frame::{FrameFault, FrameReader, Mode};
-use cp_rpc::MessageView;
+use cp_rpc::{Message, MessageView};
 use cp_stream::{Refusal, view_in};
+use cp_tail_calls::{Owed, TailCalls, Trigger};
 use cp_vat::{Lent, Vat};
-use cp_vat_machine::{Acted, VatFault};
+use cp_vat_machine::{Acted, Effects, VatFault};
 use cp_words::{Limits, Segments};
-use std::alloc::Global;
+use std::alloc::{AllocError, Global};
 
 /// What a connection is made of.
 #[derive(Drop)]
@@ -31,6 +37,8 @@ pub(crate) struct Parts {
     pub limits: Limits,
     pub frames: FrameReader,
     pub vat: Vat,
+    /// The tail calls, where they are served.
+    pub tails: Option<TailCalls>,
     /// Whether effects of the vat were lost, as memory ran out.
     pub is_lost: bool,
     pub agenda: Agenda,
@@ -53,6 +61,7 @@ impl Parts {
             limits,
             frames: FrameReader::new(alloc, mode, limits),
             vat: Vat::new(alloc, bootstrap),
+            tails: None,
             is_lost: false,
             agenda: Agenda::new(alloc, mode),
             bytes: 0,
@@ -130,34 +139,125 @@ impl Parts {
         }
     }
 
-    /// Notes what the vat's effects ask for, and gives its value. Where memory ran out, for the vat or for these, the
-    /// connection ends, and where the vat closed.
+    /// Notes what the vat's effects ask for and what follows, and gives its value. Where memory ran out, for the vat or
+    /// for these, the connection ends, and where the vat closed.
     pub fn conclude<V: Drop>(
         &mut self,
         acted: Result<Acted<V>, VatFault>,
+        trigger: Trigger,
     ) -> Result<V, ConnectionFault>
         requires is_open { self.old.fault ≡ None }
         requires keeps { KeepsUp self.old }
         requires writable { AreWritable (effects_of acted) }
         ensures keeps { KeepsUp self.new }
-        ensures acts { Concludes self.old acted result self.new }
-        ensures noted { NotesAll self.old acted result self.new }
+        ensures acts { Concludes self.old trigger acted result self.new }
+        ensures noted { NotesAll self.old trigger acted result self.new }
     {
         let acted = match acted {
             Ok(acted) => acted,
             Err(fault) => return Err(self.refuse(fault)),
         };
-        match self.agenda.note(acted.effects) {
-            Ok(true) => {
-                self.fault = Some(ConnectionFault::Closed);
-                Ok(acted.value)
-            }
-            Ok(false) => Ok(acted.value),
+        let mark = self.agenda.mark();
+        match self.note(acted.effects, trigger) {
+            Ok(()) => Ok(acted.value),
             Err(_) => {
-                // What the vat asked for is lost, so from here it counts as closed by V10.
-                self.is_lost = true;
-                Err(self.fail(ConnectionFault::OutOfMemory))
+                drop(acted.value);
+                Err(self.lose(mark))
             }
+        }
+    }
+
+    /// Notes the effects of an event of the vat, and then those of what tail calls owe it. Where memory runs out, the
+    /// first of them were noted.
+    fn note(&mut self, effects: Effects, trigger: Trigger) -> Result<(), AllocError>
+        requires is_open { self.old.fault ≡ None }
+        requires owes { OwesSendable self.old.tails }
+        requires writable { AreWritable effects }
+        ensures follows { OnOk result (Follows self.old trigger effects self.new) }
+        ensures grown { OnErr result (MayNote self.old self.new) }
+    {
+        self.note_event(effects, trigger)?;
+        // A closed vat owes nothing, and is owed nothing.
+        if self.fault.is_some() {
+            return Ok(());
+        }
+        self.settle()
+    }
+
+    /// Notes the effects of an event of the vat.
+    fn note_event(&mut self, effects: Effects, trigger: Trigger) -> Result<(), AllocError>
+        requires is_open { self.old.fault ≡ None }
+        requires writable { AreWritable effects }
+        ensures noted { OnOk result (NotesEvent self.old trigger effects self.new) }
+        ensures grown { OnErr result (MayNote self.old self.new) }
+    {
+        let is_closed = self.agenda.note(effects, &mut self.tails, trigger)?;
+        if is_closed {
+            self.fault = Some(ConnectionFault::Closed);
+        }
+        Ok(())
+    }
+
+    /// Passes on all that tail calls owe.
+    fn settle(&mut self) -> Result<(), AllocError>
+        requires is_open { self.old.fault ≡ None }
+        requires owes { OwesSendable self.old.tails }
+        ensures settled { OnOk result (Settled self.old self.new) }
+        ensures grown { OnErr result (MayNote self.old self.new) }
+    {
+        // Each turn ends a question that takes results, so few are made.
+        for _ in 0..u64::MAX {
+            let is_more = self.pass_on()?;
+            if !is_more {
+                return Ok(());
+            }
+        }
+        Err(AllocError)
+    }
+
+    /// Passes on what tail calls owe first, and says whether there was anything.
+    fn pass_on(&mut self) -> Result<bool, AllocError>
+        requires owes { OwesSendable self.old.tails }
+        ensures passed { IfOk result (λ is_more. PassesIf is_more self.old self.new) }
+        ensures grown { OnErr result (MayNote self.old self.new) }
+    {
+        if self.fault.is_some() {
+            return Ok(false);
+        }
+        let Some(tails) = &mut self.tails else {
+            return Ok(false);
+        };
+        match tails.next(&Behind { vat: &self.vat })? {
+            Some(owed) => {
+                self.pass(owed)?;
+                Ok(true)
+            }
+            None => Ok(false),
+        }
+    }
+
+    /// Passes on what was owed.
+    fn pass(&mut self, owed: Owed) -> Result<(), AllocError>
+        requires is_open { self.old.fault ≡ None }
+        requires sendable { IsSendable owed }
+        ensures passes { OnOk result (Passes self.old owed self.new) }
+        ensures grown { OnErr result (MayNote self.old self.new) }
+    {
+        match owed {
+            Owed::ToPeer(message) => self.agenda.send(message),
+            Owed::ToVat(message) => self.give_to_vat(message),
+        }
+    }
+
+    /// The vat gets a message that tail calls owe it.
+    fn give_to_vat(&mut self, message: Message) -> Result<(), AllocError>
+        requires is_open { self.old.fault ≡ None }
+        ensures gives { OnOk result (GivesVat self.old message self.new) }
+        ensures grown { OnErr result (MayNote self.old self.new) }
+    {
+        match self.vat.receive(message) {
+            Ok(acted) => self.note_event(acted.effects, Trigger::Message),
+            Err(_) => Err(AllocError),
         }
     }
 
@@ -209,8 +309,13 @@ impl Parts {
         ensures keeps { KeepsUp self.new }
         ensures acts { Acts (link_of self.old) (events.Receive (viewed message.entry)) (answered (λ _. values.Nothing) result) (link_of self.new) }
     {
-        let acted = self.vat.receive_view(message);
-        self.conclude(acted)
+        match self.for_vat(message)? {
+            Some(message) => {
+                let acted = self.vat.receive_view(message);
+                self.conclude(acted, Trigger::Message)
+            }
+            None => self.go_on(),
+        }
     }
 
     /// Takes in a message of the peer's, which may lend a call.
@@ -225,8 +330,69 @@ impl Parts {
         ensures lends { IfOk result (λ lent. DoesLending (link_of self.old) (events.Receive (viewed message.entry)) lent (link_of self.new)) }
         ensures refuses { IfErr result (λ fault. Refuses (link_of self.old) (events.Receive (viewed message.entry)) fault (link_of self.new)) }
     {
-        let acted = self.vat.receive_lending(message);
-        self.conclude(acted)
+        match self.for_vat(message)? {
+            Some(message) => {
+                let acted = self.vat.receive_lending(message);
+                self.conclude(acted, Trigger::Message)
+            }
+            None => {
+                self.go_on()?;
+                Ok(None)
+            }
+        }
+    }
+
+    /// What the vat gets of a message of the peer's, if anything: tail calls may keep it, or give another in its place.
+    fn for_vat<'a>(
+        &mut self,
+        message: MessageView<'a>,
+    ) -> Result<Option<MessageView<'a>>, ConnectionFault>
+        requires is_open { self.old.fault ≡ None }
+        requires keeps { KeepsUp self.old }
+        ensures gets { IfOk result (λ on. GetsFor self.old (viewed message.entry) (option_map viewed on) self.new) }
+        ensures open { IfErr result (λ _. self.old.vat.is_closed ≡ false) }
+        ensures loses { IfErr result (λ fault. (fault ≡ OutOfMemory) × Loses self.old self.new) }
+    {
+        let Some(tails) = &mut self.tails else {
+            return Ok(Some(message));
+        };
+        // A closed vat refuses it, and nothing is kept of it.
+        if self.vat.is_closed() {
+            return Ok(Some(message));
+        }
+        match tails.receive(&Behind { vat: &self.vat }, message) {
+            Ok(message) => Ok(message),
+            Err(_) => {
+                let mark = self.agenda.mark();
+                Err(self.lose(mark))
+            }
+        }
+    }
+
+    /// Passes on what is owed after a message that the vat didn't get.
+    fn go_on(&mut self) -> Result<(), ConnectionFault>
+        requires is_open { self.old.fault ≡ None }
+        requires keeps { KeepsUp self.old }
+        ensures keeps { KeepsUp self.new }
+        ensures goes { GoesOnIf self.old result self.new }
+    {
+        let mark = self.agenda.mark();
+        match self.settle() {
+            Ok(()) => Ok(()),
+            Err(_) => Err(self.lose(mark)),
+        }
+    }
+
+    /// Ends the connection as memory ran out for what the vat did, of which nothing stays noted.
+    fn lose(&mut self, mark: Mark) -> ConnectionFault
+        ensures same { result ≡ OutOfMemory }
+        ensures goes_back { GoesBack self.old.agenda mark self.new.agenda }
+        ensures loses { self.new ≡ record self.old { agenda = self.new.agenda; is_lost = true; fault = Some OutOfMemory } }
+    {
+        // All of an event or nothing: from here the vat counts as one that ran out itself (V10), and no effect is half noted.
+        self.agenda.go_back(mark);
+        self.is_lost = true;
+        self.fail(ConnectionFault::OutOfMemory)
     }
 
     /// A refusal of the vat's. Where memory ran out, the connection ends.

@@ -66,16 +66,9 @@ use Rattle.cp_vat_machine.specs.declared.fault.PeerFault.TheVariants as faults
 use Rattle.cp_vat_machine.specs.declared.fault.VatFault.{VatFault}
 use Rattle.cp_vat_machine.specs.declared.fault.VatFault.TheVariants as refusals
 use Rattle.cp_vat_machine.proofs.Basics.{ok_in, ok_out, then_out, unless_out, or_full_out, none_out}
-use Rattle.cp_connection.specs.Effects.{closes}
+use Rattle.cp_tail_calls.specs.Serving.{closes}
+use Rattle.cp_connection.proofs.Noting.{closes_both}
 use Rattle.cp_serve.specs.Matching.{IsBetween}
-
--- effects by which the vat closes are among these, or among those
-pub closes_both : (a b : List Effect) → closes (a ++ b) ≡ (closes a || closes b)
-closes_both [] b = refl
-closes_both (effects.Send m ∷ a) b = closes_both a b
-closes_both (effects.Deliver k origin ticket call ∷ a) b = closes_both a b
-closes_both (effects.Settled q outcome ∷ a) b = closes_both a b
-closes_both (effects.Closed reason ∷ a) b = refl
 
 -- none of a rule's effects closes the vat
 abbrev IsSilent : Done → Type 0

@@ -7,7 +7,8 @@ use Rattle.cp_stream.specs.declared.fault.StreamFault.TheVariants as streams
 use Rattle.cp_stream.specs.Read.{FailedOnce}
 use Rattle.cp_vat_machine.specs.declared.effect.Effect.{Effect}
 use Rattle.cp_connection.specs.declared.happening.Tally.{Tally}
-use Rattle.cp_connection.specs.Effects.{sent_by, AreFramesOf}
+use Rattle.cp_tail_calls.specs.Bridging.{sent_of}
+use Rattle.cp_connection.specs.Effects.{AreFramesOf}
 use Rattle.cp_connection.specs.Link.{Link}
 use Rattle.cp_servants.specs.Servant.{Kind}
 use Rattle.cp_serve.specs.declared.fault.ServeFault.{ServeFault}
@@ -64,7 +65,7 @@ module _ {A : Type 0} {kind : Kind A} where
       frames_of =
           subst (λ (x : Mode). AreFramesOf x went.0.sent went.2.bytes) h.same_mode
           (subst (λ (ms : List Message). AreFramesOf mid.connection.mode ms went.2.bytes) (append-nil went.0.sent)
-          (subst (λ (es : List Effect). AreFramesOf mid.connection.mode (went.0.sent ++ sent_by es) went.2.bytes) went.3 went.2.frames))
+          (subst (λ (es : List Effect). AreFramesOf mid.connection.mode (went.0.sent ++ sent_of es) went.2.bytes) went.3 went.2.frames))
 
       bytes_of : s.connection.unwritten ≡ went.2.bytes
       bytes_of = went.2.goes_out ∙ ap (λ (x : List ℕ). x ++ went.2.bytes) h.all_out
@@ -90,11 +91,11 @@ module _ {A : Type 0} {kind : Kind A} where
             closes = one_more h.closes still went.1 refl refl;
             rests =
                 subst (λ (x : Server). IsAllDone (written went.0) (owed x)) (sym (is_written_out s new ready l e))
-                (rests_after went.2 went.3 (record s.connection { unwritten = [] }) refl refl refl);
+                (rests_after went.2 went.3 (record s.connection { unwritten = [] }) refl refl refl refl);
             writes = writes_both before to after h.writes (lands_writes to after (ready_of s) moved same goes);
             counts = λ n i.
                 ap (λ (t : Tally). t.sent) tally ∙ went.2.counts (n + length h.sent) (h.counts n i)
-                ∙ ap (λ (es : List Effect). min ((n + length h.sent) + length (sent ++ sent_by es)) (2 ^ 64 - 1)) went.3
+                ∙ ap (λ (es : List Effect). min ((n + length h.sent) + length (sent ++ sent_of es)) (2 ^ 64 - 1)) went.3
                 ∙ ap (λ (ms : List Message). min ((n + length h.sent) + length ms) (2 ^ 64 - 1)) (append-nil sent)
                 ∙ ap (λ (k : ℕ). min k (2 ^ 64 - 1)) (add_assoc n (length h.sent) (length sent) ∙ ap (λ (k : ℕ). n + k) (sym (length-append h.sent sent)));
             all_out = ap (λ (x : Server). x.connection.unwritten) (is_written_out s new ready l e);

@@ -281,7 +281,7 @@ module _ {A : Type 0} {kind : Kind A} {mode : Mode} {start : List A} {held : Dev
     messages = r.messages;
     last = r.last;
     takes = r.takes;
-    rests = rests_as r.rests (record s.connection { unwritten = [] }) refl refl refl;
+    rests = rests_as r.rests (record s.connection { unwritten = [] }) refl refl refl refl;
     writes =
         subst (λ (d : Device). Writes mode r.sent held d) (sym (ahead_none after [] refl))
         (lands_writes to after (ready_of s) moved same (subst (λ (x : List ℕ). Writes mode r.sent held (ahead to x)) (sym (is_all_ready bytes rest s r)) r.writes));

@@ -29,7 +29,8 @@ use Rattle.cp_connection.specs.declared.fault.ConnectionFault.TheVariants as con
 use Rattle.cp_connection.specs.declared.happening.Happening.{Happening}
 use Rattle.cp_connection.specs.declared.happening.Tally.{Tally}
 use Rattle.cp_connection.specs.Doing.{Does}
-use Rattle.cp_connection.specs.Effects.{sent_by, happening_by, AreFramesOf}
+use Rattle.cp_tail_calls.specs.Bridging.{sent_of}
+use Rattle.cp_connection.specs.Effects.{happening_by, AreFramesOf}
 use Rattle.cp_connection.specs.Link.{Link, HasCome, new_link}
 use Rattle.cp_connection.specs.Moves.{Moves}
 use Rattle.cp_connection.specs.Receiving.{Reads, Receives, IsUnread, IsUnreceived, EndsBadly}
@@ -96,9 +97,9 @@ module _ {A : Type 0} {kind : Kind A} where
 
 -- ---- connections that go on as they were
 
-pub rests_as : {w : Work} {o : objects.Work} → IsAllDone w o → (link : Link) → link.vat ≡ o.link.vat → link.happened ≡ o.link.happened → link.fault ≡ o.link.fault → IsAllDone w (record o { link = link })
-rests_as {w = w} {o = o} r link vat happened fault =
-    subst (λ (x : Work). IsAllDone x (record o { link = link })) (ap (λ (ms : List Message). record w { sent = ms }) (sym r.none_unsent)) (rests_after r.matches r.none_left link vat happened fault)
+pub rests_as : {w : Work} {o : objects.Work} → IsAllDone w o → (link : Link) → link.vat ≡ o.link.vat → link.tails ≡ o.link.tails → link.happened ≡ o.link.happened → link.fault ≡ o.link.fault → IsAllDone w (record o { link = link })
+rests_as {w = w} {o = o} r link vat tails happened fault =
+    subst (λ (x : Work). IsAllDone x (record o { link = link })) (ap (λ (ms : List Message). record w { sent = ms }) (sym r.none_unsent)) (rests_after r.matches r.none_left link vat tails happened fault)
 
 -- so many bytes came as were read
 came_is : (mode : Mode) (limits : Bounds) (state : frames.State) (b : List ℕ) → frames.IsReading state → frames.Stands mode limits state b → frames.taken_of state ≡ length b
@@ -137,7 +138,7 @@ module _ {A : Type 0} {kind : Kind A} {mode : Mode} {start : List A} {held : Dev
     messages = messages_grow mode standard bytes r.taken rest more r.messages;
     last = r.last;
     takes = r.takes;
-    rests = rests_as r.rests (record s.connection { reading = state }) refl refl refl;
+    rests = rests_as r.rests (record s.connection { reading = state }) refl refl refl refl;
     writes = r.writes;
     all_ready = r.all_ready;
     place = place_stays bytes rest more s.connection.tally.bytes r.place;
@@ -161,7 +162,7 @@ module _ {A : Type 0} {kind : Kind A} {mode : Mode} {start : List A} {held : Dev
       (reads : Reads s.connection front m mid) (d : Does mid (events.Receive m) (Ok values.Nothing) link) (works : WorksOut kind (record s { connection = link }) new seen others)
       (ready : new.ready ≡ length new.connection.unwritten) where
     begins : IsAllDone r.last (record (owed s) { link = mid })
-    begins = rests_as r.rests mid (ap (λ (l : Link). l.vat) reads.same) (ap (λ (l : Link). l.happened) reads.same) (ap (λ (l : Link). l.fault) reads.same)
+    begins = rests_as r.rests mid (ap (λ (l : Link). l.vat) reads.same) (ap (λ (l : Link). l.tails) reads.same) (ap (λ (l : Link). l.happened) reads.same) (ap (λ (l : Link). l.fault) reads.same)
 
     counts_bytes : mid.tally.bytes ≡ min (s.connection.tally.bytes + length (rest ++ front)) (2 ^ 64 - 1)
     counts_bytes = ap (λ (t : Tally). t.bytes) (reads.counts rest on.came)
@@ -179,7 +180,7 @@ module _ {A : Type 0} {kind : Kind A} {mode : Mode} {start : List A} {held : Dev
         frames_of : AreFramesOf mode next.sent matches.bytes
         frames_of =
             subst (λ (x : Mode). AreFramesOf x next.sent matches.bytes) same_mode
-            (subst (λ (ms : List Message). AreFramesOf mid.mode ms matches.bytes) (append-nil next.sent) (subst (λ (es : List Effect). AreFramesOf mid.mode (next.sent ++ sent_by es) matches.bytes) none matches.frames))
+            (subst (λ (ms : List Message). AreFramesOf mid.mode ms matches.bytes) (append-nil next.sent) (subst (λ (es : List Effect). AreFramesOf mid.mode (next.sent ++ sent_of es) matches.bytes) none matches.frames))
 
         goes_out : new.connection.unwritten ≡ s.connection.unwritten ++ matches.bytes
         goes_out = matches.goes_out ∙ ap (λ (x : List ℕ). x ++ matches.bytes) (ap (λ (l : Link). l.unwritten) reads.same)
@@ -191,7 +192,7 @@ module _ {A : Type 0} {kind : Kind A} {mode : Mode} {start : List A} {held : Dev
           messages = messages_push mode standard (bytes ++ front) r.taken (rest ++ front) [] m (grown mode bytes rest front r.taken r.messages) is_frame;
           last = written next;
           takes = takes;
-          rests = rests_after matches none new.connection refl refl refl;
+          rests = rests_after matches none new.connection refl refl refl refl;
           writes = writes_both held (ahead to s.connection.unwritten) (ahead to new.connection.unwritten) r.writes (queued mode next.sent matches.bytes s.connection.unwritten new.connection.unwritten to frames_of goes_out);
           all_ready = ready;
           place = place_more bytes rest front s.connection.tally.bytes new.connection.tally.bytes (rest_fits mode standard bytes r.taken rest r.messages) r.place (ap (λ (t : Tally). t.bytes) matches.same_tally ∙ counts_bytes);
@@ -200,7 +201,7 @@ module _ {A : Type 0} {kind : Kind A} {mode : Mode} {start : List A} {held : Dev
               ∙ ap (λ (n : ℕ). min n (2 ^ 64 - 1)) (sym (length_push r.taken m));
           counted_sent =
               matches.counts (length r.sent) (ap (λ (t : Tally). t.sent) (reads.counts rest on.came) ∙ r.counted_sent)
-              ∙ ap (λ (es : List Effect). min (length r.sent + length (next.sent ++ sent_by es)) (2 ^ 64 - 1)) none
+              ∙ ap (λ (es : List Effect). min (length r.sent + length (next.sent ++ sent_of es)) (2 ^ 64 - 1)) none
               ∙ ap (λ (ms : List Message). min (length r.sent + length ms) (2 ^ 64 - 1)) (append-nil next.sent)
               ∙ ap (λ (n : ℕ). min n (2 ^ 64 - 1)) (sym (length-append r.sent next.sent));
           same_mode = matches.same_mode ∙ same_mode;
@@ -508,6 +509,7 @@ rests_new : (mode : Mode) → IsAllDone new_work (objects.begun false (new_link 
 rests_new mode = record {
   matches = record {
     vat = refl;
+    no_tails = refl;
     awaited = refl;
     given_up = refl;
     none_call = refl;

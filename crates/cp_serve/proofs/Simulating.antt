@@ -30,18 +30,21 @@ use Rattle.cp_vat_machine.specs.declared.fault.PeerFault.{PeerFault}
 use Rattle.cp_vat_machine.specs.declared.fault.VatFault.{VatFault}
 use Rattle.cp_vat_machine.specs.declared.fault.VatFault.TheVariants as refusals
 use Rattle.cp_vat_machine.proofs.Basics.{none_out, ok_out, some_out}
+use Rattle.cp_tail_calls.specs.Bridging.{sent_of}
+use Rattle.cp_tail_calls.specs.Serving.{closes}
 use Rattle.cp_connection.specs.declared.fault.ConnectionFault.{ConnectionFault}
 use Rattle.cp_connection.specs.declared.fault.ConnectionFault.TheVariants as faults
 use Rattle.cp_connection.specs.declared.happening.Happening.{Happening}
 use Rattle.cp_connection.specs.declared.happening.Happening.TheVariants as happenings
 use Rattle.cp_connection.specs.declared.happening.Tally.{Tally}
 use Rattle.cp_connection.specs.Doing.{Does, Acts}
-use Rattle.cp_connection.specs.Effects.{sent_by, happening_by, closes, AreFramesOf}
+use Rattle.cp_connection.specs.Effects.{happening_by, AreFramesOf}
 use Rattle.cp_connection.specs.Link.{Link}
 use Rattle.cp_connection.specs.Receiving.{HandsOut}
 use Rattle.cp_connection.specs.Refusing.{refusal_of}
 use Rattle.cp_connection.proofs.Concluding.{refused_same, no_effects, was_still}
-use Rattle.cp_connection.proofs.Noting.{frames_both}
+use Rattle.cp_connection.proofs.Noting.{closes_both, frames_both, happening_both, sent_both}
+use Rattle.cp_connection.proofs.Serving.{served_none, steps_alone}
 use Rattle.cp_servants.specs.declared.servant.Ask.{Ask}
 use Rattle.cp_servants.specs.declared.servant.Reply.{Reply}
 use Rattle.cp_servants.specs.declared.servant.Reply.TheVariants as replies
@@ -59,23 +62,7 @@ use Rattle.cp_serve.specs.Work.{Work, Did, IsDone, Answers, is_taken, was_closed
 use Rattle.cp_serve.specs.Service.{Delivers, to_object, to_none, WorksOff, none_left, acts, Settles, gives_none, is_stranger, is_awaited, PollsFrom, Rounds, TakesMessage, takes, written}
 use Rattle.cp_serve.specs.Service as service
 use Rattle.cp_serve.specs.Matching.{reason_in, ended_if, is_over, ClosesBy, IsBetween, Matches, IsAllDone}
-use Rattle.cp_serve.proofs.Closing.{closes_both, tells_closing}
-
--- ---- effects one after another, of which the first don't close the vat
-
-sent_both : (a b : List Effect) → closes a ≡ false → sent_by (a ++ b) ≡ sent_by a ++ sent_by b
-sent_both [] b h = refl
-sent_both (effects.Send m ∷ a) b h = ap (λ (x : List Message). m ∷ x) (sent_both a b h)
-sent_both (effects.Deliver k origin ticket call ∷ a) b h = sent_both a b h
-sent_both (effects.Settled q outcome ∷ a) b h = sent_both a b h
-sent_both (effects.Closed reason ∷ a) b h = absurd (true≢false h)
-
-happening_both : (a b : List Effect) → closes a ≡ false → happening_by (a ++ b) ≡ happening_by a ++ happening_by b
-happening_both [] b h = refl
-happening_both (effects.Send m ∷ a) b h = happening_both a b h
-happening_both (effects.Deliver k origin ticket call ∷ a) b h = ap (λ (x : List Happening). happenings.Delivered k origin ticket call ∷ x) (happening_both a b h)
-happening_both (effects.Settled q outcome ∷ a) b h = ap (λ (x : List Happening). happenings.Settled q outcome ∷ x) (happening_both a b h)
-happening_both (effects.Closed reason ∷ a) b h = absurd (true≢false h)
+use Rattle.cp_serve.proofs.Closing.{tells_closing}
 
 -- ---- why a connection ended
 
@@ -240,6 +227,7 @@ module _ (base : Link) (w : Work) (o : objects.Work) (h : Matches base w o) wher
   owes : (a b : Table Origin) (g i : List ℕ) → b ≡ a → i ≡ g → Matches base (record w { awaited = a; given_up = g }) (record o { awaited = b; given_up = i })
   owes a b g i e f = record {
     vat = h.vat;
+    no_tails = h.no_tails;
     awaited = e;
     given_up = f;
     none_call = h.none_call;
@@ -261,11 +249,12 @@ module _ (base : Link) (w : Work) (o : objects.Work) (h : Matches base w o) wher
   }
 
   -- effects were worked off
-  worked : (es : List Effect) (sent : List Message) (c : Option Reason) (hs : List Happening) (ns : List Notice) → hs ≡ happening_by es → sent ++ sent_by es ≡ w.sent ++ sent_by w.effects
+  worked : (es : List Effect) (sent : List Message) (c : Option Reason) (hs : List Happening) (ns : List Notice) → hs ≡ happening_by es → sent ++ sent_of es ≡ w.sent ++ sent_of w.effects
       → ClosesBy c es w.vat.is_closed → is_over c es ≡ is_over w.closed w.effects → reason_in ns ≡ c
       → Matches base (record w { effects = es; sent = sent; closed = c }) (record o { link = record o.link { happened = hs }; notices = ns })
   worked es sent c hs ns happens all closes_by over reason = record {
     vat = h.vat;
+    no_tails = h.no_tails;
     awaited = h.awaited;
     given_up = h.given_up;
     none_call = h.none_call;
@@ -286,16 +275,22 @@ module _ (base : Link) (w : Work) (o : objects.Work) (h : Matches base w o) wher
     reason = reason;
   }
 
+  -- no tail calls are served after an event
+  none_served : {event : Event} {value : Value} {link : Link} → Does o.link event (Ok value) link → link.tails ≡ None
+  none_served d = served_none d h.no_tails
+
   -- the vat did an event, and its effects are left
   does : (event : Event) (value : Value) (link : Link) → (d : Does o.link event (Ok value) link) → Matches base (record w { vat = link.vat; effects = w.effects ++ d.effects }) (record o { link = link })
   does event value link d =
       let here = open_work d.was_open in
-      let law = tells_closing d.step (subst IsBetween (sym h.vat) h.between) in
+      let none_after : link.tails ≡ None = none_served d in
+      let law = tells_closing (steps_alone d h.no_tails) (subst IsBetween (sym h.vat) h.between) in
       let says : closes (w.effects ++ d.effects) ≡ closes d.effects = closes_both w.effects d.effects ∙ ap (λ (b : Bool). b || closes d.effects) here.1 in
-      let all : (w.sent ++ sent_by w.effects) ++ sent_by d.effects ≡ w.sent ++ sent_by (w.effects ++ d.effects) =
-      append_assoc w.sent (sent_by w.effects) (sent_by d.effects) ∙ ap (λ (x : List Message). w.sent ++ x) (sym (sent_both w.effects d.effects here.1)) in
+      let all : (w.sent ++ sent_of w.effects) ++ sent_of d.effects ≡ w.sent ++ sent_of (w.effects ++ d.effects) =
+      append_assoc w.sent (sent_of w.effects) (sent_of d.effects) ∙ ap (λ (x : List Message). w.sent ++ x) (sym (sent_both w.effects d.effects here.1)) in
       record {
         vat = refl;
+        no_tails = none_after;
         awaited = h.awaited;
         given_up = h.given_up;
         none_call = h.none_call;
@@ -305,11 +300,11 @@ module _ (base : Link) (w : Work) (o : objects.Work) (h : Matches base w o) wher
         bytes = h.bytes ++ d.bytes;
         frames =
             subst (λ (ms : List Message). AreFramesOf base.mode ms (h.bytes ++ d.bytes)) all
-            (frames_both base.mode (w.sent ++ sent_by w.effects) (sent_by d.effects) h.bytes d.bytes h.frames (subst (λ (m : Mode). AreFramesOf m (sent_by d.effects) d.bytes) h.same_mode d.are_frames));
+            (frames_both base.mode (w.sent ++ sent_of w.effects) (sent_of d.effects) h.bytes d.bytes h.frames (subst (λ (m : Mode). AreFramesOf m (sent_of d.effects) d.bytes) h.same_mode d.are_frames));
         goes_out = d.goes_out ∙ ap (λ (x : List ℕ). x ++ d.bytes) h.goes_out ∙ append_assoc base.unwritten h.bytes d.bytes;
         counts = λ n e.
-            d.counts (n + length (w.sent ++ sent_by w.effects)) (h.counts n e)
-            ∙ ap (λ (k : ℕ). min k (2 ^ 64 - 1)) (add_assoc n (length (w.sent ++ sent_by w.effects)) (length (sent_by d.effects)) ∙ ap (λ (k : ℕ). n + k) (sym (length-append (w.sent ++ sent_by w.effects) (sent_by d.effects)) ∙ ap (λ (ms : List Message). length ms) all));
+            d.counts (n + length (w.sent ++ sent_of w.effects)) (h.counts n e)
+            ∙ ap (λ (k : ℕ). min k (2 ^ 64 - 1)) (add_assoc n (length (w.sent ++ sent_of w.effects)) (length (sent_of d.effects)) ∙ ap (λ (k : ℕ). n + k) (sym (length-append (w.sent ++ sent_of w.effects) (sent_of d.effects)) ∙ ap (λ (ms : List Message). length ms) all));
         same_tally = d.same_tally ∙ ap (λ (t : Tally). record t { sent = link.tally.sent }) h.same_tally;
         same_mode = d.same_mode ∙ h.same_mode;
         same_limits = d.same_limits ∙ h.same_limits;
@@ -336,7 +331,7 @@ module _ (base : Link) (w : Work) (o : objects.Work) (h : Matches base w o) wher
       by : (result : Result Value ConnectionFault) → objects.HadMemory result → Acts o.link event result link → (next : Work) × IsDone w event next × Matches base next (record o { link = link })
       by (Ok value) memory d = (
         record w { vat = link.vat; effects = w.effects ++ d.effects },
-        record { result = Ok value; effects = d.effects; vat = link.vat; step = step_at event value link d.effects d.step; memory = tt; did = refl },
+        record { result = Ok value; effects = d.effects; vat = link.vat; step = step_at event value link d.effects (steps_alone d h.no_tails); memory = tt; did = refl },
         does event value link d,
       )
       by (Err fault) memory (inl ended) = (
@@ -351,7 +346,7 @@ module _ (base : Link) (w : Work) (o : objects.Work) (h : Matches base w o) wher
               result = Err refuses.0;
               effects = [];
               vat = w.vat;
-              step = refused_at o.link.vat link.vat w.vat event refuses.0 refuses.2.effects refuses.2.step fits h.vat;
+              step = refused_at o.link.vat link.vat w.vat event refuses.0 refuses.2.effects (steps_alone refuses.2 h.no_tails) fits h.vat;
               memory = fits;
               did = did_nothing;
             },
@@ -363,14 +358,14 @@ module _ (base : Link) (w : Work) (o : objects.Work) (h : Matches base w o) wher
   nothing_done event link shut done = by done.result done.memory done.acts
     where
       by : (result : Result Value ConnectionFault) → objects.HadMemory result → Acts o.link event result link → link ≡ o.link
-      by (Ok value) memory d = absurd (true≢false (sym shut ∙ was_still (step_at event value link d.effects d.step)))
+      by (Ok value) memory d = absurd (true≢false (sym shut ∙ was_still (step_at event value link d.effects (steps_alone d h.no_tails))))
       by (Err fault) memory (inl ended) = ended.1
       by (Err fault) memory (inr refuses) = refuses.3 (λ e. memory (refuses.1 ∙ ap refusal_of e))
 
   pub follows_answers : (origin : Origin) (outcome : Outcome) (link : Link) → objects.Answers o.link origin outcome link → (next : Work) × Answers w origin outcome next × Matches base next (record o { link = link })
   follows_answers origin outcome link (objects.is_taken d) = (
     record w { vat = link.vat; effects = w.effects ++ d.effects },
-    is_taken link.vat d.effects (step_at (events.Answer origin outcome) values.Nothing link d.effects d.step) refl,
+    is_taken link.vat d.effects (step_at (events.Answer origin outcome) values.Nothing link d.effects (steps_alone d h.no_tails)) refl,
     does (events.Answer origin outcome) values.Nothing link d,
   )
   follows_answers origin outcome link (objects.had_ended fault is_end (inl ended)) = (w, was_closed w.vat (step.was_closed (events.Answer origin outcome) (shut_work ended.0)) refl, unchanged link ended.1)
@@ -385,7 +380,7 @@ module _ (base : Link) (w : Work) (o : objects.Work) (h : Matches base w o) wher
       again = subst (λ (l : Link). objects.IsDone l (events.Answer origin bad_outcome) link) (refuses.3 fits) done
 
       stepped : Step w.vat (events.Answer origin outcome) (Err refuses.0) [] w.vat
-      stepped = refused_at o.link.vat mid.vat w.vat (events.Answer origin outcome) refuses.0 refuses.2.effects refuses.2.step fits h.vat
+      stepped = refused_at o.link.vat mid.vat w.vat (events.Answer origin outcome) refuses.0 refuses.2.effects (steps_alone refuses.2 h.no_tails) fits h.vat
 
       by : (b : Bool) → w.vat.is_closed ≡ b → (next : Work) × Answers w origin outcome next × Matches base next (record o { link = link })
       by true shut = (w, was_closed w.vat (step.was_closed (events.Answer origin outcome) shut) refl, unchanged link (nothing_done (events.Answer origin bad_outcome) link shut again))
@@ -398,7 +393,7 @@ module _ (base : Link) (w : Work) (o : objects.Work) (h : Matches base w o) wher
   pub follows_tries : (i : ℕ) (new : objects.Work) → objects.Tries o i new → (next : Work) × Tries w i next × Matches base next new
   follows_tries i new (objects.is_released link d e) = (
     record w { vat = link.vat; effects = w.effects ++ d.effects },
-    is_released link.vat d.effects (step_at (events.Release i) values.Nothing link d.effects d.step) refl,
+    is_released link.vat d.effects (step_at (events.Release i) values.Nothing link d.effects (steps_alone d h.no_tails)) refl,
     subst (λ (x : objects.Work). Matches base (record w { vat = link.vat; effects = w.effects ++ d.effects }) x) (sym e) (does (events.Release i) values.Nothing link d),
   )
   follows_tries i new (objects.is_refused refusal link (inl ended) stays) = absurd (no_refusal (is_over w.closed w.effects) (sym h.ended ∙ ended.0))
@@ -408,7 +403,7 @@ module _ (base : Link) (w : Work) (o : objects.Work) (h : Matches base w o) wher
       is = refused_is refusal refuses.0 refuses.1
 
       stepped : Step w.vat (events.Release i) (Err refuses.0) [] w.vat
-      stepped = refused_at o.link.vat link.vat w.vat (events.Release i) refuses.0 refuses.2.effects refuses.2.step is.1 h.vat
+      stepped = refused_at o.link.vat link.vat w.vat (events.Release i) refuses.0 refuses.2.effects (steps_alone refuses.2 h.no_tails) is.1 h.vat
 
       same : link ≡ o.link
       same = refuses.3 is.1
@@ -501,7 +496,7 @@ module _ {A : Type 0} {kind : Kind A} where
   sends_off {base = base} {o = o} seen (effects.Send m ∷ more) w e h =
       let after : Matches base (record w { effects = more; sent = w.sent ++ m ∷ [] }) o =
       worked base w o h more (w.sent ++ m ∷ []) w.closed o.link.happened o.notices (h.happens ∙ ap happening_by e)
-      (append_assoc w.sent (m ∷ []) (sent_by more) ∙ ap (λ (x : List Message). w.sent ++ x) (ap sent_by (sym e)))
+      (append_assoc w.sent (m ∷ []) (sent_of more) ∙ ap (λ (x : List Message). w.sent ++ x) (ap sent_of (sym e)))
       (closes_rest w.closed (effects.Send m) more w.vat.is_closed (subst (λ (x : List Effect). ClosesBy w.closed x w.vat.is_closed) e h.closes_by) refl)
       (over_rest w.closed (effects.Send m) more refl ∙ ap (is_over w.closed) (sym e)) h.reason in
       let led = sends_off seen more (record w { effects = more; sent = w.sent ++ m ∷ [] }) refl after in
@@ -539,11 +534,11 @@ module _ {base : Link} {o : objects.Work} (first : Happening) (link : Link) (out
   happens_by effect rest e = sym out.0 ∙ h.happens ∙ ap happening_by e
 
   -- that effect was taken
-  one_taken : (effect : Effect) (rest : List Effect) → v.effects ≡ effect ∷ rest → sent_by (effect ∷ rest) ≡ sent_by rest → closes (effect ∷ rest) ≡ closes rest → link.happened ≡ happening_by rest
+  one_taken : (effect : Effect) (rest : List Effect) → v.effects ≡ effect ∷ rest → sent_of (effect ∷ rest) ≡ sent_of rest → closes (effect ∷ rest) ≡ closes rest → link.happened ≡ happening_by rest
       → Matches base (record v { effects = rest }) (record o { link = link })
   one_taken effect rest e sends shuts happens =
       subst (λ (l : Link). Matches base (record v { effects = rest }) (record o { link = l })) (sym out.1)
-      (worked base v o h rest v.sent v.closed link.happened o.notices happens (ap (λ (x : List Message). v.sent ++ x) (sym sends ∙ ap sent_by (sym e)))
+      (worked base v o h rest v.sent v.closed link.happened o.notices happens (ap (λ (x : List Message). v.sent ++ x) (sym sends ∙ ap sent_of (sym e)))
       (closes_rest v.closed effect rest v.vat.is_closed (subst (λ (x : List Effect). ClosesBy v.closed x v.vat.is_closed) e h.closes_by) shuts)
       (over_rest v.closed effect rest shuts ∙ ap (is_over v.closed) (sym e)) h.reason)
 
@@ -601,7 +596,7 @@ module _ {base : Link} {o : objects.Work} (first : Happening) (link : Link) (out
           (refl, notes.1),
           subst (λ (x : objects.Work). Matches base (record v { closed = Some reason; effects = [] }) x) (sym notes.0)
               (subst (λ (l : Link). Matches base (record v { closed = Some reason; effects = [] }) (record o { link = l; notices = o.notices ++ notices.Closed reason ∷ [] })) (sym out.1)
-              (worked base v o h [] v.sent (Some reason) link.happened (o.notices ++ notices.Closed reason ∷ []) tails (ap (λ (x : List Message). v.sent ++ x) (ap sent_by (sym e))) (shut, refl)
+              (worked base v o h [] v.sent (Some reason) link.happened (o.notices ++ notices.Closed reason ∷ []) tails (ap (λ (x : List Message). v.sent ++ x) (ap sent_of (sym e))) (shut, refl)
               (sym (ap (λ (c : Option Reason). is_over c v.effects) none ∙ ap closes e))
               (reason_closed o.notices reason (h.reason ∙ none)))),
         )
@@ -670,7 +665,7 @@ module _ {A : Type 0} {kind : Kind A} where
   follows_message {base = base} {o = o} {between = between} m link gave d off round w h =
       let received : Work = record w { vat = link.vat; effects = w.effects ++ d.effects } in
       let done : IsDone w (events.Receive m) received =
-      record { result = Ok values.Nothing; effects = d.effects; vat = link.vat; step = step_at base w o h (events.Receive m) values.Nothing link d.effects d.step; memory = tt; did = refl } in
+      record { result = Ok values.Nothing; effects = d.effects; vat = link.vat; step = step_at base w o h (events.Receive m) values.Nothing link d.effects (steps_alone d h.no_tails); memory = tt; did = refl } in
       let one = follows_works_off off received (does base w o h (events.Receive m) values.Nothing link d) in
       let two = follows_round round one.0 one.2 one.3 in
       (two.0, takes received one.0 between gave done one.1 two.1, two.2, two.3)
@@ -681,11 +676,12 @@ and_none : (n : ℕ) → n ≡ n + 0
 and_none n = omega arith
 
 -- Nothing is left to be done but to write, and the connection goes on as it was.
-pub rests_after : {base : Link} {w : Work} {o : objects.Work} → Matches base w o → w.effects ≡ [] → (link : Link) → link.vat ≡ o.link.vat → link.happened ≡ o.link.happened → link.fault ≡ o.link.fault
+pub rests_after : {base : Link} {w : Work} {o : objects.Work} → Matches base w o → w.effects ≡ [] → (link : Link) → link.vat ≡ o.link.vat → link.tails ≡ o.link.tails → link.happened ≡ o.link.happened → link.fault ≡ o.link.fault
     → IsAllDone (written w) (record o { link = link })
-rests_after {w = w} {o = o} h none link vat happened fault = record {
+rests_after {w = w} {o = o} h none link vat tails happened fault = record {
   matches = record {
     vat = vat ∙ h.vat;
+    no_tails = tails ∙ h.no_tails;
     awaited = h.awaited;
     given_up = h.given_up;
     none_call = h.none_call;
@@ -693,9 +689,9 @@ rests_after {w = w} {o = o} h none link vat happened fault = record {
     none_held = h.none_held;
     happens = happened ∙ h.happens;
     bytes = [];
-    frames = subst (λ (es : List Effect). AreFramesOf link.mode (sent_by es) []) (sym none) refl;
+    frames = subst (λ (es : List Effect). AreFramesOf link.mode (sent_of es) []) (sym none) refl;
     goes_out = sym (append-nil link.unwritten);
-    counts = λ n e. e ∙ ap (λ (k : ℕ). min k (2 ^ 64 - 1)) (and_none n) ∙ ap (λ (es : List Effect). min (n + length (sent_by es)) (2 ^ 64 - 1)) (sym none);
+    counts = λ n e. e ∙ ap (λ (k : ℕ). min k (2 ^ 64 - 1)) (and_none n) ∙ ap (λ (es : List Effect). min (n + length (sent_of es)) (2 ^ 64 - 1)) (sym none);
     same_tally = refl;
     same_mode = refl;
     same_limits = refl;

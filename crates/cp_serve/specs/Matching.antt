@@ -4,10 +4,12 @@ use Rattle.std.specs.FinMap.{empty}
 use Rattle.cp_vat_machine.specs.State.{State, none_over}
 use Rattle.cp_vat_machine.specs.declared.effect.Effect.{Effect}
 use Rattle.cp_vat_machine.specs.declared.effect.Reason.{Reason}
+use Rattle.cp_tail_calls.specs.Bridging.{sent_of}
+use Rattle.cp_tail_calls.specs.Serving.{closes}
 use Rattle.cp_connection.specs.declared.fault.ConnectionFault.{ConnectionFault}
 use Rattle.cp_connection.specs.declared.fault.ConnectionFault.TheVariants as faults
 use Rattle.cp_connection.specs.Counting.{CountsMore}
-use Rattle.cp_connection.specs.Effects.{sent_by, happening_by, closes, AreFramesOf}
+use Rattle.cp_connection.specs.Effects.{happening_by, AreFramesOf}
 use Rattle.cp_connection.specs.Link.{Link}
 use Rattle.cp_objects.specs.declared.notice.Notice.{Notice}
 use Rattle.cp_objects.specs.declared.notice.Notice.TheVariants as notices
@@ -43,6 +45,7 @@ IsBetween s = s.is_closed ≡ false → s.waiting.over ≡ none_over
 -- What else these effects ask for has happened.
 pub record Matches (base : Link) (w : Work) (o : objects.Work) : Type 0 where
   pub vat : o.link.vat ≡ w.vat
+  pub no_tails : o.link.tails ≡ None
   pub awaited : o.awaited ≡ w.awaited
   pub given_up : o.given_up ≡ w.given_up
   pub none_call : o.may_call ≡ false
@@ -50,9 +53,9 @@ pub record Matches (base : Link) (w : Work) (o : objects.Work) : Type 0 where
   pub none_held : o.held ≡ empty
   pub happens : o.link.happened ≡ happening_by w.effects
   pub bytes : List ℕ
-  pub frames : AreFramesOf base.mode (w.sent ++ sent_by w.effects) bytes
+  pub frames : AreFramesOf base.mode (w.sent ++ sent_of w.effects) bytes
   pub goes_out : o.link.unwritten ≡ base.unwritten ++ bytes
-  pub counts : CountsMore base.tally.sent (length (w.sent ++ sent_by w.effects)) o.link.tally.sent
+  pub counts : CountsMore base.tally.sent (length (w.sent ++ sent_of w.effects)) o.link.tally.sent
   pub same_tally : o.link.tally ≡ record base.tally { sent = o.link.tally.sent }
   pub same_mode : o.link.mode ≡ base.mode
   pub same_limits : o.link.limits ≡ base.limits

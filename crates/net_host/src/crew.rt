@@ -35,7 +35,7 @@ impl<O: Servant> Crew<O> {
     pub(crate) fn new(alloc: Global, plan: &HostPlan, objects: Vec<O>) -> Crew<O> {
         Crew {
             alloc,
-            connection: Connection::new(alloc, plan.mode, plan.messages, Some(0)),
+            connection: Connection::with_tail_calls(alloc, plan.mode, plan.messages, Some(0)),
             // Nobody else uses the imports, so holders are counted: else a call that reaches no object would leave its callbacks
             // for good.
             work: Objects::that_call(alloc),

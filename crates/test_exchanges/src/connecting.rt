@@ -54,7 +54,19 @@ pub fn cut(alloc: Global, bootstrap: Option<u32>, script: &str) -> Lines {
 
 /// The lines of what a new connection does. The bytes of a frame come in pieces of this length.
 pub fn connected(alloc: Global, bootstrap: Option<u32>, piece: usize, script: &str) -> Lines {
-    let mut wire = Wire::new(alloc, bootstrap, piece);
+    let connection = Connection::new(alloc, Mode::Plain, Limits::standard(), bootstrap);
+    played_on(alloc, connection, piece, script)
+}
+
+/// The same of a connection that serves tail calls.
+pub fn tail_called(alloc: Global, bootstrap: Option<u32>, piece: usize, script: &str) -> Lines {
+    let limits = Limits::standard();
+    let connection = Connection::with_tail_calls(alloc, Mode::Plain, limits, bootstrap);
+    played_on(alloc, connection, piece, script)
+}
+
+fn played_on(alloc: Global, connection: Connection, piece: usize, script: &str) -> Lines {
+    let mut wire = Wire::new(alloc, connection, piece);
     for line in script.lines() {
         if !is_reported(line) {
             wire.turn(line);
@@ -74,11 +86,11 @@ struct Wire {
 }
 
 impl Wire {
-    fn new(alloc: Global, bootstrap: Option<u32>, piece: usize) -> Wire {
+    fn new(alloc: Global, connection: Connection, piece: usize) -> Wire {
         Wire {
             alloc,
             piece,
-            connection: Connection::new(alloc, Mode::Plain, Limits::standard(), bootstrap),
+            connection,
             sent: Lines::new(alloc),
             happened: Lines::new(alloc),
         }

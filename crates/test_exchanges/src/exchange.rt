@@ -1,7 +1,7 @@
 //! Exchanges, in each way in which they are played.
 
 use crate::bytes::sent;
-use crate::connecting::{connected, cut, wanted};
+use crate::connecting::{connected, cut, tail_called, wanted};
 use crate::pairs::{End, both_played};
 use crate::playing::{Player, played};
 use crate::running::ran;
@@ -45,7 +45,9 @@ enum Players {
     Two(Option<u32>, Option<u32>),
     /// A connection without its vat's peer, whose bytes come whole and byte by byte.
     Connection(Option<u32>),
-    /// The same, whose bytes come in pieces of each length.
+    /// The same, of a connection that serves tail calls.
+    Tails(Option<u32>),
+    /// A connection whose bytes come in pieces of each length.
     Cut(Option<u32>),
     /// A server of objects and its peer, with bytes in this form.
     Server(Mode),
@@ -59,8 +61,8 @@ enum Players {
 }
 
 impl Players {
-    /// The players of a line: `vat OBJECT`, `sender OBJECT`, `connection OBJECT`, `cut OBJECT` or `vats OBJECT OBJECT`, where an object
-    /// is `none` or `object:N`; or `server MODE`, `objects`, `objects that call`, `reader` or `calls`.
+    /// The players of a line: `vat OBJECT`, `sender OBJECT`, `connection OBJECT`, `tails OBJECT`, `cut OBJECT` or `vats OBJECT OBJECT`,
+    /// where an object is `none` or `object:N`; or `server MODE`, `objects`, `objects that call`, `reader` or `calls`.
     fn of(line: &str) -> Players {
         let mut words = line.split(' ');
         let name = words.next().unwrap_or("");
@@ -70,6 +72,7 @@ impl Players {
             "sender" => Players::Sender(first),
             "vats" => Players::Two(first, bootstrap(words.next())),
             "connection" => Players::Connection(first),
+            "tails" => Players::Tails(first),
             "cut" => Players::Cut(first),
             "server" if line == "server packed" => Players::Server(Mode::Packed),
             "server" => Players::Server(Mode::Plain),
@@ -85,7 +88,7 @@ impl Players {
         match self {
             Players::One(_) => &WAYS[..5],
             Players::Two(..) => &WAYS[1..3],
-            Players::Connection(_) => &WAYS[3..5],
+            Players::Connection(_) | Players::Tails(_) => &WAYS[3..5],
             Players::Cut(_) => &WAYS[5..6],
             Players::Server(_) => &WAYS[6..],
             Players::Objects(_) => &WAYS[7..],
@@ -106,6 +109,10 @@ impl Players {
             Players::Connection(vat) => match way {
                 Way::Connected(piece) => connected(alloc, vat, piece, script),
                 _ => cut(alloc, vat, script),
+            },
+            Players::Tails(vat) => match way {
+                Way::Connected(piece) => tail_called(alloc, vat, piece, script),
+                _ => Lines::new(alloc),
             },
             Players::Cut(vat) => cut(alloc, vat, script),
             Players::Server(mode) => match way {

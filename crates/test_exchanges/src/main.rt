@@ -20,7 +20,7 @@ use std::process::ExitCode;
 use std::{fs, io};
 
 /// The files of exchanges. The lines that several of these begin with are in `parts.txt`.
-const FILES: [&str; 13] = [
+const FILES: [&str; 14] = [
     "calls.txt",
     "connections.txt",
     "counts.txt",
@@ -33,6 +33,7 @@ const FILES: [&str; 13] = [
     "refusals.txt",
     "sessions.txt",
     "state.txt",
+    "tails.txt",
     "worlds.txt",
 ];
 

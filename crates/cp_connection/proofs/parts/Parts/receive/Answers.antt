@@ -39,7 +39,7 @@ returns-in_err-take_in-clause-unreceived c =
 pub returns-clause-keeps : goal.returns-clause-keeps
 returns-clause-keeps c = rw c.reuse.ensures.stays (λ is.
     let on = c.in_ok-take_in.ensures.keeps is in
-    record { same_mode = on.same_mode; same_limits = on.same_limits; rest = on.rest; came = on.came; kept = on.kept })
+    record { same_mode = on.same_mode; same_limits = on.same_limits; rest = on.rest; came = on.came; kept = on.kept; owes = on.owes })
 
 pub returns-clause-received : goal.returns-clause-received
 returns-clause-received c =
