@@ -25,4 +25,6 @@ mod host;
 #[cfg(test)]
 mod server;
 #[cfg(test)]
+mod session;
+#[cfg(test)]
 mod vat;

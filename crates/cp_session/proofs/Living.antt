@@ -1,0 +1,144 @@
+-- Whatever is done with a session is done with its connection, and no other byte moves.
+use Rattle.std.proofs.Common.{◌≡◌, ◌∙◌, ◌++◌, ℕ, List, [], ◌∷◌, Bool, true, false, Option, Some, None, refl, sym, ap, subst, take, append-nil}
+use Rattle.cp_connection.specs.declared.fault.ConnectionFault.{ConnectionFault}
+use Rattle.cp_connection.specs.declared.happening.Happening.{Happening}
+use Rattle.cp_connection.specs.Link.{Link}
+use Rattle.cp_connection.specs.Lives.{Life}
+use Rattle.cp_connection.specs.Lives as life
+use Rattle.cp_connection.specs.Receiving as connection
+use Rattle.cp_objects.specs.declared.notice.Notice.{Notice}
+use Rattle.cp_objects.specs.Receiving.{IsCutShort, is_unreceived, ran_out}
+use Rattle.cp_objects.specs.Rounds.{HandsOver}
+use Rattle.cp_objects.specs.Work.{Work, Lives}
+use Rattle.cp_objects.proofs.Living.{life_both, lives_none}
+use Rattle.cp_servants.specs.Servant.{Kind}
+use Rattle.cp_session.specs.declared.progress.Phase.{Phase}
+use Rattle.cp_session.specs.declared.progress.Phase.TheVariants as phases
+use Rattle.cp_session.specs.Doing as doing
+use Rattle.cp_session.specs.Laws.{LivesOn}
+use Rattle.cp_session.specs.Progress.{IsDraining}
+use Rattle.cp_session.specs.Runs.{Deed, Does, Runs, taken_by, taken_in}
+use Rattle.cp_session.specs.Runs as runs
+use Rattle.cp_session.specs.Serves.{Ends, Follows, IsUnended, Takes}
+use Rattle.cp_session.specs.Serves as serves
+use Rattle.cp_session.specs.Service.{Service}
+use Rattle.cp_session.specs.State.{State, link_of}
+
+-- a connection took these bytes, and was told that those were written
+abbrev IsLife : Link → List ℕ → List ℕ → Link → Type 0
+IsLife old taken written new = (handed : List Happening) × Life old taken written handed new
+
+-- no byte more
+life_then : {a b c : Link} {taken written : List ℕ} → IsLife a taken written b → Lives b c → IsLife a taken written c
+life_then {taken = taken} {written = written} h k = rw (← append-nil taken, ← append-nil written) (h.0 ++ k.0, life_both h.1 k.1)
+
+life_same : {a b c : Link} {taken written : List ℕ} → IsLife a taken written b → c ≡ b → IsLife a taken written c
+life_same {a = a} {taken = taken} {written = written} h e = subst (λ (l : Link). IsLife a taken written l) (sym e) h
+
+life_taking : {a b : Link} {taken others : List ℕ} → IsLife a others [] b → taken ≡ others → IsLife a taken [] b
+life_taking {a = a} {b = b} h e = subst (λ (bytes : List ℕ). IsLife a bytes [] b) (sym e) h
+
+life_of_deed : {a b : Link} {deed other : Deed} → deed ≡ other → IsLife a other.taken other.written b → IsLife a deed.taken deed.written b
+life_of_deed {a = a} {b = b} e h = subst (λ (d : Deed). IsLife a d.taken d.written b) (sym e) h
+
+life_none : (a : Link) → IsLife a [] [] a
+life_none a = ([], life.begins)
+
+life_one : {a b : Link} {taken written : List ℕ} → life.Calls a taken written [] b → IsLife a taken written b
+life_one call = ([], life.goes_on life.begins call refl refl refl)
+
+-- what a session is told of time, and that it is left, is nothing to its connection
+left_link : {A : Type 0} {kind : Kind A} {old new : State A} {now : ℕ} → doing.Leaves kind old now new → link_of new ≡ link_of old
+left_link {A = A} (doing.stays why same) = ap (λ (s : State A). link_of s) same
+left_link {A = A} (doing.leaves settled same) = ap (λ (s : State A). link_of s) same
+
+settles_link : {A : Type 0} {kind : Kind A} {old new : State A} {now : ℕ} → doing.Settles kind old now new → link_of new ≡ link_of old
+settles_link {A = A} h = left_link h.left_so ∙ ap (λ (s : State A). link_of s) h.heeds
+
+-- what a connection takes of bytes that are given
+taken_draining : (phase : Phase) (given : List ℕ) → IsDraining phase → taken_in phase given ≡ []
+taken_draining phases.Serving given draining = absurd draining
+taken_draining phases.Ending given draining = absurd draining
+taken_draining (phases.Draining since) given draining = refl
+taken_draining phases.Over given draining = absurd draining
+
+taken_none : (phase : Phase) → taken_in phase [] ≡ []
+taken_none phases.Serving = refl
+taken_none phases.Ending = refl
+taken_none (phases.Draining since) = refl
+taken_none phases.Over = refl
+
+follows_lives : {A : Type 0} (kind : Kind A) (old new : Service) (objects others : List A) (has_ended : Bool) → Follows kind has_ended old new objects others
+    → Lives old.work.link new.work.link
+follows_lives kind old new objects others true h = h.lives
+follows_lives kind old new objects others false h = subst (λ (s : Service). Lives old.work.link s.work.link) (sym h.0) (lives_none old.work.link)
+
+takes_life : {A : Type 0} {kind : Kind A} {old new : Service} {objects others : List A} (piece : List ℕ) (count : ℕ) → Takes kind old piece count new objects others
+    → IsLife old.work.link (take count piece) [] new.work.link
+takes_life {kind = kind} {old = old} piece count h =
+    life_then (life_then (life_one (life.receives piece count h.receives.1 refl)) h.receives.4)
+    (follows_lives kind (record old { work = h.work }) _ _ _ h.has_ended h.follows)
+
+cut_life : {A : Type 0} {old new : Link} {piece : List ℕ} {fault : ConnectionFault} {objects others : List A} (h : IsCutShort old piece fault new objects others)
+    → IsLife old (taken_by h) [] new
+cut_life {piece = piece} {fault = fault} (is_unreceived taken unreceived same) = life_one (life.receives_none piece fault unreceived)
+cut_life {piece = piece} (ran_out count mid received lives memory) = life_then (life_one (life.receives piece count received refl)) lives
+
+ends_life : {A : Type 0} {kind : Kind A} {old new : Service} {objects others : List A} → Ends kind old new objects others → IsLife old.work.link [] [] new.work.link
+ends_life h = life_then (life_one (life.ends h.ends)) h.polls.lives
+
+unended_life : {A : Type 0} {old new : Link} {fault : ConnectionFault} {objects others : List A} → IsUnended old fault new objects others → IsLife old [] [] new
+unended_life {fault = fault} (serves.badly badly same) = life_one (life.ends_inside fault badly)
+unended_life (serves.ran_out link ended lives memory) = life_then (life_one (life.ends ended)) lives
+
+handed_link : (notice : Option Notice) (old new : Work) → HandsOver old notice new → new.link ≡ old.link
+handed_link (Some notice) old new h = ap (λ (w : Work). w.link) h.1
+handed_link None old new h = ap (λ (w : Work). w.link) h.1
+
+receives_life : {A : Type 0} {kind : Kind A} {old new : State A} (piece : List ℕ) (now count : ℕ) → doing.Receives kind old piece now count new
+    → IsLife (link_of old) (taken_in old.progress.phase (take count piece)) [] (link_of new)
+receives_life {A = A} {old = old} piece now count (doing.drops draining all same) =
+    life_taking (life_same (life_none (link_of old)) (ap (λ (s : State A). link_of s) same)) (taken_draining old.progress.phase (take count piece) draining)
+receives_life {A = A} {old = old} piece now count (doing.holds_up drains why none same) =
+    life_taking (life_same (life_none (link_of old)) (ap (λ (s : State A). link_of s) same))
+    (ap (λ (n : ℕ). taken_in old.progress.phase (take n piece)) none ∙ taken_none old.progress.phase)
+receives_life {old = old} piece now count (doing.takes mid may taken settles) =
+    life_taking (life_same (takes_life piece count taken.takes) (settles_link settles)) (ap (λ (p : Phase). taken_in p (take count piece)) may.serves)
+
+ends_bytes_life : {A : Type 0} {kind : Kind A} {old new : State A} {now : ℕ} → doing.EndsBytes kind old now new → IsLife (link_of old) [] [] (link_of new)
+ends_bytes_life (doing.finishes mid serves done settles) = life_same (ends_life done.ends) (settles_link settles)
+ends_bytes_life {A = A} {old = old} (doing.is_known mid serves known settles) =
+    life_same (life_none (link_of old)) (settles_link settles ∙ ap (λ (s : State A). link_of s) known)
+
+polls_life : {A : Type 0} {kind : Kind A} {old new : State A} {now : ℕ} → doing.PollsOn kind old now new → IsLife (link_of old) [] [] (link_of new)
+polls_life {A = A} {old = old} (doing.rests why same) = life_same (life_none (link_of old)) (ap (λ (s : State A). link_of s) same)
+polls_life (doing.polls mid more done settles) = life_same done.works.lives (settles_link settles)
+
+-- one call of a session, and one after another
+does_life : {A : Type 0} {kind : Kind A} {old new : State A} {deed : Deed} → Does kind old deed new → IsLife (link_of old) deed.taken deed.written (link_of new)
+does_life (runs.receives piece now count done is) = life_of_deed is (receives_life piece now count done)
+does_life (runs.fails piece now fault cut is) = life_of_deed is (life_same (cut_life cut.cut.cut) (settles_link cut.settles))
+does_life (runs.ends now done is) = life_of_deed is (ends_bytes_life done)
+does_life (runs.ends_inside now fault cut is) = life_of_deed is (life_same (unended_life cut.unfinished.unended) (settles_link cut.settles))
+does_life (runs.polls now done is) = life_of_deed is (polls_life done)
+does_life (runs.runs_out now out is) = life_of_deed is (life_same out.unworked.lives (settles_link out.settles))
+does_life {A = A} {old = old} (runs.writes count now wrote is) =
+    life_of_deed is
+    (life_same (life_one (life.writes count wrote.wrote refl)) (settles_link wrote.settles ∙ ap (λ (s : State A). link_of s) wrote.moves))
+does_life {A = A} {old = old} (runs.ticks now ticked is) =
+    life_of_deed is (life_same (life_none (link_of old)) (settles_link ticked.settles ∙ ap (λ (s : State A). link_of s) ticked.same))
+does_life {A = A} {old = old} (runs.tells event told is) =
+    life_of_deed is
+    (life_same (life_none (link_of old)) (ap (λ (s : State A). link_of s) told.rest ∙ handed_link told.notice old.service.work told.work told.hands))
+does_life {A = A} (runs.calls call is_call did is) =
+    life_of_deed is (life_same (life_one (life.acts call.event call.result is_call did.1)) (ap (λ (s : State A). link_of s) did.2))
+
+runs_life : {A : Type 0} {kind : Kind A} {first last : State A} {deed : Deed} → Runs kind first deed last → IsLife (link_of first) deed.taken deed.written (link_of last)
+runs_life {first = first} runs.begins = life_none (link_of first)
+runs_life (runs.goes_on before_it does is) =
+    let h = runs_life before_it in
+    let k = does_life does in
+    life_of_deed is (h.0 ++ k.0, life_both h.1 k.1)
+
+pub lives_on : {A : Type 0} (kind : Kind A) → LivesOn kind
+lives_on kind first last deed run = runs_life run

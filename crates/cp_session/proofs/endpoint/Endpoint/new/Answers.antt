@@ -1,0 +1,12 @@
+use Rattle.std.proofs.Common.{Option, false, ap, ◌∙◌}
+use Rattle.cp_connection.specs.Link.{Link}
+use Rattle.cp_objects.specs.Work.{Work, begun}
+use Rattle.cp_session.specs.declared.search.Search.{Search}
+use Rattle.cp_session.specs.Service.{new_service}
+use Rattle.cp_session.proofs.endpoint.Endpoint.new.Goals as goal
+
+pub returns : goal.returns
+returns c =
+    let options = c.args.options.now in
+    ap (λ (w : Work). record { work = w; search = c.search_if.result; gave = false }) (c.objects_that.ensures c.with_tail_calls.result ∙ ap (λ (l : Link). begun options.may_call l) c.with_tail_calls.ensures.fresh)
+    ∙ ap (λ (s : Option Search). record (new_service options) { search = s }) c.search_if.ensures

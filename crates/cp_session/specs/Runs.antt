@@ -1,0 +1,79 @@
+-- What is done with a session, whatever it is.
+use Rattle.std.specs.Prelude.{◌≡◌, ℕ, List, [], ◌∷◌, ◌++◌, Option, Some, None, Result, Ok, Err, take, option_to_list}
+use Rattle.cp_vat_machine.specs.declared.event.Event as machine
+use Rattle.cp_vat_machine.specs.declared.event.Value.{Value}
+use Rattle.cp_connection.specs.declared.fault.ConnectionFault.{ConnectionFault}
+use Rattle.cp_connection.specs.Link.{Link}
+use Rattle.cp_connection.specs.Lives.{IsCall}
+use Rattle.cp_objects.specs.Receiving.{IsCutShort, is_unreceived, ran_out}
+use Rattle.cp_servants.specs.Servant.{Kind}
+use Rattle.cp_session.specs.declared.event.Event.{Event}
+use Rattle.cp_session.specs.declared.progress.Phase.{Phase}
+use Rattle.cp_session.specs.declared.progress.Phase.TheVariants as phases
+use Rattle.cp_session.specs.Doing.{Did, EndsBytes, EndsCut, IsUntaken, PollsOn, Receives, RunsOut, Tells, Ticks, Writes}
+use Rattle.cp_session.specs.State.{State, link_of}
+
+-- a call that the program made, and what it gave
+pub record Call : Type 0 where
+  pub event : machine.Event
+  pub result : Result Value ConnectionFault
+
+-- What one call of a session did: it was given these bytes, of which its connection took those, and dropped the others; it was told that these were written;
+-- the program made these calls; and these events were handed out.
+pub record Deed : Type 0 where
+  pub given : List ℕ
+  pub taken : List ℕ
+  pub written : List ℕ
+  pub called : List Call
+  pub told : List Event
+
+-- nothing of all this
+abbrev pub nothing : Deed
+nothing = record { given = []; taken = []; written = []; called = []; told = [] }
+
+-- one after the other
+abbrev pub both : Deed → Deed → Deed
+both one other = record {
+  given = one.given ++ other.given;
+  taken = one.taken ++ other.taken;
+  written = one.written ++ other.written;
+  called = one.called ++ other.called;
+  told = one.told ++ other.told;
+}
+
+-- these bytes were given, and what the connection took of them
+abbrev pub giving : List ℕ → List ℕ → Deed
+giving given taken = record nothing { given = given; taken = taken }
+
+-- what a connection takes of bytes that are given: none while its peer's close is waited for
+abbrev pub taken_in : Phase → List ℕ → List ℕ
+taken_in (phases.Draining since) given = []
+taken_in other given = given
+
+-- what a connection took of a piece that was cut short
+abbrev pub taken_by : {A : Type 0} {old : Link} {piece : List ℕ} {fault : ConnectionFault} {new : Link} {objects others : List A}
+    → IsCutShort old piece fault new objects others → List ℕ
+taken_by (is_unreceived taken unreceived same) = taken
+taken_by {piece = piece} (ran_out count mid received lives memory) = take count piece
+
+module _ {A : Type 0} (kind : Kind A) where
+  -- one call of a session
+  pub data Does (old : State A) : Deed → State A → Type 0 where
+    receives : {deed : Deed} {new : State A} (piece : List ℕ) (now count : ℕ) → Receives kind old piece now count new
+        → deed ≡ giving (take count piece) (taken_in old.progress.phase (take count piece)) → Does old deed new
+    fails : {deed : Deed} {new : State A} (piece : List ℕ) (now : ℕ) (fault : ConnectionFault) (cut : IsUntaken kind old piece now fault new)
+        → deed ≡ giving [] (taken_by cut.cut.cut) → Does old deed new
+    ends : {deed : Deed} {new : State A} (now : ℕ) → EndsBytes kind old now new → deed ≡ nothing → Does old deed new
+    ends_inside : {deed : Deed} {new : State A} (now : ℕ) (fault : ConnectionFault) → EndsCut kind old now fault new → deed ≡ nothing → Does old deed new
+    polls : {deed : Deed} {new : State A} (now : ℕ) → PollsOn kind old now new → deed ≡ nothing → Does old deed new
+    runs_out : {deed : Deed} {new : State A} (now : ℕ) → RunsOut kind old now new → deed ≡ nothing → Does old deed new
+    writes : {deed : Deed} {new : State A} (count now : ℕ) → Writes kind old count now new → deed ≡ record nothing { written = take count (link_of old).unwritten }
+        → Does old deed new
+    ticks : {deed : Deed} {new : State A} (now : ℕ) → Ticks kind old now new → deed ≡ nothing → Does old deed new
+    tells : {deed : Deed} {new : State A} (event : Option Event) → Tells old event new → deed ≡ record nothing { told = option_to_list event } → Does old deed new
+    calls : {deed : Deed} {new : State A} (call : Call) → IsCall call.event → Did old call.event call.result new → deed ≡ record nothing { called = call ∷ [] } → Does old deed new
+
+  -- Calls of a session, one after another, and nothing else, which together did this.
+  pub data Runs (first : State A) : Deed → State A → Type 0 where
+    begins : Runs first nothing first
+    goes_on : {before deed all : Deed} {mid new : State A} → Runs first before mid → Does mid deed new → all ≡ both before deed → Runs first all new

@@ -1,0 +1,35 @@
+-- A connection with what is done for its objects.
+use Rattle.std.specs.Prelude.{ℕ, Bool, true, false, if◌then◌else◌, Option, Some, None}
+use Rattle.cp_connection.specs.Link.{Link, new_link_with_tails}
+use Rattle.cp_objects.specs.Work.{Work, begun}
+use Rattle.cp_objects.specs.WorkOf.{work_of}
+use Rattle.cp_session.specs.declared.options.SessionOptions.{SessionOptions}
+use Rattle.cp_session.specs.declared.endpoint.Endpoint.{Endpoint}
+use Rattle.cp_session.specs.declared.search.Search.{Search}
+
+-- The connection with what is owed to its objects, when imports are sought that nobody holds, if they are, and whether an object gave what was awaited when
+-- all were polled last.
+pub record Service : Type 0 where
+  pub work : Work
+  pub search : Option Search
+  pub gave : Bool
+
+-- an endpoint by its parts
+abbrev pub service_of : Endpoint → Service
+service_of endpoint = record { work = work_of endpoint.work endpoint.connection; search = endpoint.search; gave = endpoint.gave }
+
+-- nothing was sought, if something is
+abbrev pub first_search : Bool → Option Search
+first_search releases_idle = if releases_idle then Some (record { from = 0 }) else None
+
+-- nothing came to it
+abbrev pub new_service : SessionOptions → Service
+new_service options = record {
+  work = begun options.may_call (new_link_with_tails options.mode options.messages options.bootstrap);
+  search = first_search options.releases_idle;
+  gave = false;
+}
+
+-- the same, with another connection
+abbrev pub with_link : Service → Link → Service
+with_link service link = record service { work = record service.work { link = link } }

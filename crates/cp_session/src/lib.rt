@@ -1,0 +1,19 @@
+//! A session: one end of a connection with its objects, without a device and without a clock. Bytes and time come in; bytes, events
+//! and the next deadline go out.
+#![tactic(auto)]
+
+mod endpoint;
+mod event;
+mod laws;
+mod limits;
+mod options;
+mod progress;
+mod search;
+mod session;
+
+pub use event::Event;
+pub use laws::{lives, nobody_serves, written_first};
+pub use limits::SessionLimits;
+pub use options::SessionOptions;
+pub use progress::Limit;
+pub use session::Session;

@@ -1,0 +1,145 @@
+//! What a session tells, and how it ends.
+
+use crate::frames::{ABORT, ABORTED, ANSWER, AT_ONCE, BOOTSTRAP, DESK, STRANGE_FINISH, bytes_of};
+use cp_connection::ConnectionFault;
+use cp_frame::Mode;
+use cp_servants::Desk;
+use cp_session::{Event, Limit, Session, SessionLimits, SessionOptions};
+use cp_vat_machine::Reason;
+use cp_words::Limits;
+use std::alloc::Global;
+use std::process::Abort;
+
+/// A session without objects, within these limits, that names one to its peer or none.
+fn session_naming(alloc: Global, limits: SessionLimits, bootstrap: Option<u32>) -> Session<Desk> {
+    let options = SessionOptions {
+        mode: Mode::Plain,
+        messages: Limits::standard(),
+        bootstrap,
+        may_call: true,
+        releases_idle: false,
+        limits,
+    };
+    Session::new(alloc, &options, Vec::new(alloc), 0)
+}
+
+/// The same, that names none.
+fn session(alloc: Global, limits: SessionLimits) -> Session<Desk> {
+    session_naming(alloc, limits, None)
+}
+
+/// The session takes a frame, or part of one, at this time.
+fn take(rt: &impl Abort, alloc: Global, session: &mut Session<Desk>, frame: &str, now: u64) {
+    let bytes = bytes_of(rt, alloc, &[frame]);
+    let count = session.receive(&bytes, now).expect(rt, "a message");
+    check!(rt; count == bytes.len());
+}
+
+/// All that waits goes out.
+fn write(session: &mut Session<Desk>, now: u64) {
+    let count = session.outgoing().len();
+    session.wrote(count, now);
+}
+
+#[test]
+fn an_outcome_is_told_once(rt: HostRuntime) {
+    let alloc = rt.alloc();
+    let mut session = session(alloc, SessionLimits::unlimited());
+    let question = session.bootstrap().expect(&rt, "a question");
+    check!(&rt; session.outgoing() == bytes_of(&rt, alloc, &[BOOTSTRAP]).as_slice());
+    // With no bytes ahead nothing is taken before all was written.
+    check!(&rt; !session.takes_bytes());
+    write(&mut session, 0);
+    take(&rt, alloc, &mut session, DESK, 0);
+    let event = session.poll_event();
+    check!(&rt; question == 0 && matches!(event, Some(Event::Outcome { question: 0, .. })));
+    drop(event);
+    check!(&rt; session.poll_event().is_none());
+    drop(session);
+}
+
+#[test]
+fn an_end_is_told_once_all_was_written(rt: HostRuntime) {
+    let alloc = rt.alloc();
+    let mut session = session(alloc, SessionLimits::standard());
+    take(&rt, alloc, &mut session, BOOTSTRAP, 0);
+    session.end(1).expect(&rt, "an end");
+    check!(&rt; session.poll_event().is_none() && !session.is_over());
+    write(&mut session, 2);
+    check!(&rt; session.is_over());
+    check!(&rt; matches!(session.poll_event(), Some(Event::Ended)));
+    check!(&rt; session.poll_event().is_none());
+    drop(session);
+}
+
+#[test]
+fn an_abort_goes_out_before_the_peers_close(rt: HostRuntime) {
+    let alloc = rt.alloc();
+    let mut session = session(alloc, SessionLimits::standard());
+    take(&rt, alloc, &mut session, STRANGE_FINISH, 0);
+    check!(&rt; matches!(session.poll_event(), Some(Event::Closed(Reason::Fault(_)))));
+    check!(&rt; session.poll_event().is_none() && !session.takes_bytes());
+    check!(&rt; session.outgoing() == bytes_of(&rt, alloc, &[ABORTED]).as_slice());
+    write(&mut session, 3);
+    check!(&rt; session.is_draining() && session.deadline() == Some(5_003));
+    // What comes before the close is dropped.
+    take(&rt, alloc, &mut session, AT_ONCE, 4);
+    check!(&rt; session.outgoing().is_empty());
+    session.end(4).expect(&rt, "an end");
+    check!(&rt; session.is_over() && session.poll_event().is_none());
+    drop(session);
+}
+
+#[test]
+fn a_peers_abort_is_told(rt: HostRuntime) {
+    let alloc = rt.alloc();
+    let mut session = session(alloc, SessionLimits::standard());
+    take(&rt, alloc, &mut session, ABORT, 0);
+    check!(&rt; matches!(session.poll_event(), Some(Event::Closed(Reason::Peer(_)))));
+    check!(&rt; session.is_draining());
+    drop(session);
+}
+
+#[test]
+fn a_stream_that_is_cut_is_a_fault(rt: HostRuntime) {
+    let alloc = rt.alloc();
+    let mut session = session(alloc, SessionLimits::standard());
+    let bytes = bytes_of(&rt, alloc, &[BOOTSTRAP]);
+    check!(&rt; bytes.len() > 9);
+    let count = session.receive(&bytes[..9], 0).expect(&rt, "a part");
+    check!(&rt; count == 9);
+    check!(&rt; session.end(1).is_err());
+    check!(&rt; matches!(session.poll_event(), Some(Event::Fault(ConnectionFault::Unreadable { at: 0, .. }))));
+    check!(&rt; session.poll_event().is_none());
+    drop(session);
+}
+
+#[test]
+fn a_limit_ends_it(rt: HostRuntime) {
+    let alloc = rt.alloc();
+    let mut session = session(alloc, SessionLimits::standard());
+    session.tick(299_999);
+    check!(&rt; !session.is_over() && session.deadline() == Some(300_000));
+    session.tick(300_000);
+    check!(&rt; session.is_over() && session.deadline().is_none());
+    check!(&rt; matches!(session.poll_event(), Some(Event::Limit(Limit::Idle))));
+    drop(session);
+}
+
+/// A Return to question 3, an exception of type failed with the reason `no such object`, as the layouts say.
+const NO_SUCH_OBJECT: &str = "\
+    000000000b0000000000000001000100030000000000000000000000020001000300000001000100\
+    000000000000000000000000010002000000000000000000050000007a0000000000000000000000\
+    6e6f2073756368206f626a6563740000";
+
+#[test]
+fn a_call_of_nobody_fails(rt: HostRuntime) {
+    let alloc = rt.alloc();
+    let mut session = session_naming(alloc, SessionLimits::standard(), Some(0));
+    take(&rt, alloc, &mut session, BOOTSTRAP, 0);
+    check!(&rt; session.outgoing() == bytes_of(&rt, alloc, &[ANSWER]).as_slice());
+    write(&mut session, 0);
+    take(&rt, alloc, &mut session, AT_ONCE, 0);
+    check!(&rt; session.outgoing() == bytes_of(&rt, alloc, &[NO_SUCH_OBJECT]).as_slice());
+    drop(session);
+}
