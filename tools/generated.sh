@@ -1,6 +1,6 @@
 #!/usr/bin/env bash
 # tools/generated.sh    whether capnpc_rattle and `rt fmt` write again what is kept: cp_schema_capnp, of the request in crates/capnpc_rattle/stdin, and
-#                       addressbook and store, of their schemas, where `capnp` is installed. A plugin that isn't built runs unproved, as a first look.
+#                       addressbook, board and store, of their schemas, where `capnp` is installed. A plugin that isn't built runs unproved, as a first look.
 #
 # The request is what `capnp compile -o-` printed of the schema.capnp that the reference library has beside it (0.9.2).
 set -eu
@@ -23,13 +23,16 @@ compare() { # CRATE    once what the plugin wrote of it is laid out
 
 generate "$root/crates/capnpc_rattle/stdin" --crate=cp_schema_capnp --only="$(paste -sd, "$root/crates/cp_schema_capnp/only.txt")"
 compare cp_schema_capnp
+regenerate() { # CRATE OPTION
+    (cd "$root/crates/$1" && capnp compile -o- "$1.capnp") >"$room/request"
+    generate "$room/request" "$2"
+    compare "$1"
+}
+
 if command -v capnp >/dev/null; then
-    (cd "$root/crates/addressbook" && capnp compile -o- addressbook.capnp) >"$room/request"
-    generate "$room/request" --drafts
-    compare addressbook
-    (cd "$root/crates/store" && capnp compile -o- store.capnp) >"$room/request"
-    generate "$room/request" --interfaces
-    compare store
+    regenerate addressbook --drafts
+    regenerate board --interfaces
+    regenerate store --interfaces
 fi
 [ "$differ" -eq 0 ] || fail "the plugin writes otherwise than what is kept, as shown above"
 say "the plugin writes again what is kept"

@@ -1,5 +1,5 @@
 #!/usr/bin/env python3
-"""tools/sentences.py [FILE..]    lists sentences over 30 words, lines over 140 characters and table cells over 120.
+"""tools/sentences.py [FILE..]    lists sentences over 30 words, lines over 120 characters and table cells over 120.
 
 Without FILE it reads README.md, bench/README.md and docs/. It skips code blocks; code within a line counts as one word, and
 a table's lines may be long. The status is 1 where something is listed.
@@ -29,7 +29,7 @@ def parts_of(text):
 
 def faults_of(text):
     for number, line in enumerate(text.splitlines(), 1):
-        if len(line) > 140 and not line.startswith(("|", "    ")):
+        if len(line) > 120 and not line.startswith(("|", "    ")):
             yield number, f"a line of {len(line)} characters"
         if line.startswith("|"):
             yield from ((number, f"a cell of {len(it.strip())}: {it.strip()[:60]}") for it in line.split("|") if len(it.strip()) > 120)

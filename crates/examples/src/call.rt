@@ -15,7 +15,7 @@ pub fn run(rt: &HostRuntime) -> anyhow::Result<()> {
     let (mode, limits) = (Mode::Plain, Limits::standard());
     let mut client = Client::new(alloc, answers, io::sink(), mode, limits);
     let text = kept(alloc, &mut client);
-    // A client that ends so, and isn't dropped, leaves this crate no vat's drop to prove.
+    // This consumes the client, so that the prover needn't check its drop here.
     let _ = client.into_devices();
     println!(rt; "{}", text?.as_str())?;
     Ok(())

@@ -1,6 +1,9 @@
-//! Runs each example on its file of `data/`, under a heading.
+//! Runs each example on its file of `data/`, under a heading. With the word `server` it serves a board, and with `client` it calls it.
 #![tactic(auto)]
 
+mod board_client;
+mod board_server;
+mod board_test;
 mod book;
 mod call;
 mod connection;
@@ -11,25 +14,38 @@ mod vat;
 mod view;
 mod write;
 
+use std::env;
+
 fn main(rt: HostRuntime) -> anyhow::Result<()> {
-    heading(&rt, "count")?;
-    count::run(&rt)?;
-    heading(&rt, "view")?;
-    view::run(&rt)?;
-    heading(&rt, "write")?;
-    write::run(&rt)?;
-    heading(&rt, "book")?;
-    book::run(&rt)?;
-    heading(&rt, "draft")?;
-    draft::run(&rt)?;
-    heading(&rt, "serve")?;
-    serve::run(&rt)?;
-    heading(&rt, "call")?;
-    call::run(&rt)?;
-    heading(&rt, "connection")?;
-    connection::run(&rt)?;
-    heading(&rt, "vat")?;
-    vat::run(&rt)
+    match env::args(&rt)?.nth(1) {
+        Some(word) if word.as_str() == "server" => board_server::run(&rt),
+        Some(word) if word.as_str() == "client" => board_client::run(&rt),
+        _ => run_all(&rt),
+    }
+}
+
+/// Runs all examples that need no socket.
+fn run_all(rt: &HostRuntime) -> anyhow::Result<()> {
+    heading(rt, "count")?;
+    count::run(rt)?;
+    heading(rt, "view")?;
+    view::run(rt)?;
+    heading(rt, "write")?;
+    write::run(rt)?;
+    heading(rt, "book")?;
+    book::run(rt)?;
+    heading(rt, "draft")?;
+    draft::run(rt)?;
+    heading(rt, "serve")?;
+    serve::run(rt)?;
+    heading(rt, "call")?;
+    call::run(rt)?;
+    heading(rt, "connection")?;
+    connection::run(rt)?;
+    heading(rt, "vat")?;
+    vat::run(rt)?;
+    heading(rt, "board_test")?;
+    board_test::run(rt)
 }
 
 /// Prints an example's name on a line of its own.

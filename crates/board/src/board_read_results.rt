@@ -1,0 +1,83 @@
+//! `board_read_results` of board.capnp.
+
+ghost use Rattle.std.specs.Prelude.{◌≡◌, IfOk};
+ghost use Rattle.cp_fields.specs.Pointers.{Reads, struct_field};
+ghost use Rattle.cp_builder.specs.Drafts.{blank};
+
+use cp_builder::StructDraft;
+use cp_fields::{Pointee, StructView, WrongKind};
+use cp_stubs::{Promised, ResultPayload, Results};
+use cp_tree::Whole;
+use std::alloc::{AllocError, Global};
+
+/// `struct Board.read$Results`.
+#[derive(Drop)]
+pub struct BoardReadResultsView<'a> {
+    /// The struct, by the places of its fields.
+    pub body: StructView<'a>,
+}
+
+impl<'a> BoardReadResultsView<'a> {
+    /// The struct that a pointer stands for; null is the struct whose fields are all as by default.
+    pub fn of(at: Pointee<'a>) -> Result<BoardReadResultsView<'a>, WrongKind>
+        ensures { Reads result (λ x. x.body) (struct_field at.entry) }
+    {
+        Ok(BoardReadResultsView {
+            body: StructView::of(at)?,
+        })
+    }
+}
+
+/// `struct Board.read$Results`, to be written.
+#[derive(Drop)]
+pub struct BoardReadResultsDraft {
+    /// The struct, by the places of its fields.
+    pub body: StructDraft<0, 0>,
+}
+
+impl BoardReadResultsDraft {
+    /// A struct whose fields are all as by default.
+    pub fn new(alloc: Global) -> Result<BoardReadResultsDraft, AllocError>
+        ensures { IfOk result (λ d. d.body ≡ blank 0 0) }
+    {
+        Ok(BoardReadResultsDraft {
+            body: StructDraft::new(alloc)?,
+        })
+    }
+}
+
+impl Results for BoardReadResultsDraft {
+    ghost content = { λ d. d.body };
+
+    fn into_whole(self) -> Whole {
+        self.body.into_whole()
+    }
+}
+
+/// `struct Board.read$Results`, as a question will give it.
+#[derive(Drop)]
+pub struct BoardReadResultsPromise {
+    /// The question, and the path to the struct.
+    pub at: Promised,
+}
+
+impl BoardReadResultsPromise {
+    /// The number of the question, whose outcome can be waited for.
+    pub fn question(&self) -> u32
+        ensures { result ≡ self.now.at.question }
+    {
+        self.at.question()
+    }
+
+    /// The results that came.
+    pub fn results<'a>(
+        &self,
+        came: &'a ResultPayload,
+    ) -> Result<BoardReadResultsView<'a>, WrongKind>
+        ensures { Reads result (λ x. x.body) (struct_field came.now.content) }
+    {
+        Ok(BoardReadResultsView {
+            body: came.results()?,
+        })
+    }
+}

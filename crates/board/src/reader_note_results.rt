@@ -1,0 +1,83 @@
+//! `reader_note_results` of board.capnp.
+
+ghost use Rattle.std.specs.Prelude.{◌≡◌, IfOk};
+ghost use Rattle.cp_fields.specs.Pointers.{Reads, struct_field};
+ghost use Rattle.cp_builder.specs.Drafts.{blank};
+
+use cp_builder::StructDraft;
+use cp_fields::{Pointee, StructView, WrongKind};
+use cp_stubs::{Promised, ResultPayload, Results};
+use cp_tree::Whole;
+use std::alloc::{AllocError, Global};
+
+/// `struct Reader.note$Results`.
+#[derive(Drop)]
+pub struct ReaderNoteResultsView<'a> {
+    /// The struct, by the places of its fields.
+    pub body: StructView<'a>,
+}
+
+impl<'a> ReaderNoteResultsView<'a> {
+    /// The struct that a pointer stands for; null is the struct whose fields are all as by default.
+    pub fn of(at: Pointee<'a>) -> Result<ReaderNoteResultsView<'a>, WrongKind>
+        ensures { Reads result (λ x. x.body) (struct_field at.entry) }
+    {
+        Ok(ReaderNoteResultsView {
+            body: StructView::of(at)?,
+        })
+    }
+}
+
+/// `struct Reader.note$Results`, to be written.
+#[derive(Drop)]
+pub struct ReaderNoteResultsDraft {
+    /// The struct, by the places of its fields.
+    pub body: StructDraft<0, 0>,
+}
+
+impl ReaderNoteResultsDraft {
+    /// A struct whose fields are all as by default.
+    pub fn new(alloc: Global) -> Result<ReaderNoteResultsDraft, AllocError>
+        ensures { IfOk result (λ d. d.body ≡ blank 0 0) }
+    {
+        Ok(ReaderNoteResultsDraft {
+            body: StructDraft::new(alloc)?,
+        })
+    }
+}
+
+impl Results for ReaderNoteResultsDraft {
+    ghost content = { λ d. d.body };
+
+    fn into_whole(self) -> Whole {
+        self.body.into_whole()
+    }
+}
+
+/// `struct Reader.note$Results`, as a question will give it.
+#[derive(Drop)]
+pub struct ReaderNoteResultsPromise {
+    /// The question, and the path to the struct.
+    pub at: Promised,
+}
+
+impl ReaderNoteResultsPromise {
+    /// The number of the question, whose outcome can be waited for.
+    pub fn question(&self) -> u32
+        ensures { result ≡ self.now.at.question }
+    {
+        self.at.question()
+    }
+
+    /// The results that came.
+    pub fn results<'a>(
+        &self,
+        came: &'a ResultPayload,
+    ) -> Result<ReaderNoteResultsView<'a>, WrongKind>
+        ensures { Reads result (λ x. x.body) (struct_field came.now.content) }
+    {
+        Ok(ReaderNoteResultsView {
+            body: came.results()?,
+        })
+    }
+}

@@ -1,0 +1,74 @@
+//! Reads the board of the example `board_server` and adds a note, in one round trip.
+
+use board::{
+    BoardClient, BoardPostParamsDraft, BoardReadParamsDraft, ReaderClient, ReaderNoteParamsView,
+    ReaderNoteResultsDraft, ReaderServant, ReaderServer,
+};
+use jamdrosek::client::{Client, ExportedObjects, Question};
+use jamdrosek::interfaces::{Answer, MethodCall, MethodFault, ServerObject, Table, payload_of};
+use jamdrosek::{Limits, Mode};
+use std::alloc::Global;
+use std::io::{Read, Write};
+use std::net::{Ipv4Addr, SocketAddr, TcpStream};
+
+pub fn run(rt: &HostRuntime) -> anyhow::Result<()> {
+    let alloc = rt.alloc();
+    let stream = TcpStream::connect(rt, SocketAddr::from((Ipv4Addr::LOCALHOST, 7000)))?;
+    let mut client = Client::new(alloc, &stream, &stream, Mode::Plain, Limits::standard());
+    let said = read_and_post(alloc, &mut client);
+    // This consumes the client, so that the prover needn't check its drop here.
+    let _ = client.into_devices();
+    println!(rt; "{}", said?.as_str())?;
+    Ok(())
+}
+
+/// Makes all its calls before the server has answered the first. Returns the notes, and how many there are now.
+pub fn read_and_post<R: Read + Drop, W: Write + Drop>(
+    alloc: Global,
+    client: &mut Client<R, W>,
+) -> anyhow::Result<String> {
+    let board = BoardClient::new(alloc, client.bootstrap()?.cap(alloc));
+    let mut readers = ExportedObjects::new(alloc);
+    let object = Lines {
+        alloc,
+        text: String::new(alloc),
+    };
+    let reader = readers.export(ReaderServant { alloc, object })?;
+    let mut table = Table::new(alloc);
+    let mut read = BoardReadParamsDraft::new(alloc)?;
+    read.set_reader_client(&mut table, ReaderClient::new(alloc, reader))?;
+    board.read(client, read, table)?;
+    let mut post = BoardPostParamsDraft::new(alloc)?;
+    post.set_text(alloc, "hello")?;
+    let posted = board.post(client, post)?;
+    let number = posted.question();
+    let came = payload_of(readers.wait(client, Question { number })?)?;
+    let count = posted.results(&came)?.count();
+    let mut said = format!(in alloc; "note {count} is posted")?;
+    for reader in readers.objects() {
+        said.push_str(reader.object.text.as_str())?;
+    }
+    Ok(said)
+}
+
+/// The notes with which a reader was called, each on a line.
+#[derive(Drop)]
+struct Lines {
+    alloc: Global,
+    text: String,
+}
+
+impl ServerObject for Lines {}
+
+impl ReaderServer for Lines {
+    fn note(
+        &mut self,
+        _call: &MethodCall,
+        params: &ReaderNoteParamsView<'_>,
+    ) -> Result<Answer<ReaderNoteResultsDraft>, MethodFault> {
+        self.text.push_str("\n  ")?;
+        let note = params.text()?.text(self.alloc)?;
+        self.text.push_str(note.as_str())?;
+        Ok(Answer::of(self.alloc, ReaderNoteResultsDraft::new(self.alloc)?))
+    }
+}
