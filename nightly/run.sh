@@ -12,16 +12,20 @@
 #   relay     sessions of C++ clients and of peers at fault through a relay    a minute
 #   fields    texts of schemas, read by generated code and by the reference tool   half an hour
 #   schemas   random schemas, shown and read by generated code as by the reference tool   half an hour
+#   texts     texts by random schemas, made messages of as by the reference tool     five minutes
 #   host      many connections at once, and the sessions of peers with them    four minutes
 #   load      an hour of 1,000 connections that come and go                    an hour and two minutes, with a fifth of a processor
 #   callees   calls of servers by the reference library, and of peers at fault two minutes
 #   faults    sessions with faults of memory, system calls, peers and disk     five minutes
+#   readme    the story of the README, in a fresh clone, each line pasted      five minutes
+#   tails     tail calls with C++ peers, both ways, and in orders by hand        the proof of a program of its own, and 10 seconds
 #   interfaces typed clients and objects with those of the reference library  the proofs of five crates of its own, and a minute
 #   sessions  15,000 random sessions with two servers                          ten minutes
 #   crowd     the same with servers that serve 16 of them at once              ten minutes
 #   served    20 million messages of random sessions, served in memory         a minute, and half of one with the address sanitizer
 #   pieces    sessions, clients' peers and relayed streams, cut at each byte   some three minutes
 #   starved   1,000 random sessions, once for each of their allocations        five minutes
+#   embed     programs in C, C++, Python and Rust over libjamdrosek            the proofs of its crates, and a minute
 #   fuzz      10 million frames by libFuzzer, and 600,000 with the sanitizer   two minutes on four processors
 #   night     100 million inputs over all these; INPUTS=N has another number,  a quarter of an hour on four idle processors
 #             SEED=N others of them
@@ -32,7 +36,7 @@
 set -u
 here=$(cd "$(dirname "${BASH_SOURCE[0]}")" && pwd)
 root=$(dirname "$here")
-all=(look memory moves peers matrix relay fields schemas host load callees faults interfaces sessions crowd served pieces starved fuzz edits plants)
+all=(look memory moves peers matrix relay fields schemas texts host load callees tails faults readme interfaces sessions crowd served pieces starved embed fuzz edits plants)
 alone=night # runs only where it is named: it takes as long as all others
 planted=(cp_words cp_tables cp_writing cp_packed cp_frame cp_messages cp_rpc cp_stream cp_refs cp_vat cp_serve)
 
@@ -47,6 +51,8 @@ crates_with() { (cd "$root/crates" && grep -rl "$1" -- */src | cut -d/ -f1 | sor
 library() { "$root/tools/build.sh" bench_c; }
 
 built() { "$root/tools/build.sh" cp_cli; }
+
+embed() { "$root/tools/build.sh" jamdrosek_c && "$root/embed/run.sh" "$folder/embed"; }
 
 fuzzers() { library && make -s -C "$here/fuzz" B="$folder" KIT="$kit" "${@/#/$folder/}"; } # PROGRAM..
 
@@ -79,13 +85,19 @@ schemas() {
         "$here/schemas/run.sh" "$root/crates/capnpc_rattle/out/capnpc_rattle" "$folder/schemas" "$server"
 }
 
+texts() { built && "$here/texts/run.sh" "$server" "$folder/texts"; }
+
 host() { built && "$here/host/run.sh" "$server" "$folder"; }
 
 load() { built && "$here/load/run.sh" "$server" "$folder/load" 3600; }
 
 callees() { built && "$here/callees/run.sh" "$server" "$folder/callees"; }
 
+tails() { mkdir -p "$folder/tails" && "$here/tails/run.sh" "$folder/tails"; }
+
 faults() { built && "$here/faults/run.sh" "$server" "$folder/faults"; }
+
+readme() { rm -rf "$folder/readme" && mkdir "$folder/readme" && "$here/readme/follow.py" "$folder/readme"; }
 
 interfaces() { "$here/interfaces/run.sh" "$folder/interfaces"; }
 

@@ -98,7 +98,7 @@ expect 0 "tells: 0
 gives: 1005
 asks: 505
 becomes: 7
-reflects: the connection is closed" "$build/answering" "$port" tells gives asks becomes reflects
+reflects: 0" "$build/answering" "$port" tells gives asks becomes reflects
 echo "server: objects of the client's, called while it waits"
 
 many "i=$trial m=1" "$calls" "$cli" call "$at"
@@ -151,7 +151,6 @@ peer 1 "aborted by the peer: failed: no" read send "$build/abort" pause
 peer 1 "aborted by the peer: failed: no" send "$build/abort"
 peer 1 "aborted by the peer: failed: no" read drip "$build/abort" until
 peer 1 "the peer's messages ended" read
-peer 1 "the peer's messages ended"
 peer 1 "refused at byte 0: F3 Truncated" read half "$build/abort"
 peer 1 "refused at byte 0: F1 TooManySegments" read send "$build/garbage" pause
 peer 2 "device: $at: Connection reset by peer (os error 104)" read reset
