@@ -4,6 +4,7 @@
 //   Desk.never: fails
 //   Cell.add, Cell.get: the number
 //   Trial: as trial.capnp says
+#include "trial.capnp.h"
 #include "../peers/cell.hpp"
 #include <capnp/ez-rpc.h>
 #include <kj/async.h>

@@ -1,6 +1,5 @@
-// A Cell over the reference library.
+// A Cell over the reference library. The generated header that has Cell is included before.
 #pragma once
-#include "trial.capnp.h"
 
 class CellServer : public Cell::Server {
   uint64_t held;

@@ -7,6 +7,7 @@
 //                                                           server goes
 //        client PORT late 1                                 with either: calls again after 4 seconds, when the server has closed
 // The status is 0 if each went as it should; else an exception says what didn't.
+#include "trial.capnp.h"
 #include "cell.hpp"
 #include <capnp/rpc-twoparty.h>
 #include <capnp/rpc.capnp.h>

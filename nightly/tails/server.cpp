@@ -1,27 +1,10 @@
 // A server by the reference library, of Tails (tails.capnp). Usage: server ADDRESS (HOST:PORT)
 #include "tails.capnp.h"
+#include "../peers/cell.hpp"
 #include <capnp/ez-rpc.h>
 #include <kj/async.h>
 #include <kj/async-io.h>
 #include <kj/timer.h>
-
-class CellServer final : public Cell::Server {
-  uint64_t held;
-
- public:
-  explicit CellServer(uint64_t held) : held(held) {}
-
-  kj::Promise<void> add(AddContext context) override {
-    held += context.getParams().getAmount();
-    context.getResults().setValue(held);
-    return kj::READY_NOW;
-  }
-
-  kj::Promise<void> get(GetContext context) override {
-    context.getResults().setValue(held);
-    return kj::READY_NOW;
-  }
-};
 
 class TailsServer final : public Tails::Server {
   kj::Timer* timer;
