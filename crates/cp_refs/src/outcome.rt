@@ -18,7 +18,8 @@ pub enum Outcome {
     Results { content: Whole, caps: Caps },
     /// An exception.
     Failed(Exception),
-    /// Nothing: it was finished before.
+    /// Nothing: it was finished before. Don't answer with this while the caller still waits: a C++ peer closes the connection over a
+    /// Return `canceled` of a question that it didn't finish.
     Canceled,
 }
 
