@@ -1,5 +1,5 @@
 -- What the vat did is what the connection does.
-use Rattle.std.proofs.Common.{◌≡◌, ◌≢◌, ◌⊎◌, inl, ℕ, ◌+◌, ◌-◌, ◌^◌, ◌++◌, ◌∷◌, min, Bool, true, false, List, [], Option, Some, None, Result, Ok, Err, inr, refl, sym, ap, ◌∙◌, subst, append-nil, is_none, true≢false, arith}
+use Rattle.std.proofs.Common.{◌≡◌, ◌≢◌, ◌⊎◌, inl, ℕ, ◌+◌, ◌-◌, ◌^◌, ◌++◌, ◌∷◌, min, Bool, true, false, List, [], Option, None, Result, Ok, Err, inr, refl, sym, ap, ◌∙◌, subst, append-nil, is_none, true≢false, arith}
 use Rattle.cp_messages.specs.declared.message.Message.{Message}
 use Rattle.cp_vat_machine.specs.Asked.{stage_of}
 use Rattle.cp_vat_machine.specs.Run.{Moment}
@@ -11,11 +11,9 @@ use Rattle.cp_vat_machine.specs.declared.effect.Effect.{Effect}
 use Rattle.cp_vat_machine.specs.declared.event.Event.{Event}
 use Rattle.cp_vat_machine.specs.declared.event.Event.TheVariants as events
 use Rattle.cp_vat_machine.specs.declared.event.Value.{Value}
-use Rattle.cp_vat_machine.specs.declared.event.Value.TheVariants as values
 use Rattle.cp_vat_machine.specs.declared.fault.VatFault.{VatFault}
 use Rattle.cp_vat_machine.specs.declared.fault.VatFault.TheVariants as refusals
-use Rattle.cp_vat.specs.Stepping as vat
-use Rattle.cp_tail_calls.specs.Serving.{Served, Goes, Serves, calls, takes, keeps, refuses, closes, comes_of, gets, is_message, moment, trigger_of}
+use Rattle.cp_tail_calls.specs.Serving.{Served, Goes, Serves, calls, refuses, comes_of, is_message, moment, trigger_of}
 use Rattle.cp_tail_calls.specs.Tails.{Tails}
 use Rattle.cp_tail_calls.specs.declared.owed.Trigger.{Trigger}
 use Rattle.cp_tail_calls.specs.declared.owed.Trigger.TheVariants as triggers
@@ -23,12 +21,12 @@ use Rattle.cp_connection.specs.declared.agenda.Agenda.{Agenda}
 use Rattle.cp_connection.specs.declared.fault.ConnectionFault.{ConnectionFault}
 use Rattle.cp_connection.specs.declared.fault.ConnectionFault.TheVariants as faults
 use Rattle.cp_connection.specs.declared.parts.Parts.{Parts}
-use Rattle.cp_connection.specs.Noting.{Notes, Stays}
+use Rattle.cp_connection.specs.Noting.{Notes}
 use Rattle.cp_connection.specs.Refusing.{refusal_of}
 use Rattle.cp_connection.specs.Link.{Link}
 use Rattle.cp_connection.specs.LinkOf.{closed_if, link_of, refused_by, tails_if}
-use Rattle.cp_connection.specs.Doing.{Acts, answered, ended_by, served, Does, HadEnded, Refuses}
-use Rattle.cp_connection.specs.Settling.{behind, closed_by, Concludes, Follows, GetsFor, GoesOnIf, Loses, NotesAll, Settled}
+use Rattle.cp_connection.specs.Doing.{Acts, ended_by, Does, HadEnded, Refuses}
+use Rattle.cp_connection.specs.Settling.{behind, closed_by, Concludes, Follows, Loses, NotesAll}
 
 -- a refusal changes nothing
 pub refused_same : {old new : State} {event : Event} {fault : VatFault} {all : List Effect} → Step old event (Err fault) all new → fault ≢ refusals.OutOfMemory → new ≡ old

@@ -16,7 +16,7 @@ use Rattle.cp_messages.specs.declared.small.Release.{Release}
 use Rattle.cp_vat_machine.specs.declared.effect.Effect.{Effect}
 use Rattle.cp_vat_machine.specs.declared.effect.Effect.TheVariants as effects
 use Rattle.cp_vat_laws.specs.Sizes.{IsWritable}
-use Rattle.cp_tail_calls.specs.Receiving.{Passed, received, receive_call, receive_return, receive_returned, receive_finish, receive_finish_of, finish_taken, finish_if, given, goes_on, is_due, is_to_sender, is_untaken, let_go, return_of_none, sent_elsewhere, taken, taker_by, to_caller, with_new_call, with_call}
+use Rattle.cp_tail_calls.specs.Receiving.{Passed, received, receive_call, receive_return, receive_returned, receive_finish_of, finish_taken, finish_if, given, goes_on, is_due, is_to_sender, is_untaken, let_go, return_of_none, sent_elsewhere, taken, taker_by, to_caller, with_new_call, with_call}
 use Rattle.cp_tail_calls.specs.Sending.{sent, send_return_of, next_of, resolution_for}
 use Rattle.cp_tail_calls.specs.Serving.{comes_of, passed_on, sends_first}
 use Rattle.cp_tail_calls.specs.Tails.{Tails}

@@ -1,6 +1,5 @@
 -- What a vat does behind tail calls: what happens by it, and that it is one step where none are served.
 use Rattle.std.proofs.Common.{◌≡◌, ◌≢◌, Bool, true, false, List, [], ◌∷◌, ◌++◌, Option, Some, None, Result, Ok, Err, refl, sym, ap, ◌∙◌, subst, append-nil, is_none, true≢false}
-use Rattle.cp_tables.specs.declared.exchange.Stage.{Stage}
 use Rattle.cp_messages.specs.declared.message.Message.{Message}
 use Rattle.cp_vat_machine.specs.Asked.{stage_of}
 use Rattle.cp_vat_machine.specs.Run.{Moment}

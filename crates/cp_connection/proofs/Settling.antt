@@ -25,7 +25,7 @@ use Rattle.cp_connection.specs.declared.fault.ConnectionFault.TheVariants as fau
 use Rattle.cp_connection.specs.declared.parts.Parts.{Parts}
 use Rattle.cp_connection.specs.Noting.{Notes, Stays, Marks, GoesBack}
 use Rattle.cp_connection.specs.Owing.{AreSendable, OwesSendable}
-use Rattle.cp_connection.specs.Settling.{behind, closed_by, MayNote, NotesEvent, Passes, Leads, PassesOn, PassesIf, Settled, Follows, Loses}
+use Rattle.cp_connection.specs.Settling.{behind, closed_by, MayNote, NotesEvent, Passes, PassesOn, PassesIf, Settled, Follows, Loses}
 use Rattle.cp_connection.proofs.Noting.{notes_none, notes_both, grows_none, grows_by, grows_both, closes_later, closes_comes, stays_back}
 use Rattle.cp_connection.proofs.Owing.{comes_owes, rest_owes}
 

@@ -1,10 +1,10 @@
 -- What the vat did for a message of the peer's, or what followed where it got none, is what the connection does for it.
-use Rattle.std.proofs.Common.{◌≡◌, ◌≢◌, ◌⊎◌, inl, inr, Bool, true, false, List, [], ◌∷◌, ◌++◌, Option, Some, None, Result, Ok, Err, refl, sym, ap, ◌∙◌, subst, is_none, true≢false}
+use Rattle.std.proofs.Common.{◌≡◌, ◌≢◌, ◌⊎◌, inl, inr, Bool, true, false, List, [], Option, Some, None, Result, Ok, Err, refl, sym, ap, ◌∙◌, subst, is_none, true≢false}
 use Rattle.cp_messages.specs.declared.message.Message.{Message}
 use Rattle.cp_vat_machine.specs.Asked.{stage_of}
 use Rattle.cp_vat_machine.specs.Run.{Moment}
 use Rattle.cp_vat_machine.specs.State.{State}
-use Rattle.cp_vat_machine.specs.Step.{Step, was_closed, ran_out, refused}
+use Rattle.cp_vat_machine.specs.Step.{Step, ran_out}
 use Rattle.cp_vat_machine.specs.Supported.{is_supported_to_caller}
 use Rattle.cp_vat_machine.specs.declared.acted.Acted.{Acted}
 use Rattle.cp_vat_machine.specs.declared.effect.Effect.{Effect}
@@ -14,7 +14,7 @@ use Rattle.cp_vat_machine.specs.declared.fault.VatFault.{VatFault}
 use Rattle.cp_vat_machine.specs.declared.fault.VatFault.TheVariants as refusals
 use Rattle.cp_vat.specs.Stepping as vat
 use Rattle.cp_tail_calls.specs.Receiving.{Passed, received}
-use Rattle.cp_tail_calls.specs.Serving.{Served, Goes, Serves, takes, keeps, gets, comes_of, moment}
+use Rattle.cp_tail_calls.specs.Serving.{Served, Goes, Serves, takes, keeps, gets}
 use Rattle.cp_tail_calls.specs.Tails.{Tails}
 use Rattle.cp_tail_calls.specs.declared.owed.Trigger.TheVariants as triggers
 use Rattle.cp_connection.specs.declared.fault.ConnectionFault.{ConnectionFault}
@@ -25,7 +25,7 @@ use Rattle.cp_connection.specs.Refusing.{refusal_of}
 use Rattle.cp_connection.specs.Link.{Link}
 use Rattle.cp_connection.specs.LinkOf.{closed_if, link_of, refused_by, tails_if}
 use Rattle.cp_connection.specs.Doing.{Acts, answered, Does, Refuses}
-use Rattle.cp_connection.specs.Settling.{behind, Follows, GetsFor, GoesOnIf, Loses, NotesAll, Settled}
+use Rattle.cp_connection.specs.Settling.{behind, GetsFor, GoesOnIf, Loses, NotesAll, Settled}
 use Rattle.cp_connection.proofs.Concluding.{message_refused, was_still, goes_so, does_noted, loses, refuses_so}
 use Rattle.cp_connection.proofs.Owing.{received_owes}
 

@@ -1,5 +1,5 @@
 -- Tail calls go on by turns, one event after another.
-use Rattle.std.proofs.Common.{◌≡◌, ◌≢◌, false, true≢false, List, [], ◌∷◌, ◌++◌, Option, Some, Result, Ok, Err, refl, sym, ap, ◌∙◌, subst, append-nil, append_assoc}
+use Rattle.std.proofs.Common.{◌≡◌, ◌≢◌, false, true≢false, List, [], ◌∷◌, ◌++◌, Result, Ok, Err, refl, sym, ap, ◌∙◌, subst, append-nil, append_assoc}
 use Rattle.cp_messages.specs.declared.message.Message.{Message}
 use Rattle.cp_vat_machine.specs.Asked.{stage_of}
 use Rattle.cp_vat_machine.specs.Run.{Moment}
@@ -12,7 +12,6 @@ use Rattle.cp_vat_machine.specs.declared.fault.VatFault.{VatFault}
 use Rattle.cp_tail_calls.specs.Bridging.{HaveDone, answered, got, heard, in_all, message_of, messages_of, said, sent_in, sent_of}
 use Rattle.cp_tail_calls.specs.Runs.{Turn}
 use Rattle.cp_tail_calls.specs.Serving.{Served, Serves, refuses, is_message}
-use Rattle.cp_tail_calls.specs.Tails.{Tails}
 use Rattle.cp_tail_calls.proofs.Bridging.{bridges_turns}
 use Rattle.cp_connection.specs.Turns.{NoneLost, Tells, TellTurns}
 

@@ -76,6 +76,7 @@ impl Connection {
     ghost use Rattle.cp_frame.specs.Reader.{taken_of};
     ghost use Rattle.cp_vat_machine.specs.declared.event.Event.TheVariants as events;
     ghost use Rattle.cp_vat_machine.specs.declared.event.Value.TheVariants as values;
+    ghost use Rattle.cp_vat_machine.specs.InUse.{is_object_used};
     ghost use Rattle.cp_vat.specs.Kept.{entries_of};
     ghost use Rattle.cp_connection.specs.Link.{HasCome, new_link, new_link_with_tails};
     ghost use Rattle.cp_connection.specs.Doing.{Acts, answered};
@@ -262,6 +263,13 @@ impl Connection {
         self.parts.check_open()?;
         let acted = self.parts.vat.idle();
         self.parts.conclude(acted, Trigger::Application)
+    }
+
+    /// Whether the vat refers to this object, as `Vat::uses_object` says. A happening that wasn't taken may name it too.
+    pub fn uses_object(&self, object: u32) -> bool
+        ensures { result ≡ is_object_used self.now.vat object }
+    {
+        self.parts.vat.uses_object(object)
     }
 
     /// Why the connection ended, if it did.

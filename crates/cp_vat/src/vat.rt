@@ -5,6 +5,7 @@ ghost use Rattle.std.specs.FinMap as map;
 ghost use Rattle.cp_rpc.specs.Viewed.{viewed};
 ghost use Rattle.cp_vat_machine.specs.State.{new_state};
 ghost use Rattle.cp_vat_machine.specs.Asked.{stage_of};
+ghost use Rattle.cp_vat_machine.specs.InUse.{is_object_used};
 ghost use Rattle.cp_vat_machine.specs.Step.{Step};
 ghost use Rattle.cp_vat_machine.specs.declared.event.Event.TheVariants as events;
 ghost use Rattle.cp_vat_machine.specs.declared.event.Value.TheVariants as values;
@@ -122,6 +123,14 @@ impl Vat {
         ensures { result ≡ map.len self.now.values.promises }
     {
         self.core.values.values().promises().len()
+    }
+
+    /// Whether it refers to this object: a Bootstrap gets it, the peer was given it and holds it, an answer or a promise that is kept
+    /// names it, a call that waits does, or an embargo leads to it.
+    pub fn uses_object(&self, object: u32) -> bool
+        ensures { result ≡ is_object_used self.now object }
+    {
+        self.core.is_object_used(object)
     }
 
     /// Whether it is closed: it refuses each event then.

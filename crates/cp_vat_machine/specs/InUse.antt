@@ -18,7 +18,11 @@ use Rattle.cp_refs.specs.declared.values.QuestionKind.TheVariants as kinds
 use Rattle.cp_vat_machine.specs.State.{State}
 use Rattle.cp_vat_machine.specs.declared.entry.QuestionEntry.{QuestionEntry}
 
--- it is this promise, this import, or a path of this question
+-- it is this object, this promise, this import, or a path of this question
+abbrev pub is_object : ℕ → Cap → Bool
+is_object k (caps.Object j) = j == k
+is_object k other = false
+
 abbrev pub is_promise : ℕ → Cap → Bool
 is_promise p (caps.Promise q) = q == p
 is_promise p other = false
@@ -86,6 +90,20 @@ is_promise_used s p =
     || list_any (λ entry. is_promise p entry.kept) (values s.counts.exports)
     || list_any (λ call. is_at_promise p call.gate) (waiting_calls s)
     || list_any (is_promise p) (values s.marks.embargoes)
+
+-- what a Bootstrap gets is this object
+abbrev pub is_bootstrap : ℕ → Option ℕ → Bool
+is_bootstrap k None = false
+is_bootstrap k (Some j) = j == k
+
+-- An object is in use where it is kept or an import's value, while it is exported or given to a Bootstrap, and where an embargo leads.
+abbrev pub is_object_used : State → ℕ → Bool
+is_object_used s k =
+    list_any (is_object k) (kept_caps s)
+    || list_any (is_object k) (flat_map option_to_list (values s.values.imports))
+    || list_any (λ entry. is_object k entry.kept) (values s.counts.exports)
+    || list_any (is_object k) (values s.marks.embargoes)
+    || is_bootstrap k s.bootstrap
 
 -- a question is in use where calls wait at it, and where a waiting call's table names it
 abbrev pub is_question_used : State → ℕ → Bool

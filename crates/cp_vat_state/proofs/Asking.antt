@@ -11,7 +11,7 @@ use Rattle.cp_refs.specs.declared.call.WaitingCall.{WaitingCall}
 use Rattle.cp_refs.specs.declared.route.Gate.{Gate}
 use Rattle.cp_refs.specs.declared.route.Gate.TheVariants as gates
 use Rattle.cp_refs.specs.declared.values.QuestionState.{QuestionState}
-use Rattle.cp_vat_machine.specs.InUse.{is_import, is_promise, is_at_promise, is_at_question, caps_given, value_unless}
+use Rattle.cp_vat_machine.specs.InUse.{is_import, is_object, is_promise, is_at_promise, is_at_question, caps_given, value_unless}
 use Rattle.cp_vat_state.specs.Sought.{is_sought, is_named, named_by, awaited_at}
 use Rattle.cp_vat_state.specs.Counts.{number_of, times_in}
 use Rattle.cp_vat_state.specs.Holding.{AreHeld, own_uses, AreHeldByCalls, AreLedTo}
@@ -99,7 +99,13 @@ pub waits_at_question : (calls : Table WaitingCall) (uses : Uses) (q : ℕ) → 
 waits_at_question calls uses q is = waits_at calls uses (sought.PathOf q) is ∙ ap (λ f. list_any f (values calls)) (λ i call. question_gate q call.gate i)
 
 -- ---- embargoes
+-- an embargo leads to what is looked for
+leads : (embargoes : Table Cap) (led_to : Holders) (s : Sought) → AreLedTo embargoes led_to → ltb 0 (number_of led_to s) ≡ list_any (is_sought s) (values embargoes)
+leads embargoes led_to s is =
+    ap (λ n. ltb 0 n) (is s) ∙ sym (any_counts (λ cap. is_named s (named_by cap)) (values embargoes)) ∙ ap (λ f. list_any f (values embargoes)) (λ i cap. sym (sought_named s cap) i)
+
 pub leads_to : (embargoes : Table Cap) (led_to : Holders) (p : ℕ) → AreLedTo embargoes led_to → ltb 0 (number_of led_to (sought.Promise p)) ≡ list_any (is_promise p) (values embargoes)
-leads_to embargoes led_to p is =
-    ap (λ n. ltb 0 n) (is (sought.Promise p)) ∙ sym (any_counts (λ cap. is_named (sought.Promise p) (named_by cap)) (values embargoes))
-    ∙ ap (λ f. list_any f (values embargoes)) (λ i cap. sym (sought_named (sought.Promise p) cap) i)
+leads_to embargoes led_to p is = leads embargoes led_to (sought.Promise p) is
+
+pub leads_to_object : (embargoes : Table Cap) (led_to : Holders) (k : ℕ) → AreLedTo embargoes led_to → ltb 0 (number_of led_to (sought.Object k)) ≡ list_any (is_object k) (values embargoes)
+leads_to_object embargoes led_to k is = leads embargoes led_to (sought.Object k) is

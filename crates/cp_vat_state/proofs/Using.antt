@@ -13,7 +13,7 @@ use Rattle.cp_refs.specs.declared.cap.Cap.{Cap}
 use Rattle.cp_refs.specs.declared.cap.Cap.TheVariants as caps
 use Rattle.cp_vat_machine.specs.State.{State, new_state, with_exports}
 use Rattle.cp_vat_machine.specs.Writing.{HasNoExport, IsExport}
-use Rattle.cp_vat_machine.specs.InUse.{is_promise}
+use Rattle.cp_vat_machine.specs.InUse.{is_object, is_promise}
 use Rattle.std.proofs.lemmas.Bool.Decides.{nat_tests}
 use Rattle.std.proofs.Common.{arith, ◌≢◌, is_some, ◌==◌, MatchOption}
 use Rattle.cp_vat_state.proofs.Joining.{number_ties, number_differs, left_true, right_true, find-below}
@@ -79,3 +79,20 @@ pub is_exported : (exports : Table (Counted Cap)) (p : ℕ) (n : Option ℕ)
 is_exported exports p None found = sym (no-value (λ entry. is_promise p entry.kept) exports (λ e. every _ (get exports e) (λ entry here. is_other p entry.kept (if_some _ (get exports e) entry here (found (new_state None) e)))))
 is_exported exports p (Some e) found =
     let here = found (new_state None) in sym (any-value (λ entry. is_promise p entry.kept) exports e (record { count = here.0; kept = caps.Promise p }) here.1 (is_itself p))
+
+-- any other capability isn't the object
+is_other_object : (k : ℕ) (cap : Cap) → cap ≢ caps.Object k → is_object k cap ≡ false
+is_other_object k (caps.Object j) other = elim (cases_eq j k) [ inl same ↦ absurd (other (ap caps.Object same)) | inr differs ↦ grind (arith, nat_tests) ]
+is_other_object k caps.None other = refl
+is_other_object k (caps.Promise p) other = refl
+is_other_object k (caps.Import i) other = refl
+is_other_object k (caps.Pipelined q path) other = refl
+is_other_object k (caps.Broken exception) other = refl
+
+-- an object's export is found exactly where it is among the exports
+pub is_object_exported : (exports : Table (Counted Cap)) (k : ℕ) (n : Option ℕ)
+    → ((s : State) → MatchOption n (HasNoExport (with_exports s exports) (caps.Object k)) (λ e. IsExport (with_exports s exports) e (caps.Object k)))
+    → is_some n ≡ list_any (λ entry. is_object k entry.kept) (values exports)
+is_object_exported exports k None found = sym (no-value (λ entry. is_object k entry.kept) exports (λ e. every _ (get exports e) (λ entry here. is_other_object k entry.kept (if_some _ (get exports e) entry here (found (new_state None) e)))))
+is_object_exported exports k (Some e) found =
+    let here = found (new_state None) in sym (any-value (λ entry. is_object k entry.kept) exports e (record { count = here.0; kept = caps.Object k }) here.1 (is_itself k))

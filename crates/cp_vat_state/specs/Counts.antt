@@ -22,6 +22,7 @@ once b = cond b 1 0
 abbrev pub number_of : Holders → Sought → ℕ
 number_of h (sought.Import i) = count_at h.imports i
 number_of h (sought.Promise p) = count_at h.promises p
+number_of h (sought.Object k) = count_at h.objects k
 number_of h (sought.PathOf q) = count_at h.questions q
 
 -- how often it is what is named

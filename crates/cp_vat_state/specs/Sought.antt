@@ -5,7 +5,7 @@ use Rattle.cp_refs.specs.declared.cap.Cap.TheVariants as caps
 use Rattle.cp_refs.specs.declared.route.Gate.{Gate}
 use Rattle.cp_refs.specs.declared.route.Gate.TheVariants as gates
 use Rattle.cp_refs.specs.declared.values.QuestionState.{QuestionState}
-use Rattle.cp_vat_machine.specs.InUse.{is_import, is_promise, is_pipelined_of, caps_given}
+use Rattle.cp_vat_machine.specs.InUse.{is_import, is_object, is_promise, is_pipelined_of, caps_given}
 use Rattle.cp_vat_state.specs.declared.sought.Sought.{Sought}
 use Rattle.cp_vat_state.specs.declared.sought.Sought.TheVariants as sought
 
@@ -13,12 +13,14 @@ use Rattle.cp_vat_state.specs.declared.sought.Sought.TheVariants as sought
 abbrev pub is_sought : Sought → Cap → Bool
 is_sought (sought.Import i) = is_import i
 is_sought (sought.Promise p) = is_promise p
+is_sought (sought.Object k) = is_object k
 is_sought (sought.PathOf q) = is_pipelined_of q
 
 -- what a capability is found as
 abbrev pub named_by : Cap → Option Sought
 named_by (caps.Import i) = Some (sought.Import i)
 named_by (caps.Promise p) = Some (sought.Promise p)
+named_by (caps.Object k) = Some (sought.Object k)
 named_by (caps.Pipelined q path) = Some (sought.PathOf q)
 named_by other = None
 
@@ -32,6 +34,7 @@ awaited_at other = None
 abbrev pub is_same : Sought → Sought → Bool
 is_same (sought.Import i) (sought.Import j) = j == i
 is_same (sought.Promise p) (sought.Promise q) = q == p
+is_same (sought.Object k) (sought.Object j) = j == k
 is_same (sought.PathOf q) (sought.PathOf p) = p == q
 is_same s other = false
 

@@ -3,7 +3,7 @@
 ghost use Rattle.std.specs.Prelude.{◌≡◌, ◌≢◌, ◌≤◌, ◌↔◌, Some, None, IsOk, IsSome, IfOk, OnOk, IsOkUnless, IsErrOf, OnErr, option_copied};
 ghost use Rattle.std.specs.List.{list_any};
 ghost use Rattle.std.specs.FinMap as map;
-ghost use Rattle.cp_vat_machine.specs.InUse.{is_promise};
+ghost use Rattle.cp_vat_machine.specs.InUse.{is_object, is_promise};
 
 use crate::holders::Holders;
 use crate::sought::Sought;
@@ -84,6 +84,13 @@ impl CountedEmbargoes {
         ensures { result ≡ list_any (is_promise id) (map.values self.now) }
     {
         self.led_to.has(Sought::Promise(id))
+    }
+
+    /// Whether an embargo leads to the object.
+    pub(crate) fn lead_to_object(&self, id: u32) -> bool
+        ensures { result ≡ list_any (is_object id) (map.values self.now) }
+    {
+        self.led_to.has(Sought::Object(id))
     }
 
     /// Opens an embargo under a free number.

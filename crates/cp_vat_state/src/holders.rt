@@ -1,4 +1,4 @@
-//! How often imports, promises and questions are held.
+//! How often imports, promises, objects and questions are held.
 
 ghost use Rattle.std.specs.Prelude.{◌≡◌, ltb, option_to_list, OnOk, OnErr};
 ghost use Rattle.cp_vat_machine.specs.InUse.{caps_given};
@@ -11,11 +11,12 @@ use crate::sought::Sought;
 use cp_refs::{Cap, KeptOutcome, QuestionState};
 use std::alloc::{AllocError, Global};
 
-/// How often each import, each promise and each question's paths are held.
+/// How often each import, each promise, each object and each question's paths are held.
 /// By these counts `release`, `forget` and `finish` need no walk over the tables.
 pub(crate) struct Holders {
     imports: Counts,
     promises: Counts,
+    objects: Counts,
     questions: Counts,
 }
 
@@ -25,6 +26,7 @@ impl Drop for Holders {
         let Holders {
             imports: _,
             promises: _,
+            objects: _,
             questions: _,
         } = self;
     }
@@ -38,6 +40,7 @@ impl Holders {
         Holders {
             imports: Counts::new(alloc),
             promises: Counts::new(alloc),
+            objects: Counts::new(alloc),
             questions: Counts::new(alloc),
         }
     }
@@ -49,6 +52,7 @@ impl Holders {
         match sought {
             Sought::Import(id) => self.imports.get(id),
             Sought::Promise(id) => self.promises.get(id),
+            Sought::Object(id) => self.objects.get(id),
             Sought::PathOf(id) => self.questions.get(id),
         }
     }
@@ -68,6 +72,7 @@ impl Holders {
         match named {
             Some(Sought::Import(id)) => self.imports.raise(id),
             Some(Sought::Promise(id)) => self.promises.raise(id),
+            Some(Sought::Object(id)) => self.objects.raise(id),
             Some(Sought::PathOf(id)) => self.questions.raise(id),
             None => Ok(()),
         }
@@ -80,6 +85,7 @@ impl Holders {
         match named {
             Some(Sought::Import(id)) => self.imports.lower(id),
             Some(Sought::Promise(id)) => self.promises.lower(id),
+            Some(Sought::Object(id)) => self.objects.lower(id),
             Some(Sought::PathOf(id)) => self.questions.lower(id),
             None => {}
         }

@@ -3,7 +3,7 @@
 ghost use Rattle.std.specs.Prelude.{◌≡◌};
 ghost use Rattle.std.specs.List.{list_any};
 ghost use Rattle.std.specs.FinMap as map;
-ghost use Rattle.cp_vat_machine.specs.InUse.{is_promise, is_unsettled};
+ghost use Rattle.cp_vat_machine.specs.InUse.{is_bootstrap, is_object, is_promise, is_unsettled};
 ghost use Rattle.cp_vat_state.specs.Sought.{is_sought};
 
 use crate::exports::{Exported, Hosted};
@@ -16,7 +16,7 @@ use std::alloc::AllocError;
 impl Core {
     ghost use Rattle.std.specs.Prelude.{◌≡◌, IfOk};
     ghost use Rattle.std.specs.List.{list_any};
-    ghost use Rattle.cp_vat_machine.specs.InUse.{kept_caps, is_import_used, is_promise_used, is_question_used, idle_imports, idle_promises};
+    ghost use Rattle.cp_vat_machine.specs.InUse.{kept_caps, is_import_used, is_promise_used, is_object_used, is_question_used, idle_imports, idle_promises};
     ghost use Rattle.cp_vat_state.specs.StateOf.{state_of};
 
     /// Whether an import is kept, or is another import's value.
@@ -37,6 +37,18 @@ impl Core {
             || is_exported(&self.exports, id)
             || self.gates.is_at_promise(id)
             || self.marks.lead_to(id)
+    }
+
+    /// Whether an object is kept, an import's value or exported, is given to a Bootstrap, or an embargo
+    /// leads to it.
+    pub fn is_object_used(&self, id: u32) -> bool
+        ensures { result ≡ is_object_used (state_of self.now) id }
+    {
+        self.is_kept(Sought::Object(id))
+            || self.values.is_import_value(Sought::Object(id))
+            || is_object_exported(&self.exports, id)
+            || self.marks.lead_to_object(id)
+            || is_bootstrap(self.bootstrap, id)
     }
 
     /// Whether calls wait at a question, or a waiting call's table names it.
@@ -86,6 +98,22 @@ fn is_open(values: &Values, id: PromiseId) -> bool
     ensures { result ≡ is_unsettled (map.get values.now.promises id) }
 {
     matches!(values.promise(id), Some(None))
+}
+
+fn is_object_exported(exports: &Exported, id: u32) -> bool
+    ensures { result ≡ list_any (λ entry. is_object id entry.kept) (map.values exports.now) }
+{
+    exports.number(Hosted::Object(id)).is_some()
+}
+
+/// Whether a Bootstrap gets the object.
+fn is_bootstrap(bootstrap: Option<u32>, id: u32) -> bool
+    ensures { result ≡ is_bootstrap id bootstrap }
+{
+    match bootstrap {
+        Some(other) => other == id,
+        None => false,
+    }
 }
 
 fn is_exported(exports: &Exported, id: PromiseId) -> bool

@@ -3,7 +3,7 @@
 ghost use Rattle.std.specs.Prelude.{◌≡◌, ◌∷◌, Some, IsSome, IfOk, IfNone, OnSome, option_copied};
 ghost use Rattle.std.specs.List.{list_any};
 ghost use Rattle.std.specs.FinMap as map;
-ghost use Rattle.cp_vat_machine.specs.InUse.{is_promise};
+ghost use Rattle.cp_vat_machine.specs.InUse.{is_object, is_promise};
 ghost use Rattle.cp_vat_machine.specs.Resolving.{is_under};
 ghost use Rattle.cp_vat_state.specs.Under.{unmarked};
 
@@ -98,6 +98,13 @@ impl Marks {
         ensures { result ≡ list_any (is_promise id) (map.values self.now.embargoes) }
     {
         self.embargoes.lead_to(id)
+    }
+
+    /// Whether an embargo leads to the object.
+    pub(crate) fn lead_to_object(&self, id: u32) -> bool
+        ensures { result ≡ list_any (is_object id) (map.values self.now.embargoes) }
+    {
+        self.embargoes.lead_to_object(id)
     }
 
     /// The mark of a reference, with its embargo once one was asked for.

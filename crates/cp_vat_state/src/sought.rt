@@ -7,6 +7,7 @@ use cp_refs::{Cap, Gate, PromiseId};
 pub(crate) enum Sought {
     Import(u32),
     Promise(PromiseId),
+    Object(u32),
     /// What the question gives at any path.
     PathOf(u32),
 }
@@ -22,8 +23,9 @@ impl Sought {
         match cap {
             Cap::Import(id) => Some(Sought::Import(*id)),
             Cap::Promise(id) => Some(Sought::Promise(*id)),
+            Cap::Object(id) => Some(Sought::Object(*id)),
             Cap::Pipelined(id, _) => Some(Sought::PathOf(*id)),
-            Cap::None | Cap::Object(_) | Cap::Broken(_) => None,
+            Cap::None | Cap::Broken(_) => None,
         }
     }
 
