@@ -4,8 +4,8 @@ use Rattle.cp_objects.specs.declared.notice.Notice.TheVariants as notices
 use Rattle.cp_objects.specs.Rounds.{HandsOver}
 use Rattle.cp_objects.specs.Work.{Work}
 use Rattle.cp_vat_machine.specs.declared.effect.Reason.{Reason}
-use Rattle.cp_session.specs.declared.event.Event.{Event}
-use Rattle.cp_session.specs.declared.event.Event.TheVariants as events
+use Rattle.cp_session.specs.declared.event.SessionEvent.{SessionEvent}
+use Rattle.cp_session.specs.declared.event.SessionEvent.TheVariants as events
 use Rattle.cp_session.specs.Doing.{Tells, knows_by, told_of}
 use Rattle.cp_session.specs.State.{State, with_progress}
 
@@ -14,12 +14,12 @@ pub knows_closed : (told : Bool) (reason : Reason) → knows_by (if told then No
 knows_closed true reason = refl
 knows_closed false reason = refl
 
-pub tells_closed : {A : Type 0} (old new : State A) (event : Option Event) (work : Work) (reason : Reason) → HandsOver old.service.work (Some (notices.Closed reason)) work
+pub tells_closed : {A : Type 0} (old new : State A) (event : Option SessionEvent) (work : Work) (reason : Reason) → HandsOver old.service.work (Some (notices.Closed reason)) work
     → event ≡ told_of old (Some (notices.Closed reason))
     → new ≡ with_progress (record old { service = record old.service { work = work } }) (record old.progress { is_told = true }) → Tells old event new
 tells_closed old new event work reason hands is e =
     let told = old.progress.is_told in
-    let knows : knows_by event told ≡ true = ap (λ (ev : Option Event). knows_by ev told) is ∙ knows_closed told reason in
+    let knows : knows_by event told ≡ true = ap (λ (ev : Option SessionEvent). knows_by ev told) is ∙ knows_closed told reason in
     record {
       notice = Some (notices.Closed reason);
       work = work;

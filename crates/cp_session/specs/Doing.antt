@@ -16,8 +16,8 @@ use Rattle.cp_objects.specs.Receiving.{IsCutShort}
 use Rattle.cp_objects.specs.Rounds.{HandsOver}
 use Rattle.cp_objects.specs.Work.{Work, Lives}
 use Rattle.cp_servants.specs.Servant.{Kind}
-use Rattle.cp_session.specs.declared.event.Event.{Event}
-use Rattle.cp_session.specs.declared.event.Event.TheVariants as events
+use Rattle.cp_session.specs.declared.event.SessionEvent.{SessionEvent}
+use Rattle.cp_session.specs.declared.event.SessionEvent.TheVariants as events
 use Rattle.cp_session.specs.declared.limits.SessionLimits.{SessionLimits}
 use Rattle.cp_session.specs.declared.progress.Limit.{Limit}
 use Rattle.cp_session.specs.declared.progress.Phase.{Phase}
@@ -35,7 +35,7 @@ or_else (Some fault) other = Some fault
 or_else None other = other
 
 -- The event that comes after all outcomes says why nothing more is taken: a limit was met; or there was a fault; or the peer's bytes ended, and all went out.
-abbrev pub ending_by : Option Limit → Option ConnectionFault → Phase → Option Event
+abbrev pub ending_by : Option Limit → Option ConnectionFault → Phase → Option SessionEvent
 ending_by (Some limit) fault phase = Some (events.Limit limit)
 ending_by None (Some fault) phase = Some (events.Fault fault)
 ending_by None None phases.Over = Some events.Ended
@@ -198,19 +198,19 @@ module _ {A : Type 0} (kind : Kind A) where
     pub settles : Settles mid now new
 
 -- what is told of a notice, or where there is none
-abbrev pub told_of : {A : Type 0} → State A → Option Notice → Option Event
+abbrev pub told_of : {A : Type 0} → State A → Option Notice → Option SessionEvent
 told_of state (Some (notices.Settled question outcome)) = Some (events.Outcome question outcome)
 told_of state (Some (notices.Closed reason)) = if state.progress.is_told then None else Some (events.Closed reason)
 told_of state None = if state.progress.is_told then None else ending_by state.progress.limit (fault_of state) state.progress.phase
 
 -- whether the program knows then why nothing more is taken
-abbrev pub knows_by : Option Event → Bool → Bool
+abbrev pub knows_by : Option SessionEvent → Bool → Bool
 knows_by None told = told
 knows_by (Some (events.Outcome question outcome)) told = told
 knows_by (Some other) told = true
 
 -- An event is handed out, if there is one: each outcome that came, once and in order, and what says why nothing more is taken, once.
-pub record Tells {A : Type 0} (old : State A) (event : Option Event) (new : State A) : Type 0 where
+pub record Tells {A : Type 0} (old : State A) (event : Option SessionEvent) (new : State A) : Type 0 where
   pub notice : Option Notice
   pub work : Work
   pub hands : HandsOver old.service.work notice work

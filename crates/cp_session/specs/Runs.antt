@@ -7,7 +7,7 @@ use Rattle.cp_connection.specs.Link.{Link}
 use Rattle.cp_connection.specs.Lives.{IsCall}
 use Rattle.cp_objects.specs.Receiving.{IsCutShort, is_unreceived, ran_out}
 use Rattle.cp_servants.specs.Servant.{Kind}
-use Rattle.cp_session.specs.declared.event.Event.{Event}
+use Rattle.cp_session.specs.declared.event.SessionEvent.{SessionEvent}
 use Rattle.cp_session.specs.declared.progress.Phase.{Phase}
 use Rattle.cp_session.specs.declared.progress.Phase.TheVariants as phases
 use Rattle.cp_session.specs.Doing.{Did, EndsBytes, EndsCut, IsUntaken, PollsOn, Receives, RunsOut, Tells, Ticks, Writes}
@@ -25,7 +25,7 @@ pub record Deed : Type 0 where
   pub taken : List ℕ
   pub written : List ℕ
   pub called : List Call
-  pub told : List Event
+  pub told : List SessionEvent
 
 -- nothing of all this
 abbrev pub nothing : Deed
@@ -70,7 +70,7 @@ module _ {A : Type 0} (kind : Kind A) where
     writes : {deed : Deed} {new : State A} (count now : ℕ) → Writes kind old count now new → deed ≡ record nothing { written = take count (link_of old).unwritten }
         → Does old deed new
     ticks : {deed : Deed} {new : State A} (now : ℕ) → Ticks kind old now new → deed ≡ nothing → Does old deed new
-    tells : {deed : Deed} {new : State A} (event : Option Event) → Tells old event new → deed ≡ record nothing { told = option_to_list event } → Does old deed new
+    tells : {deed : Deed} {new : State A} (event : Option SessionEvent) → Tells old event new → deed ≡ record nothing { told = option_to_list event } → Does old deed new
     calls : {deed : Deed} {new : State A} (call : Call) → IsCall call.event → Did old call.event call.result new → deed ≡ record nothing { called = call ∷ [] } → Does old deed new
 
   -- Calls of a session, one after another, and nothing else, which together did this.

@@ -11,7 +11,7 @@ mod progress;
 mod search;
 mod session;
 
-pub use event::Event;
+pub use event::SessionEvent;
 pub use laws::{lives, nobody_serves, written_first};
 pub use limits::SessionLimits;
 pub use options::SessionOptions;

@@ -8,11 +8,11 @@ ghost use Rattle.cp_objects.specs.declared.notice.Notice.TheVariants as notices;
 ghost use Rattle.cp_session.specs.Doing.{Did, EndsBytes, EndsCut, Finishes, GivesMore, GivesNone, GoesOn, HasMore, HasNone, IsCut, IsUnfinished, IsSettled, IsStopped, IsUnsettled, IsUntaken, IsUnworked, MayTake, PollsOn, Receives, RunsOut, Settles, TakesIn, Tells, Ticks, Writes, ending_by, exporting, fault_of, knows_by, next_cap, told_of};
 ghost use Rattle.cp_session.specs.Progress.{IsDraining, deadline_of};
 ghost use Rattle.cp_session.specs.State.{State, link_of, new_state, state_of};
-ghost use Rattle.cp_session.specs.declared.event.Event.TheVariants as events;
+ghost use Rattle.cp_session.specs.declared.event.SessionEvent.TheVariants as events;
 ghost use Rattle.cp_session.specs.declared.progress.Phase.TheVariants as phases;
 
 use crate::endpoint::Endpoint;
-use crate::event::Event;
+use crate::event::SessionEvent;
 use crate::limits::SessionLimits;
 use crate::options::SessionOptions;
 use crate::progress::Progress;
@@ -175,12 +175,12 @@ impl<O: Servant> Session<O> {
     }
 
     /// Hands out the first event that wasn't: each outcome once, as soon as it came.
-    pub fn poll_event(&mut self) -> Option<Event>
+    pub fn poll_event(&mut self) -> Option<SessionEvent>
         ensures { Tells (state_of self.old) result (state_of self.new) }
     {
         match self.endpoint.work.next() {
             Some(Notice::Settled { question, outcome }) => {
-                Some(Event::Outcome { question, outcome })
+                Some(SessionEvent::Outcome { question, outcome })
             }
             Some(Notice::Closed(reason)) => self.closing_event(reason),
             None => self.last_event(),
@@ -402,7 +402,7 @@ impl<O: Servant> Session<O> {
     }
 
     /// The event that says that the vat closed, unless another one said why nothing more is taken.
-    fn closing_event(&mut self, reason: Reason) -> Option<Event>
+    fn closing_event(&mut self, reason: Reason) -> Option<SessionEvent>
         ensures event { result ≡ told_of (state_of self.old) (Some (notices.Closed reason)) }
         ensures told { self.new ≡ record self.old { progress = record self.old.progress { is_told = true } } }
     {
@@ -411,11 +411,11 @@ impl<O: Servant> Session<O> {
             return None;
         }
         self.progress.is_told = true;
-        Some(Event::Closed(reason))
+        Some(SessionEvent::Closed(reason))
     }
 
     /// The event that says why nothing more is taken, once.
-    fn last_event(&mut self) -> Option<Event>
+    fn last_event(&mut self) -> Option<SessionEvent>
         ensures event { result ≡ told_of (state_of self.old) None }
         ensures told { self.new ≡ record self.old { progress = record self.old.progress { is_told = knows_by result self.old.progress.is_told } } }
     {
@@ -428,17 +428,17 @@ impl<O: Servant> Session<O> {
     }
 
     /// Why nothing more is taken, where no notice says it.
-    fn ending(&self) -> Option<Event>
+    fn ending(&self) -> Option<SessionEvent>
         ensures { let state = state_of self.now in result ≡ ending_by state.progress.limit (fault_of state) state.progress.phase }
     {
         if let Some(limit) = self.progress.limit {
-            return Some(Event::Limit(limit));
+            return Some(SessionEvent::Limit(limit));
         }
         if let Some(fault) = self.fault() {
-            return Some(Event::Fault(fault));
+            return Some(SessionEvent::Fault(fault));
         }
         if self.is_over() {
-            return Some(Event::Ended);
+            return Some(SessionEvent::Ended);
         }
         None
     }

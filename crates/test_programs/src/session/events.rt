@@ -4,7 +4,7 @@ use crate::frames::{ABORT, ABORTED, ANSWER, AT_ONCE, BOOTSTRAP, DESK, STRANGE_FI
 use cp_connection::ConnectionFault;
 use cp_frame::Mode;
 use cp_servants::Desk;
-use cp_session::{Event, Limit, Session, SessionLimits, SessionOptions};
+use cp_session::{Limit, Session, SessionEvent, SessionLimits, SessionOptions};
 use cp_vat_machine::Reason;
 use cp_words::Limits;
 use std::alloc::Global;
@@ -52,7 +52,7 @@ fn an_outcome_is_told_once(rt: HostRuntime) {
     write(&mut session, 0);
     take(&rt, alloc, &mut session, DESK, 0);
     let event = session.poll_event();
-    check!(&rt; question == 0 && matches!(event, Some(Event::Outcome { question: 0, .. })));
+    check!(&rt; question == 0 && matches!(event, Some(SessionEvent::Outcome { question: 0, .. })));
     drop(event);
     check!(&rt; session.poll_event().is_none());
     drop(session);
@@ -67,7 +67,7 @@ fn an_end_is_told_once_all_was_written(rt: HostRuntime) {
     check!(&rt; session.poll_event().is_none() && !session.is_over());
     write(&mut session, 2);
     check!(&rt; session.is_over());
-    check!(&rt; matches!(session.poll_event(), Some(Event::Ended)));
+    check!(&rt; matches!(session.poll_event(), Some(SessionEvent::Ended)));
     check!(&rt; session.poll_event().is_none());
     drop(session);
 }
@@ -77,7 +77,7 @@ fn an_abort_goes_out_before_the_peers_close(rt: HostRuntime) {
     let alloc = rt.alloc();
     let mut session = session(alloc, SessionLimits::standard());
     take(&rt, alloc, &mut session, STRANGE_FINISH, 0);
-    check!(&rt; matches!(session.poll_event(), Some(Event::Closed(Reason::Fault(_)))));
+    check!(&rt; matches!(session.poll_event(), Some(SessionEvent::Closed(Reason::Fault(_)))));
     check!(&rt; session.poll_event().is_none() && !session.takes_bytes());
     check!(&rt; session.outgoing() == bytes_of(&rt, alloc, &[ABORTED]).as_slice());
     write(&mut session, 3);
@@ -95,7 +95,7 @@ fn a_peers_abort_is_told(rt: HostRuntime) {
     let alloc = rt.alloc();
     let mut session = session(alloc, SessionLimits::standard());
     take(&rt, alloc, &mut session, ABORT, 0);
-    check!(&rt; matches!(session.poll_event(), Some(Event::Closed(Reason::Peer(_)))));
+    check!(&rt; matches!(session.poll_event(), Some(SessionEvent::Closed(Reason::Peer(_)))));
     check!(&rt; session.is_draining());
     drop(session);
 }
@@ -109,7 +109,7 @@ fn a_stream_that_is_cut_is_a_fault(rt: HostRuntime) {
     let count = session.receive(&bytes[..9], 0).expect(&rt, "a part");
     check!(&rt; count == 9);
     check!(&rt; session.end(1).is_err());
-    check!(&rt; matches!(session.poll_event(), Some(Event::Fault(ConnectionFault::Unreadable { at: 0, .. }))));
+    check!(&rt; matches!(session.poll_event(), Some(SessionEvent::Fault(ConnectionFault::Unreadable { at: 0, .. }))));
     check!(&rt; session.poll_event().is_none());
     drop(session);
 }
@@ -122,7 +122,7 @@ fn a_limit_ends_it(rt: HostRuntime) {
     check!(&rt; !session.is_over() && session.deadline() == Some(300_000));
     session.tick(300_000);
     check!(&rt; session.is_over() && session.deadline().is_none());
-    check!(&rt; matches!(session.poll_event(), Some(Event::Limit(Limit::Idle))));
+    check!(&rt; matches!(session.poll_event(), Some(SessionEvent::Limit(Limit::Idle))));
     drop(session);
 }
 

@@ -3,7 +3,7 @@
 use crate::frames::{ANSWER, BOOTSTRAP, STRANGE_FINISH, bytes_of};
 use cp_frame::Mode;
 use cp_servants::Desk;
-use cp_session::{Event, Limit, Session, SessionLimits, SessionOptions};
+use cp_session::{Limit, Session, SessionEvent, SessionLimits, SessionOptions};
 use cp_words::Limits;
 use std::alloc::Global;
 use std::process::Abort;
@@ -65,7 +65,7 @@ fn a_message_comes_in_time(rt: HostRuntime) {
     expect_deadline(&rt, &mut session, &bytes[20..], 6_950, 15_950);
     expect_deadline(&rt, &mut session, &bytes[..9], 7_000, 8_000);
     expect_over(&rt, &mut session, 8_000);
-    check!(&rt; matches!(session.poll_event(), Some(Event::Limit(Limit::Message))));
+    check!(&rt; matches!(session.poll_event(), Some(SessionEvent::Limit(Limit::Message))));
     drop(session);
 }
 
@@ -79,7 +79,7 @@ fn a_byte_moves_in_time(rt: HostRuntime) {
     // One that is written counts too.
     session.wrote(1, 7_000);
     expect_over(&rt, &mut session, 16_000);
-    check!(&rt; matches!(session.poll_event(), Some(Event::Limit(Limit::Idle))));
+    check!(&rt; matches!(session.poll_event(), Some(SessionEvent::Limit(Limit::Idle))));
     drop(session);
 }
 
@@ -95,7 +95,7 @@ fn few_bytes_are_kept(rt: HostRuntime) {
     expect_deadline(&rt, &mut session, &bytes[9..10], 6_000, 7_000);
     session.tick(6_000);
     check!(&rt; session.is_over());
-    check!(&rt; matches!(session.poll_event(), Some(Event::Limit(Limit::Kept))));
+    check!(&rt; matches!(session.poll_event(), Some(SessionEvent::Limit(Limit::Kept))));
     drop(session);
 }
 
@@ -111,7 +111,7 @@ fn the_peer_closes_in_time(rt: HostRuntime) {
     // Only this time counts from now on, and no byte gives more of it.
     expect_deadline(&rt, &mut session, &bytes, 7_900, 8_000);
     expect_over(&rt, &mut session, 8_000);
-    check!(&rt; matches!(session.poll_event(), Some(Event::Closed(_))));
+    check!(&rt; matches!(session.poll_event(), Some(SessionEvent::Closed(_))));
     check!(&rt; session.poll_event().is_none());
     drop(session);
 }
