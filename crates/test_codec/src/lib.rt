@@ -1,5 +1,5 @@
 //! Tests of the codec, over its libraries: cp_words, cp_tree, cp_reading, cp_writing, cp_packed, cp_frame, cp_fields, cp_builder, cp_rpc,
-//! cp_stream and cp_relay. They are one crate, since what std and these libraries say is read anew for each. What holds a message, a
+//! cp_stream, cp_relay and cp_guard. They are one crate, since what std and these libraries say is read anew for each. What holds a message, a
 //! tree or a reader lets it go by `drop`: where one goes at the end of its scope, each function proves anew what that does.
 #![tactic(auto)]
 
@@ -35,6 +35,8 @@ mod frames;
 mod full;
 #[cfg(test)]
 mod groups;
+#[cfg(test)]
+mod guards;
 #[cfg(test)]
 mod handles;
 #[cfg(test)]

@@ -1,0 +1,4 @@
+pub mod One
+pub mod Filtering
+pub mod Allowed
+pub mod Once

@@ -1,0 +1,62 @@
+-- What a filter puts out for each message.
+use Rattle.std.specs.Prelude.{◌≡◌, ◌<◌, ℕ, List, [], ◌++◌, length}
+use Rattle.cp_words.specs.Limits.{Bounds}
+use Rattle.cp_frame.specs.declared.mode.Mode.{Mode}
+use Rattle.cp_messages.specs.declared.message.Message.{Message}
+use Rattle.cp_stream.specs.Stream.{IsFrameOf}
+use Rattle.cp_stream.specs.Write.{IsPut}
+use Rattle.cp_relay.specs.Relay.{Relay, StandsFor, IsSameStream, IsSentFor}
+use Rattle.cp_guard.specs.declared.guard.Guard.{Guard}
+use Rattle.cp_guard.specs.declared.filter.Filter.{Filter}
+use Rattle.cp_guard.specs.declared.ruling.Ruling.{Ruling}
+use Rattle.cp_guard.specs.declared.ruling.Ruling.TheVariants as rulings
+use Rattle.cp_guard.specs.Judged.{judged_from}
+use Rattle.cp_guard.specs.Guard.{call_in}
+
+-- What is put out for a message that is sent as these bytes: `out` becomes `now` and goes on, and `answers` become `later` and go back.
+abbrev pub Follows : Mode → Mode → Bounds → Ruling → List ℕ → List ℕ → List ℕ → List ℕ → List ℕ → Type 0
+Follows on back limits rulings.Passes sent out now answers later = (now ≡ out ++ sent) × (later ≡ answers)
+Follows on back limits (rulings.Changes m) sent out now answers later = IsPut on limits limits.frame_words 1 m out now × (later ≡ answers)
+Follows on back limits (rulings.Answers m) sent out now answers later = (now ≡ out) × IsPut back limits limits.frame_words 1 m answers later
+Follows on back limits rulings.Drops sent out now answers later = (now ≡ out) × (later ≡ answers)
+Follows on back limits (rulings.Closes breach) sent out now answers later = ⊥
+
+-- The filter reads the same stream, for the same guard and in the same forms.
+pub record IsSameFilter (old new : Filter) : Type 0 where
+  pub stream : IsSameStream old.relay new.relay
+  pub on : new.on ≡ old.on
+  pub back : new.back ≡ old.back
+  pub limits : new.limits ≡ old.limits
+  pub comes_back : new.comes_back ≡ old.comes_back
+
+-- These bytes are the frame of one message. The guard judged it, and what it judged was done.
+pub record Guarded (before after : Guard) (f : Filter) (frame out now answers later : List ℕ) : Type 0 where
+  pub message : Message
+  pub is_frame : IsFrameOf f.relay.frames.mode f.relay.frames.limits frame message
+  pub sent : List ℕ
+  pub sent_for : IsSentFor f.relay.output f.relay.frames.limits frame message sent
+  pub ruling : Ruling
+  pub judged : record { ruling = ruling; state = after.state } ≡ judged_from f.comes_back before.rules.now before.state message
+  pub rules : after.rules.now ≡ before.rules.now
+  pub called : after.call ≡ call_in f.comes_back after.state.refused message
+  pub follows : Follows f.on f.back f.limits ruling sent out now answers later
+
+-- The piece was read up to the end of a frame, and what the guard judged of its message was done.
+pub record GuardsNext (before after : Guard) (old new : Filter) (piece rest out now answers later : List ℕ) : Type 0 where
+  pub front : List ℕ
+  pub whole : piece ≡ front ++ rest
+  pub shorter : length rest < length piece
+  pub same : IsSameFilter old new
+  pub guarded : (b : List ℕ) → StandsFor old.relay b → Guarded before after old (b ++ front) out now answers later × StandsFor new.relay []
+
+-- The guard judged nothing.
+pub record IsUnasked (before after : Guard) : Type 0 where
+  pub rules : after.rules.now ≡ before.rules.now
+  pub state : after.state ≡ before.state
+
+-- The piece was read, and no frame ends in it.
+pub record GuardsNone (before after : Guard) (old new : Filter) (piece out now answers later : List ℕ) : Type 0 where
+  pub same : IsSameFilter old new
+  pub goes_on : now ≡ out
+  pub goes_back : later ≡ answers
+  pub reads : (b : List ℕ) → StandsFor old.relay b → StandsFor new.relay (b ++ piece) × IsUnasked before after
