@@ -86,6 +86,24 @@ expect 1 "call 2: refused: V1 UnknownQuestion" "$cli" call "$at" "i=$desk m=0" "
 expect 1 "call 1: refused: V11 UnknownImport" "$cli" call "$at" "import:0 i=$cell m=1"
 echo "server: exceptions, and calls that are refused"
 
+(cd "$here/.." && capnp compile -o- callees/trial.capnp) >"$build/trial.request"
+named=("$cli" call --schema "$build/trial.request")
+expect 0 "question:1 results Desk.now (cell = <external capability>) caps[import:1]
+question:2 results Cell.add (value = 41)
+question:3 results Cell.add (value = 46)
+question:4 results Desk.now (cell = <external capability>) caps[import:2]
+question:5 results Cell.get (value = 51)
+question:6 results Trial.echo (content = <opaque pointer>) caps[import:1]
+question:7 results Cell.get (value = 51)" "${named[@]}" "$at" 'Trial.now ()' '1.cell.add (amount = 41)' 'question:1.cell Cell.add (amount = 5)' \
+    'now (gift = question:1[0])' '4.cell.get' 'echo (content = question:1.cell)' '6.content.get ()'
+expect 1 'question:1 results Desk.now (cell = <external capability>) caps[import:1]
+question:2 exception failed "remote exception: no such object"
+question:3 results Desk.later (cell = <external capability>) caps[import:2]' "${named[@]}" "$at" "i=$desk m=0" 'tell (cell = object:0)' 'later ()'
+expect 2 'call 2: column 8: wanted a method such as Cell.add, Cell.get, there is ad' "${named[@]}" "$at" 'now' '1.cell.ad (amount = 1)'
+expect 2 'call 1: column 11: wanted a field such as amount, gift, there is number' "${named[@]}" "$at" 'Cell.add (number = 1)'
+expect 2 'call 2: column 25: wanted a field such as cell, there is sell' "${named[@]}" "$at" 'now' 'tell (cell = question:1.sell)'
+echo "server: by names"
+
 expect 0 "> bootstrap q=0
 > call q=1 to=answer:0[] i=$desk m=0 results=caller params={(;) caps[]}
 < return a=0 releaseParamCaps=true results {cap:0 caps[senderHosted:0]}
@@ -136,6 +154,7 @@ frame lacks '(unimplemented = (bootstrap = (questionId = 0)))'
 frame export '(call = (questionId = 9, target = (importedCap = 0), interfaceId = 1, methodId = 2, params = ()))'
 printf 'HTTP/1.1 400 Bad Request\r\n\r\n' >"$build/garbage"
 cat "$build/failed" "$build/null" >"$build/both"
+capnp encode --packed /usr/include/capnp/rpc.capnp Message <<<'(abort = (reason = "no", type = failed))' >"$build/packed"
 
 words=("i=$desk m=0" "i=$desk m=0")
 peer() { # STATUS TEXT STEP..    the calls of words, to a peer that does this
@@ -151,9 +170,11 @@ peer 1 "aborted by the peer: failed: no" read send "$build/abort" pause
 peer 1 "aborted by the peer: failed: no" send "$build/abort"
 peer 1 "aborted by the peer: failed: no" read drip "$build/abort" until
 peer 1 "the peer's messages ended" read
+peer 1 "the peer's messages ended"
 peer 1 "refused at byte 0: F3 Truncated" read half "$build/abort"
-peer 1 "refused at byte 0: F1 TooManySegments" read send "$build/garbage" pause
-peer 2 "device: $at: Connection reset by peer (os error 104)" read reset
+peer 1 "refused at byte 0: F1 TooManySegments: the peer speaks HTTP, and not Cap'n Proto" read send "$build/garbage" pause
+peer 1 "refused at byte 0: F1 TooManySegments: the peer's frames seem to be packed: give --packed" read send "$build/packed" pause
+peer 1 "the peer's messages ended" read reset
 peer 2 "device: $at: nothing came for 2 s" read until
 peer 1 'question:1 exception overloaded "later"
 question:2 results {null caps[]}' read send "$build/both" until

@@ -40,6 +40,13 @@ for mode in seq window pipeline large; do
 done
 through --show -- "$build/rpc/server" "$served" 1 -- "$build/rpc/client" "$relayed" seq 2
 
+begin "$served" "$command" serve "$served" 1
+serving=$pid
+begin "$relayed" "$command" relay --listen 127.0.0.2 "$relayed" "127.0.0.1:$served" 1
+"$command" call "127.0.0.2:$relayed" 'i=e5a1000000000001 m=0'
+wait "$pid"
+wait "$serving"
+
 begin "$served" "$command" serve "$served" "$((count / 10 * 10 + 1))"
 serving=$pid
 begin "$relayed" "$command" relay "$relayed" "127.0.0.1:$served" "$((count / 10 * 10 + 1))"

@@ -1,7 +1,7 @@
 //! Calls over a socket.
 
 use crate::asking::{CallPlan, converse};
-use crate::fault::CallFault;
+use crate::fault::CommandFault;
 use crate::words::calls_of;
 use cp_commands::{ACCEPTED, REFUSED};
 use mio::net as ready;
@@ -19,7 +19,7 @@ use std::time::Duration;
 pub fn call_address<N, O: Write, E: Write>(
     rt: &N,
     address: &str,
-    plan: &CallPlan,
+    plan: &CallPlan<'_>,
     words: &[&str],
     out: &mut O,
     err: &mut E,
@@ -31,8 +31,9 @@ where
         Ok(true) => ACCEPTED,
         Ok(false) => REFUSED,
         Err(fault) => {
-            let _ = writeln!(err, "{fault}");
-            fault.status()
+            let status = fault.tell(err);
+            drop(fault);
+            status
         }
     }
 }
@@ -41,21 +42,28 @@ where
 fn call_all<N, O: Write>(
     rt: &N,
     address: &str,
-    plan: &CallPlan,
+    plan: &CallPlan<'_>,
     words: &[&str],
     out: &mut O,
-) -> Result<bool, CallFault>
+) -> Result<bool, CommandFault>
 where
     N: Net<Listener = TcpListener, Stream = TcpStream> + Files + AllocGlobal,
 {
-    let calls = calls_of(rt, words)?;
+    let calls = calls_of(rt, plan.schema, words)?;
     let connected = match path_of(address) {
         Some(path) => connect_unix(rt, path),
-        None => connect_tcp(rt, address, plan.timeout),
+        None if has_port(address) => connect_tcp(rt, address, plan.timeout),
+        None => {
+            drop(calls);
+            return Err(CommandFault::Address(String::from_str(rt.alloc(), address)?));
+        }
     };
     match connected {
         Ok(stream) => converse(rt, stream, address, plan, calls, out),
-        Err(error) => Err(CallFault::of_device(rt.alloc(), address, error)),
+        Err(error) => {
+            drop(calls);
+            Err(CommandFault::of_device(rt.alloc(), address, error))
+        }
     }
 }
 
@@ -93,6 +101,14 @@ fn connect_unix<N: Net>(rt: &N, path: &str) -> io::Result<NonblockingStream> {
     let stream = UnixStream::connect(rt, path)?;
     stream.set_nonblocking(true)?;
     Ok(NonblockingStream::of_unix(ready::UnixStream::from_std(stream)))
+}
+
+/// Whether an address ends in a port.
+fn has_port(address: &str) -> bool {
+    match address.rsplit_once(':') {
+        Some((host, port)) => !host.is_empty() && port.parse::<u16>().is_ok(),
+        None => false,
+    }
 }
 
 /// The path of a Unix socket, if an address is one: after `unix:`, as the tools of the reference library have it, or with a slash.

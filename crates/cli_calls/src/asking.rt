@@ -1,10 +1,14 @@
 //! Calls and their outcomes, over a connection.
 
 use crate::duplex::{DuplexStream, Half};
-use crate::fault::CallFault;
+use crate::fault::CommandFault;
 use cp_client::{Client, ClientFault, Question};
+use cp_commands::{foreign_protocol, is_other_form};
+use cp_connection::ConnectionFault;
 use cp_frame::Mode;
+use cp_methods::results_line;
 use cp_refs::{Cap, Outcome, Request};
+use cp_schema::{MethodNumber, Schema};
 use cp_scripts::Lines;
 use cp_stream::DeviceError;
 use cp_words::Limits;
@@ -16,7 +20,7 @@ use std::net::Net;
 
 /// How calls are made.
 #[derive(Clone, Copy)]
-pub struct CallPlan {
+pub struct CallPlan<'s> {
     pub mode: Mode,
     /// The limits on what comes.
     pub limits: Limits,
@@ -24,6 +28,8 @@ pub struct CallPlan {
     pub shows_messages: bool,
     /// The greatest number of seconds for which nothing may come.
     pub timeout: Option<u32>,
+    /// The schema by which calls are named, and results printed.
+    pub schema: Option<&'s Schema>,
 }
 
 /// Makes calls on the objects of the peer behind a stream, in one go, and prints what each came to.
@@ -32,14 +38,14 @@ pub(crate) fn converse<N: Net + AllocGlobal, O: Write>(
     rt: &N,
     stream: NonblockingStream,
     address: &str,
-    plan: &CallPlan,
+    plan: &CallPlan<'_>,
     calls: Vec<(Cap, Request)>,
     out: &mut O,
-) -> Result<bool, CallFault> {
+) -> Result<bool, CommandFault> {
     let alloc = rt.alloc();
     let stream = match DuplexStream::new(rt, alloc, stream, plan) {
         Ok(stream) => RefCell::new(stream),
-        Err(error) => return Err(CallFault::of_device(alloc, address, error)),
+        Err(error) => return Err(CommandFault::of_device(alloc, address, error)),
     };
     let (from, to) = (Half::new(&stream), Half::new(&stream));
     let mut conversation = Conversation {
@@ -47,42 +53,62 @@ pub(crate) fn converse<N: Net + AllocGlobal, O: Write>(
         client: Client::new(alloc, from, to, plan.mode, plan.limits),
         stream: &stream,
         address,
-        timeout: plan.timeout,
+        plan,
     };
     let ended = conversation.ask(calls, out);
     // Only now is the stream closed: some peers take the end of what they read as that of the connection.
     conversation.end();
-    print_messages(&stream, out)?;
-    out.flush()?;
-    ended
+    let printed = print_rest(&stream, out);
+    drop(stream);
+    match printed {
+        Ok(()) => ended,
+        Err(fault) => {
+            drop(ended);
+            Err(fault)
+        }
+    }
+}
+
+/// A call that is made.
+#[derive(Clone, Copy)]
+struct Asked {
+    question: Question,
+    method: MethodNumber,
 }
 
 /// A client and its peer.
-struct Conversation<'a, 'b> {
+struct Conversation<'a, 'b, 's> {
     alloc: Global,
     client: Client<Half<'a>, Half<'a>>,
     stream: &'a RefCell<DuplexStream>,
     address: &'b str,
-    timeout: Option<u32>,
+    plan: &'b CallPlan<'s>,
 }
 
-impl<'a, 'b> Conversation<'a, 'b> {
+impl<'a, 'b, 's> Conversation<'a, 'b, 's> {
     /// Makes calls, and prints what each came to.
     fn ask<O: Write>(
         &mut self,
         calls: Vec<(Cap, Request)>,
         out: &mut O,
-    ) -> Result<bool, CallFault> {
+    ) -> Result<bool, CommandFault> {
         let asked = self.call(calls)?;
+        let told = self.tell_all(&asked, out);
+        drop(asked);
+        told
+    }
+
+    /// Prints what each call came to.
+    fn tell_all<O: Write>(&mut self, asked: &[Asked], out: &mut O) -> Result<bool, CommandFault> {
         let mut all = true;
-        for question in &asked {
-            all &= self.tell(*question, out)?;
+        for asked in asked {
+            all &= self.tell(*asked, out)?;
         }
         Ok(all)
     }
 
     /// Asks for the bootstrap, question 0, and makes calls. They are sent when an outcome is waited for.
-    fn call(&mut self, calls: Vec<(Cap, Request)>) -> Result<Vec<Question>, CallFault> {
+    fn call(&mut self, calls: Vec<(Cap, Request)>) -> Result<Vec<Asked>, CommandFault> {
         let _ = self.client.bootstrap()?;
         let mut asked = Vec::new(self.alloc);
         for (cap, request) in calls {
@@ -96,29 +122,69 @@ impl<'a, 'b> Conversation<'a, 'b> {
         &mut self,
         cap: Cap,
         request: Request,
-        asked: &mut Vec<Question>,
-    ) -> Result<(), CallFault> {
+        asked: &mut Vec<Asked>,
+    ) -> Result<(), CommandFault> {
         let number = asked.len().saturating_add(1);
+        let method = MethodNumber {
+            interface: request.interface,
+            method: request.method,
+        };
         match self.client.call(cap, request) {
-            Ok(question) => Ok(asked.push(question)?),
-            Err(fault) => Err(CallFault::Unmade { number, fault }),
+            Ok(question) => Ok(asked.push(Asked { question, method })?),
+            Err(fault) => Err(CommandFault::Unmade { number, fault }),
         }
     }
 
-    /// Waits for what a question came to, and prints it. Says whether it has results.
-    fn tell<O: Write>(&mut self, question: Question, out: &mut O) -> Result<bool, CallFault> {
-        let outcome = self.wait(question)?;
+    /// Waits for what a call came to, and prints it. Says whether it has results.
+    fn tell<O: Write>(&mut self, asked: Asked, out: &mut O) -> Result<bool, CommandFault> {
+        let outcome = self.wait(asked.question)?;
         let has_results = matches!(outcome, Outcome::Results { .. });
         let mut lines = Lines::new(self.alloc);
-        lines.push_outcome_of(question.number, &outcome);
+        lines.push_outcome_of(asked.question.number, &outcome);
+        let printed = self.print(&lines, asked.method, &outcome, out);
         drop(outcome);
-        print_messages(self.stream, out)?;
-        print(&lines, out)?;
+        printed?;
         Ok(has_results)
     }
 
+    /// Prints what a call came to: by the names of the schema, where there is one that has its method, else these lines.
+    fn print<O: Write>(
+        &self,
+        lines: &Lines,
+        method: MethodNumber,
+        outcome: &Outcome,
+        out: &mut O,
+    ) -> Result<(), CommandFault> {
+        print_messages(self.stream, out)?;
+        let Some(plain) = lines.text() else {
+            return Err(CommandFault::from(AllocError));
+        };
+        let Some(line) = self.named(plain, method, outcome)? else {
+            return Ok(out.write_all(plain.as_bytes())?);
+        };
+        let written = out.write_all(line.as_bytes());
+        drop(line);
+        Ok(written?)
+    }
+
+    /// The line of results by the names of the schema.
+    fn named(
+        &self,
+        plain: &str,
+        method: MethodNumber,
+        outcome: &Outcome,
+    ) -> Result<Option<String>, CommandFault> {
+        match (self.plan.schema, outcome) {
+            (Some(schema), Outcome::Results { content, .. }) => {
+                let limits = self.plan.limits;
+                Ok(results_line(self.alloc, schema, method, plain, content, limits)?)
+            }
+            _ => Ok(None),
+        }
+    }
+
     /// Waits for an outcome.
-    fn wait(&mut self, question: Question) -> Result<Outcome, CallFault> {
+    fn wait(&mut self, question: Question) -> Result<Outcome, CommandFault> {
         match self.client.wait(question) {
             Ok(outcome) => Ok(outcome),
             Err(ClientFault::Device(error)) => Err(self.device(error)),
@@ -127,20 +193,38 @@ impl<'a, 'b> Conversation<'a, 'b> {
     }
 
     /// Why the calls come to nothing.
-    fn fault(&self, fault: ClientFault) -> Result<CallFault, CallFault> {
+    fn fault(&self, fault: ClientFault) -> Result<CommandFault, CommandFault> {
         match self.client.closed() {
-            Some(reason) => Ok(CallFault::Closed(format!(in self.alloc; "{reason}")?)),
-            None => Ok(CallFault::Refused(fault)),
+            Some(reason) => Ok(CommandFault::Closed(format!(in self.alloc; "{reason}")?)),
+            None => Ok(match fault {
+                ClientFault::Connection(ConnectionFault::Unreadable { at: 0, .. }) => {
+                    self.first_fault(fault)
+                }
+                fault => CommandFault::Refused(fault),
+            }),
+        }
+    }
+
+    /// Why the peer's first bytes can't be read.
+    fn first_fault(&self, fault: ClientFault) -> CommandFault {
+        let Ok(stream) = self.stream.try_borrow_mut() else {
+            return CommandFault::Refused(fault);
+        };
+        let mode = self.plan.mode;
+        match foreign_protocol(&stream.first) {
+            Some(protocol) => CommandFault::Foreign { fault, protocol },
+            None if is_other_form(mode, &stream.first) => CommandFault::OtherForm { fault, mode },
+            None => CommandFault::Refused(fault),
         }
     }
 
     /// Why a device failed: it has an error, or nothing came in time.
-    fn device(&self, error: DeviceError) -> CallFault {
+    fn device(&self, error: DeviceError) -> CommandFault {
         // Where the system says that a time is over, the error has its number.
         let is_silent = error == DeviceError::from(ErrorKind::TimedOut);
-        match self.timeout {
-            Some(seconds) if is_silent => CallFault::silent(self.alloc, self.address, seconds),
-            _ => CallFault::of_device(self.alloc, self.address, error.into()),
+        match self.plan.timeout {
+            Some(seconds) if is_silent => CommandFault::silent(self.alloc, self.address, seconds),
+            _ => CommandFault::of_device(self.alloc, self.address, error.into()),
         }
     }
 
@@ -151,22 +235,23 @@ impl<'a, 'b> Conversation<'a, 'b> {
             client,
             stream: _,
             address: _,
-            timeout: _,
+            plan: _,
         } = self;
         drop(client.into_devices());
     }
 }
 
-/// Prints lines.
-fn print<O: Write>(lines: &Lines, out: &mut O) -> Result<(), CallFault> {
-    match lines.text() {
-        Some(text) => Ok(out.write_all(text.as_bytes())?),
-        None => Err(CallFault::from(AllocError)),
-    }
+/// Prints the messages that weren't, and has all that is printed go out.
+fn print_rest<O: Write>(stream: &RefCell<DuplexStream>, out: &mut O) -> Result<(), CommandFault> {
+    print_messages(stream, out)?;
+    Ok(out.flush()?)
 }
 
 /// Prints the messages that weren't.
-fn print_messages<O: Write>(stream: &RefCell<DuplexStream>, out: &mut O) -> Result<(), CallFault> {
+fn print_messages<O: Write>(
+    stream: &RefCell<DuplexStream>,
+    out: &mut O,
+) -> Result<(), CommandFault> {
     if let Ok(mut stream) = stream.try_borrow_mut() {
         out.write_all(stream.log.lines.as_bytes())?;
         stream.log.lines.clear();

@@ -19,6 +19,9 @@ const PIECE: usize = 65_536;
 /// The most bytes that are taken in before they are asked for.
 const MOST_AHEAD: usize = 67_108_864;
 
+/// How many of the first bytes are kept.
+const FIRST: usize = 8;
+
 /// A connection. A write that would wait takes in what comes, since a peer may not read on before its own bytes are read.
 /// Once the peer takes nothing more, what is written is lost, and what it had to say can still be read.
 #[derive(Drop)]
@@ -36,6 +39,8 @@ pub(crate) struct DuplexStream {
     is_shut: bool,
     /// Why the peer takes nothing more, where a call failed.
     failed: Option<io::Error>,
+    /// The first bytes that came.
+    pub(crate) first: Vec<u8>,
     pub(crate) log: Log,
 }
 
@@ -45,7 +50,7 @@ impl DuplexStream {
         rt: &N,
         alloc: Global,
         mut stream: NonblockingStream,
-        plan: &CallPlan,
+        plan: &CallPlan<'_>,
     ) -> io::Result<DuplexStream> {
         let poll = Poll::new(rt)?;
         stream.register(poll.registry(), Token(0))?;
@@ -59,6 +64,7 @@ impl DuplexStream {
             given: 0,
             is_shut: false,
             failed: None,
+            first: Vec::new(alloc),
             log: Log::new(alloc, plan),
         })
     }
@@ -73,6 +79,9 @@ impl DuplexStream {
             self.receive(buf)?
         };
         self.log.note(MessageDirection::Received, &buf[..count]);
+        if self.first.is_empty() {
+            self.first.extend_from_slice(&buf[..count.min(FIRST)])?;
+        }
         Ok(count)
     }
 
@@ -92,7 +101,7 @@ impl DuplexStream {
         count
     }
 
-    /// Reads from the stream. Where it ended, says why it took nothing more, if it didn't.
+    /// Reads from the stream. Where it ended, says why it took nothing more, if it didn't. A peer that is gone ended it.
     fn receive(&mut self, buf: &mut [u8]) -> io::Result<usize>
         ensures { ReadsAtMost result buf.new }
     {
@@ -101,10 +110,12 @@ impl DuplexStream {
                 self.wait()?;
                 continue;
             }
-            match self.stream.read(buf)? {
-                Got::Bytes(count) => return Ok(count),
-                Got::Nothing => (),
-                Got::End => return self.end(),
+            match self.stream.read(buf) {
+                Ok(Got::Bytes(count)) => return Ok(count),
+                Ok(Got::Nothing) => (),
+                Ok(Got::End) => return self.end(),
+                Err(error) if is_gone(&error) => return self.end(),
+                Err(error) => return Err(error),
             }
         }
         Err(io::Error::from(ErrorKind::Other))
@@ -134,13 +145,12 @@ impl DuplexStream {
                 continue;
             }
             match self.stream.write(bytes) {
+                // The peer may be waiting for its own bytes to be read.
                 Ok(0) => (),
                 Ok(count) => {
                     self.log.note(MessageDirection::Sent, &bytes[..count]);
                     return Ok(count);
                 }
-                // The peer may be waiting for its own bytes to be read.
-
                 Err(error) => self.shut(error),
             }
         }
@@ -189,11 +199,21 @@ impl DuplexStream {
         Ok(!self.events.is_empty())
     }
 
-    /// Keeps why the peer takes nothing more.
+    /// Keeps why the peer takes nothing more, unless it is that the peer is gone: then what it sent ends.
     fn shut(&mut self, error: io::Error) {
         self.is_shut = true;
-        self.failed = Some(error);
+        if !is_gone(&error) {
+            self.failed = Some(error);
+        }
     }
+}
+
+/// Whether an error says that the peer is gone. A peer that closes before it has read all resets the connection by that.
+fn is_gone(error: &io::Error) -> bool {
+    matches!(
+        error.kind(),
+        ErrorKind::ConnectionReset | ErrorKind::ConnectionAborted | ErrorKind::BrokenPipe
+    )
 }
 
 /// What reads, or writes, a connection.

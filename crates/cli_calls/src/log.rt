@@ -29,7 +29,7 @@ pub(crate) enum MessageDirection {
 
 impl Log {
     /// Nothing went.
-    pub(crate) fn new(alloc: Global, plan: &CallPlan) -> Log {
+    pub(crate) fn new(alloc: Global, plan: &CallPlan<'_>) -> Log {
         Log {
             alloc,
             limits: plan.limits,

@@ -1,42 +1,209 @@
 //! The calls that words name.
 
-use crate::fault::CallFault;
+ghost use Rattle.std.specs.Prelude.{◌≡◌, IfOk};
+
+use crate::fault::CommandFault;
+use cp_encoder::Encoded;
 use cp_frame::FrameReader;
+use cp_methods::{CallReader, NamedCall, is_named, plain_params};
 use cp_reading::read_root;
 use cp_refs::{Cap, Caps, Path, Request};
-use cp_scripts::call_of;
+use cp_schema::{MethodNumber, Schema};
+use cp_scripts::{WrittenCall, Wrong, call_of, cap_of, payload_of};
 use cp_tree::{Body, Tree, Whole};
 use cp_words::Limits;
-use std::alloc::Global;
+use std::alloc::{AllocError, Global};
 use std::fs::{self, Files};
 
 /// What comes before the path of a stored message.
 const STORED: &str = " @";
 
-/// The calls of these words, in order: each `TARGET i=H m=N PARAMS`. Without a target the call is one on what the bootstrap
-/// gives, `question:0[]`. PARAMS are `{T caps[..]}`, or `@FILE`, the content of a stored message; without them they are
-/// a struct without fields.
+/// The calls of these words, in order, by names where a schema is given, or by numbers: each `TARGET i=H m=N PARAMS`. Without
+/// a target the call is one on what the bootstrap gives, `question:0[]`. PARAMS are `{T caps[..]}`, or `@FILE`, the content of
+/// a stored message; without them they are a struct without fields.
 pub fn calls_of<N: Files + AllocGlobal>(
     rt: &N,
+    schema: Option<&Schema>,
     words: &[&str],
-) -> Result<Vec<(Cap, Request)>, CallFault> {
+) -> Result<Vec<(Cap, Request)>, CommandFault> {
     let mut calls = Vec::new(rt.alloc());
-    for (place, word) in words.iter().enumerate() {
-        add(rt, place.saturating_add(1), word, &mut calls)?;
+    let mut names = match schema {
+        Some(schema) => Some(CallReader::new(rt.alloc(), schema)),
+        None => None,
+    };
+    let added = add_all(rt, &mut names, words, &mut calls);
+    drop(names);
+    match added {
+        Ok(()) => Ok(calls),
+        Err(fault) => {
+            drop(calls);
+            Err(fault)
+        }
     }
-    Ok(calls)
 }
 
-/// Adds the call of a word.
+/// Adds the calls of words.
+fn add_all<N: Files + AllocGlobal>(
+    rt: &N,
+    names: &mut Option<CallReader<'_>>,
+    words: &[&str],
+    calls: &mut Vec<(Cap, Request)>,
+) -> Result<(), CommandFault> {
+    for (place, word) in words.iter().enumerate() {
+        add(rt, names, place.saturating_add(1), word, calls)?;
+    }
+    Ok(())
+}
+
+/// Adds the call of a word, which later ones may name.
 fn add<N: Files + AllocGlobal>(
     rt: &N,
+    names: &mut Option<CallReader<'_>>,
     number: usize,
     word: &str,
     calls: &mut Vec<(Cap, Request)>,
-) -> Result<(), CallFault> {
-    let call = call(rt, number, word)?;
-    calls.push(call)?;
+) -> Result<(), CommandFault> {
+    let call = match names {
+        Some(names) if is_named(word) => named_call(rt, names, number, word)?,
+        None if is_named(word) => return Err(CommandFault::Unnamed { number }),
+        _ => call(rt, number, word)?,
+    };
+    match note(names, &call.1) {
+        Ok(()) => Ok(calls.push(call)?),
+        Err(error) => {
+            drop(call);
+            Err(CommandFault::from(error))
+        }
+    }
+}
+
+/// Notes a call, so that later ones may name what it gives.
+fn note(names: &mut Option<CallReader<'_>>, call: &Request) -> Result<(), AllocError> {
+    let Some(names) = names else {
+        return Ok(());
+    };
+    names.note(MethodNumber {
+        interface: call.interface,
+        method: call.method,
+    })
+}
+
+/// The call of a word by names.
+fn named_call<N: Files + AllocGlobal>(
+    rt: &N,
+    names: &CallReader<'_>,
+    number: usize,
+    word: &str,
+) -> Result<(Cap, Request), CommandFault> {
+    let NamedCall {
+        target,
+        number: method,
+        params,
+    } = match names.read(word) {
+        Ok(call) => call,
+        Err(fault) => return Err(CommandFault::Named { number, fault }),
+    };
+    let called = cap(rt.alloc(), number, target.as_str());
+    drop(target);
+    let payload = match params {
+        Some(params) => encoded(rt.alloc(), number, params),
+        None => plain(rt, number, plain_params(word).unwrap_or("")),
+    };
+    match called {
+        Ok(target) => call_with(target, method, payload),
+        Err(fault) => {
+            drop(payload);
+            Err(fault)
+        }
+    }
+}
+
+/// The call of a method with params, if these could be made.
+fn call_with(
+    target: Cap,
+    method: MethodNumber,
+    payload: Result<(Whole, Caps), CommandFault>,
+) -> Result<(Cap, Request), CommandFault> {
+    match payload {
+        Ok((content, caps)) => {
+            let request = Request {
+                interface: method.interface,
+                method: method.method,
+                content,
+                caps,
+            };
+            Ok((target, request))
+        }
+        Err(fault) => {
+            drop(target);
+            Err(fault)
+        }
+    }
+}
+
+/// The capability of a text.
+fn cap(alloc: Global, number: usize, text: &str) -> Result<Cap, CommandFault> {
+    match cap_of(alloc, text) {
+        Ok(cap) => Ok(cap),
+        Err(wrong) => Err(wrong_word(alloc, number, wrong)?),
+    }
+}
+
+/// A struct with its capabilities, as params.
+fn encoded(alloc: Global, number: usize, params: Encoded) -> Result<(Whole, Caps), CommandFault>
+    // What is sent is the struct that was made of the text.
+    ensures { IfOk result (λ sent. sent.0 ≡ params.object) }
+{
+    let Encoded {
+        object,
+        caps: texts,
+    } = params;
+    let mut caps = Vec::new(alloc);
+    let added = add_caps(alloc, number, &texts, &mut caps);
+    drop(texts);
+    match added {
+        Ok(()) => Ok((Whole::from_shaped(object.into_tree()), Caps::new(caps))),
+        Err(fault) => {
+            drop(object);
+            drop(caps);
+            Err(fault)
+        }
+    }
+}
+
+/// Adds the capabilities of texts.
+fn add_caps(
+    alloc: Global,
+    number: usize,
+    texts: &[String],
+    caps: &mut Vec<Cap>,
+) -> Result<(), CommandFault> {
+    for text in texts {
+        caps.push(cap(alloc, number, text.as_str())?)?;
+    }
     Ok(())
+}
+
+/// Params as words by numbers have them: a tree with its capabilities, or the content of a stored message.
+fn plain<N: Files + AllocGlobal>(
+    rt: &N,
+    number: usize,
+    text: &str,
+) -> Result<(Whole, Caps), CommandFault> {
+    let alloc = rt.alloc();
+    if let Some(path) = text.strip_prefix('@') {
+        return Ok((stored(rt, path)?, no_caps(alloc)));
+    }
+    match payload_of(alloc, text) {
+        Ok(payload) => Ok(payload),
+        Err(wrong) => Err(wrong_word(alloc, number, wrong)?),
+    }
+}
+
+/// What is wrong with the word of this number.
+fn wrong_word(alloc: Global, number: usize, wrong: Wrong) -> Result<CommandFault, CommandFault> {
+    let wrong = format!(in alloc; "{wrong}")?;
+    Ok(CommandFault::Word { number, wrong })
 }
 
 /// The call of a word.
@@ -44,31 +211,31 @@ fn call<N: Files + AllocGlobal>(
     rt: &N,
     number: usize,
     word: &str,
-) -> Result<(Cap, Request), CallFault> {
+) -> Result<(Cap, Request), CommandFault> {
     let (head, path) = parts_of(word);
-    let written = match call_of(rt.alloc(), head) {
+    let WrittenCall {
+        target,
+        interface,
+        method,
+        params,
+    } = match call_of(rt.alloc(), head) {
         Ok(written) => written,
-        Err(wrong) => {
-            let wrong = format!(in rt.alloc(); "{wrong}")?;
-            return Err(CallFault::Word { number, wrong });
-        }
+        Err(wrong) => return Err(wrong_word(rt.alloc(), number, wrong)?),
     };
-    let (content, caps) = params(rt, written.params, path)?;
-    let request = Request {
-        interface: written.interface,
-        method: written.method,
-        content,
-        caps,
+    let target = match target {
+        Some(target) => target,
+        None => bootstrap(rt.alloc()),
     };
-    Ok((written.target.unwrap_or(bootstrap(rt.alloc())), request))
+    let payload = params_of(rt, params, path);
+    call_with(target, MethodNumber { interface, method }, payload)
 }
 
 /// The params that are written, or those of a stored message, or a struct without fields.
-fn params<N: Files + AllocGlobal>(
+fn params_of<N: Files + AllocGlobal>(
     rt: &N,
     written: Option<(Whole, Caps)>,
     path: Option<&str>,
-) -> Result<(Whole, Caps), CallFault> {
+) -> Result<(Whole, Caps), CommandFault> {
     if let Some(params) = written {
         return Ok(params);
     }
@@ -105,19 +272,19 @@ fn empty(alloc: Global) -> Whole {
 }
 
 /// The content of the message that a file holds, a plain frame.
-fn stored<N: Files + AllocGlobal>(rt: &N, path: &str) -> Result<Whole, CallFault> {
+fn stored<N: Files + AllocGlobal>(rt: &N, path: &str) -> Result<Whole, CommandFault> {
     let bytes = match fs::read(rt, path) {
         Ok(bytes) => bytes,
         Err(error) => {
             let path = String::from_str(rt.alloc(), path)?;
-            return Err(CallFault::File { path, error });
+            return Err(CommandFault::File { path, error });
         }
     };
     match content_of(rt.alloc(), &bytes) {
         Some(content) => Ok(content),
         None => {
             let path = String::from_str(rt.alloc(), path)?;
-            Err(CallFault::Content { path })
+            Err(CommandFault::Content { path })
         }
     }
 }

@@ -5,5 +5,8 @@ mod encoded;
 mod named;
 mod paths;
 mod schema;
+mod types;
 
 pub use paths::{BUFFER, STDIN, act_on_file, failed};
+pub use schema::schema_at;
+pub use types::print_types;

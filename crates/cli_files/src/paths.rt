@@ -3,11 +3,11 @@
 use crate::encoded::encode_file;
 use crate::named::show_by;
 use cli_words::FileCommand;
-use cp_commands::{BROKEN, Plan, act};
+use cp_commands::{BROKEN, CLOSED, Plan, act};
 use cp_frame::Mode;
 use cp_words::Limits;
 use std::fs::File;
-use std::io::{self, BufWriter, Read};
+use std::io::{self, BufWriter, ErrorKind, Read};
 
 /// The FILE that stands for standard input.
 pub const STDIN: &str = "-";
@@ -36,8 +36,11 @@ pub fn act_on_file(rt: &HostRuntime, command: &FileCommand, path: &str) -> u8 {
     done.unwrap_or_else(|error| failed(rt, path, error))
 }
 
-/// The status after a device failed, which a line says.
+/// The status after a device failed, which a line says, unless it is the reader of what is printed that went away.
 pub fn failed(rt: &HostRuntime, device: &str, error: io::Error) -> u8 {
+    if error.kind() == ErrorKind::BrokenPipe {
+        return CLOSED;
+    }
     let _ = eprintln!(rt; "device: {device}: {error}");
     BROKEN
 }

@@ -82,6 +82,14 @@ pub(crate) enum ArgumentForm {
         needs: Option<&'static str>,
         excludes: Option<&'static str>,
     },
+    /// The same, given once or several times.
+    Each {
+        value: &'static str,
+        needs: Option<&'static str>,
+        excludes: Option<&'static str>,
+    },
+    /// A flag that isn't taken without one option.
+    FlagBeside(&'static str),
     /// An option with a number from 1 to this one.
     Number(&'static str, i64),
     /// The same, which has to be there.
@@ -107,7 +115,13 @@ impl Argument {
                 needs,
                 excludes,
                 ..
+            }
+            | ArgumentForm::Each {
+                needs,
+                excludes,
+                ..
             } => beside(arg, needs, excludes),
+            ArgumentForm::FlagBeside(needs) => beside(arg, Some(needs), None),
             _ => Ok(arg),
         }
     }
@@ -116,7 +130,13 @@ impl Argument {
     fn formed<'a>(&self, alloc: Global) -> Arg<'a> {
         let arg = Arg::new(alloc, self.name).help(self.help);
         match self.form {
-            ArgumentForm::Flag => arg.long(self.name).action(ArgAction::SetTrue),
+            ArgumentForm::Flag | ArgumentForm::FlagBeside(_) => {
+                arg.long(self.name).action(ArgAction::SetTrue)
+            }
+            ArgumentForm::Each { value, .. } => arg
+                .long(self.name)
+                .value_name(value)
+                .action(ArgAction::Append),
             ArgumentForm::Text(value) | ArgumentForm::Beside { value, .. } => arg
                 .long(self.name)
                 .value_name(value),

@@ -4,10 +4,15 @@ use crate::arguments::{
     Argument, ArgumentForm, COUNT, FILE, MOST_WORDS, NESTING, PACKED, PORT, TRAVERSAL, Words,
     limits_of, mode_of,
 };
-use crate::task::{Calling, Relaying, Task};
+use crate::serving::{LISTEN, address};
+use crate::task::{AskedTypes, Calling, Guarding, Relaying, Task};
 use clap::ArgMatches;
 use cp_frame::Mode;
 use cp_words::Limits;
+use std::net::SocketAddr;
+
+/// The greatest number of an option.
+const MOST: i64 = 4_294_967_295;
 
 /// Whether the target's frames are in the other form.
 const OTHER: Argument = Argument {
@@ -44,6 +49,81 @@ const TARGET: Argument = Argument {
     help: "A name or an address, and a port; or the path of a Unix socket, with a slash or after unix:",
 };
 
+/// The names by which a relay guards.
+const GUARD_SCHEMA: Argument = Argument {
+    name: "schema",
+    form: ArgumentForm::Text("REQUEST"),
+    help: "Guard HOST:PORT, with the names of the schema in REQUEST, a file of capnp compile -o-",
+};
+
+/// The methods that alone may be called.
+const ALLOW: Argument = Argument {
+    name: "allow",
+    form: ArgumentForm::Each {
+        value: "METHOD",
+        needs: Some("schema"),
+        excludes: Some("deny"),
+    },
+    help: "Let calls of METHOD through, as Store.get, and of no method without such a rule",
+};
+
+/// The methods that may not be called.
+const DENY: Argument = Argument {
+    name: "deny",
+    form: ArgumentForm::Each {
+        value: "METHOD",
+        needs: Some("schema"),
+        excludes: None,
+    },
+    help: "Let no call of METHOD through",
+};
+
+/// The file of rules.
+const RULES: Argument = Argument {
+    name: "rules",
+    form: ArgumentForm::Beside {
+        value: "FILE",
+        needs: Some("schema"),
+        excludes: None,
+    },
+    help: "More rules, a line each: allow METHOD, or deny METHOD",
+};
+
+/// Whether a refusal closes the connection.
+const STRICT: Argument = Argument {
+    name: "strict",
+    form: ArgumentForm::Flag,
+    help: "Close the connection of a call that isn't let through, in place of an exception",
+};
+
+/// Whether calls are printed.
+const LOG: Argument = Argument {
+    name: "log",
+    form: ArgumentForm::FlagBeside("schema"),
+    help: "Print each call by its name, with what became of it",
+};
+
+/// The calls under way.
+const CALLS_UNDER_WAY: Argument = Argument {
+    name: "calls",
+    form: ArgumentForm::Number("N", MOST),
+    help: "Let N calls of a connection be under way; one more fails as overloaded",
+};
+
+/// The calls a second.
+const CALLS_A_SECOND: Argument = Argument {
+    name: "rate",
+    form: ArgumentForm::Number("N", MOST),
+    help: "Let N calls a second through; one more fails as overloaded",
+};
+
+/// The bytes a second.
+const BYTES_A_SECOND: Argument = Argument {
+    name: "bytes",
+    form: ArgumentForm::Number("N", MOST),
+    help: "Read N bytes a second of a connection; further ones wait",
+};
+
 /// Whether messages are printed.
 const MESSAGES: Argument = Argument {
     name: "messages",
@@ -56,6 +136,38 @@ const TIMEOUT: Argument = Argument {
     name: "timeout",
     form: ArgumentForm::Number("SECONDS", 86_400),
     help: "Give up where nothing comes for so long; without it there is no end",
+};
+
+/// The schema by which calls are named.
+const SCHEMA: Argument = Argument {
+    name: "schema",
+    form: ArgumentForm::Text("REQUEST"),
+    help: "Name methods and fields by a schema: what `capnp compile -o- X.capnp` prints",
+};
+
+/// The schema whose types are asked for.
+const ASKED_SCHEMA: Argument = Argument {
+    name: "schema",
+    form: ArgumentForm::Needed("REQUEST"),
+    help: "The schema: what `capnp compile -o- X.capnp` prints",
+};
+
+/// Whether methods are asked for.
+const LIST: Argument = Argument {
+    name: "list",
+    form: ArgumentForm::Flag,
+    help: "Print the interfaces of the schema and their methods, and call nothing",
+};
+
+/// The type that is asked for.
+const DESCRIBE: Argument = Argument {
+    name: "describe",
+    form: ArgumentForm::Beside {
+        value: "NAME",
+        needs: Some("schema"),
+        excludes: Some("list"),
+    },
+    help: "Print this type of the schema, and call nothing",
 };
 
 /// Whose objects are called.
@@ -91,12 +203,21 @@ pub(crate) static LOOP_ARGUMENTS: [Argument; 2] = [PACKED, FILE];
 /// The words of `relay`.
 pub(crate) const RELAY: Words = Words {
     name: "relay",
-    about: "Relay COUNT connections on PORT to HOST:PORT, and let through what is accepted",
-    after_help: "Example: capnp_cli relay --show 7001 127.0.0.1:7000 1",
+    about: "Relay COUNT connections from PORT to HOST:PORT, and pass on only what is accepted",
+    after_help: "With --allow a call of another method fails with `not allowed`, and the rest of the connection goes on.\n\
+         \n\
+         Exit status:\n\
+         \x20 0  no message was refused, and no connection failed\n\
+         \x20 1  a message was refused, or the rules closed a connection; standard error says why, and of which end\n\
+         \x20 2  the command line is wrong, or a connection failed\n\
+         \n\
+         Examples:\n\
+         \x20 capnp_cli relay --show 7001 127.0.0.1:7000 1\n\
+         \x20 capnp_cli relay --schema store.request --allow Store.get --allow Store.list 7001 127.0.0.1:7000 1",
 };
 
 /// The arguments of `relay`.
-pub(crate) static RELAY_ARGUMENTS: [Argument; 10] = [
+pub(crate) static RELAY_ARGUMENTS: [Argument; 20] = [
     PACKED,
     OTHER,
     ANEW,
@@ -104,6 +225,16 @@ pub(crate) static RELAY_ARGUMENTS: [Argument; 10] = [
     NESTING,
     TRAVERSAL,
     FRAME_WORDS,
+    GUARD_SCHEMA,
+    ALLOW,
+    DENY,
+    RULES,
+    STRICT,
+    LOG,
+    CALLS_UNDER_WAY,
+    CALLS_A_SECOND,
+    BYTES_A_SECOND,
+    LISTEN,
     PORT,
     TARGET,
     COUNT,
@@ -112,18 +243,47 @@ pub(crate) static RELAY_ARGUMENTS: [Argument; 10] = [
 /// The words of `call`.
 pub(crate) const CALL: Words = Words {
     name: "call",
-    about: "Call the objects at ADDRESS, and print what each CALL came to as a line",
-    after_help: "A CALL is question:N[FIELDS] i=INTERFACE m=METHOD {TREE caps[..]}, in the notation of show. The first is \
-         question 1. Without a target it is a call of question:0[], which the bootstrap gives; without params a \
-         struct without fields is sent; i=INTERFACE m=METHOD @FILE sends the content of a stored message.\n\
-         Example: capnp_cli call 127.0.0.1:7000 'i=e5a1000000000001 m=0' \
-         'question:1[0] i=e5a1000000000002 m=0 {(2900000000000000;) caps[]}'",
+    about: "Call the objects at ADDRESS, and print the outcome of each CALL as a line",
+    after_help: "With --schema a CALL is INTERFACE.METHOD (FIELD = VALUE, ..). The first call is question 1.\n\
+         \x20 1.FIELD.METHOD (..)  calls a capability in the results of question 1, before they arrive\n\
+         \x20 question:1.FIELD     passes such a capability in params\n\
+         \x20 @FILE                in place of params sends the content of a stored message\n\
+         Without --schema a CALL is [TARGET] i=INTERFACE m=METHOD [PARAMS].\n\
+         \x20 TARGET               question:N[FIELDS]; by default the bootstrap object\n\
+         \x20 PARAMS               {TREE caps[..]}, as `show` prints it, or @FILE; by default an empty struct\n\
+         \n\
+         Exit status:\n\
+         \x20 0  every call returned results\n\
+         \x20 1  a call failed, or the peer aborted or broke the protocol; standard error says why\n\
+         \x20 2  the command line is wrong, or the connection failed\n\
+         \n\
+         Examples:\n\
+         \x20 capnp_cli call --schema board.request 127.0.0.1:7000 'Board.post (text = \"hello\")'\n\
+         \x20 capnp_cli call --schema board.request --list\n\
+         \x20 capnp_cli call 127.0.0.1:7000 'i=e5a1000000000001 m=0'",
 };
 
 /// The arguments of `call`.
-pub(crate) static CALL_ARGUMENTS: [Argument; 7] = [
-    PACKED, NESTING, TRAVERSAL, MESSAGES, TIMEOUT, ADDRESS, CALLS,
+pub(crate) static CALL_ARGUMENTS: [Argument; 10] = [
+    SCHEMA, LIST, DESCRIBE, PACKED, NESTING, TRAVERSAL, MESSAGES, TIMEOUT, ADDRESS, CALLS,
 ];
+
+/// The same, where types are asked for.
+pub(crate) static TYPES_ARGUMENTS: [Argument; 3] = [ASKED_SCHEMA, LIST, DESCRIBE];
+
+/// Whether the words are those of `call` that ask for types.
+pub(crate) fn asks_types(words: &[String]) -> bool {
+    // Then there is no address, so these words have arguments of their own.
+    let mut calls = false;
+    for word in words {
+        let word = word.as_str();
+        if calls && (word == "--list" || word.starts_with("--describe")) {
+            return true;
+        }
+        calls = calls || word == "call";
+    }
+    false
+}
 
 /// What the words of `loop` ask for.
 pub(crate) fn loop_of<'a, 'b>(matches: &'b ArgMatches<'a>) -> Option<Task<'a, 'b>> {
@@ -142,19 +302,41 @@ pub(crate) fn relay_of<'a, 'b>(matches: &'b ArgMatches<'a>) -> Option<Task<'a, '
         anew: matches.get_flag("anew"),
         limits: relay_limits_of(matches)?,
         shows: matches.get_flag("show"),
-        port: matches.get_one::<u16>("PORT")?,
+        guarding: guarding_of(matches),
+        address: SocketAddr::from((address(matches)?, matches.get_one::<u16>("PORT")?)),
         target: matches.get_str("HOST:PORT")?,
         count: matches.get_one::<u32>("COUNT")?,
     }))
 }
 
+/// How those that connect are guarded.
+fn guarding_of<'a, 'b>(matches: &'b ArgMatches<'a>) -> Guarding<'a, 'b> {
+    Guarding {
+        schema: matches.get_str("schema"),
+        allow: matches.get_strs("allow"),
+        deny: matches.get_strs("deny"),
+        rules: matches.get_str("rules"),
+        strict: matches.get_flag("strict"),
+        logs: matches.get_flag("log"),
+        calls: matches.get_one::<u32>("calls"),
+        rate: matches.get_one::<u32>("rate"),
+        bytes: matches.get_one::<u32>("bytes"),
+    }
+}
+
 /// What the words of `call` ask for.
 pub(crate) fn call_of<'a, 'b>(matches: &'b ArgMatches<'a>) -> Option<Task<'a, 'b>> {
+    let (request, name) = (matches.get_str("schema"), matches.get_str("describe"));
+    if matches.get_flag("list") || name.is_some() {
+        let request = request?;
+        return Some(Task::Types(AskedTypes { request, name }));
+    }
     Some(Task::Call(Calling {
         mode: mode_of(matches),
         limits: limits_of(matches)?,
         shows_messages: matches.get_flag("messages"),
         timeout: matches.get_one::<u32>("timeout"),
+        request,
         address: matches.get_str("ADDRESS")?,
         calls: matches.get_strs("CALL")?,
     }))

@@ -9,7 +9,7 @@ mod task;
 mod words;
 
 pub use task::{
-    Calling, FileCommand, GivenPlace, GivenService, Relaying, SchemaNames, Serving, StructName,
-    Task,
+    AskedTypes, Calling, FileCommand, GivenPlace, GivenService, Guarding, Relaying, SchemaNames,
+    Serving, StructName, Task,
 };
 pub use words::{Acts, WRONG, run};

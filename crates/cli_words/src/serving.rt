@@ -20,7 +20,7 @@ const IDLE: Argument = Argument {
 };
 
 /// The address that is listened on.
-const LISTEN: Argument = Argument {
+pub(crate) const LISTEN: Argument = Argument {
     name: "listen",
     form: ArgumentForm::Text("ADDRESS"),
     help: "Listen on ADDRESS, 127.0.0.1 by default",
@@ -191,7 +191,7 @@ fn service(matches: &ArgMatches, count: Option<u32>) -> GivenService {
 }
 
 /// The address that is listened on.
-fn address(matches: &ArgMatches) -> Option<IpAddr> {
+pub(crate) fn address(matches: &ArgMatches) -> Option<IpAddr> {
     if matches.contains_id("listen") {
         matches.get_one::<IpAddr>("listen")
     } else {

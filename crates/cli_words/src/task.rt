@@ -20,9 +20,11 @@ pub enum Task<'a, 'b> {
     /// Connections are served.
     Serve(Serving<'a>),
     /// Connections are relayed.
-    Relay(Relaying<'a>),
+    Relay(Relaying<'a, 'b>),
     /// The objects at an address are called.
     Call(Calling<'a, 'b>),
+    /// The types of a schema are printed.
+    Types(AskedTypes<'a>),
 }
 
 /// A command on a file.
@@ -116,7 +118,7 @@ pub struct GivenService {
 
 /// How connections are relayed, from where, and to where.
 #[derive(Clone, Copy)]
-pub struct Relaying<'a> {
+pub struct Relaying<'a, 'b> {
     /// The form of the frames of those that connect.
     pub near: Mode,
     /// The form of the target's frames.
@@ -126,10 +128,35 @@ pub struct Relaying<'a> {
     pub limits: Limits,
     /// Whether each message that goes is printed.
     pub shows: bool,
-    pub port: u16,
+    pub guarding: Guarding<'a, 'b>,
+    /// Where connections come to.
+    pub address: SocketAddr,
     /// A `HOST:PORT`.
     pub target: &'a str,
     pub count: u32,
+}
+
+/// How those that connect are guarded.
+#[derive(Clone, Copy)]
+pub struct Guarding<'a, 'b> {
+    /// The path of the file that has the schema.
+    pub schema: Option<&'a str>,
+    /// The methods that alone may be called.
+    pub allow: Option<&'b [&'a str]>,
+    /// The methods that may not be called.
+    pub deny: Option<&'b [&'a str]>,
+    /// The path of a file of rules.
+    pub rules: Option<&'a str>,
+    /// Whether a call that isn't let through closes the connection.
+    pub strict: bool,
+    /// Whether calls are printed.
+    pub logs: bool,
+    /// The most calls under way.
+    pub calls: Option<u32>,
+    /// The most calls a second.
+    pub rate: Option<u32>,
+    /// The most bytes that are read in a second.
+    pub bytes: Option<u32>,
 }
 
 /// Calls, and how they are made.
@@ -141,6 +168,17 @@ pub struct Calling<'a, 'b> {
     pub shows_messages: bool,
     /// The greatest number of seconds for which nothing may come.
     pub timeout: Option<u32>,
+    /// The path of the file that has the schema by which calls are named.
+    pub request: Option<&'a str>,
     pub address: &'a str,
     pub calls: &'b [&'a str],
+}
+
+/// What is asked of a schema.
+#[derive(Clone, Copy)]
+pub struct AskedTypes<'a> {
+    /// The path of the file that has the schema.
+    pub request: &'a str,
+    /// The name of a type; none where all methods are asked for.
+    pub name: Option<&'a str>,
 }

@@ -1,6 +1,7 @@
 //! A command line from its words to the status.
 
 use crate::arguments::{Argument, Words, command_of};
+use crate::connections::asks_types;
 use crate::serving::{self, is_open};
 use crate::task::Task;
 use crate::{connections, files};
@@ -59,7 +60,7 @@ pub fn run<A: Acts>(rt: &HostRuntime) -> io::Result<u8> {
 
 /// Has the program do what these words ask for.
 fn act_on<A: Acts>(rt: &HostRuntime, words: &[String]) -> io::Result<u8> {
-    let command = root(rt.alloc(), is_open(words))?;
+    let command = root(rt.alloc(), is_open(words) || asks_types(words))?;
     match command.try_get_matches_from(words) {
         Ok(matches) => {
             let status = act_by::<A>(rt, &matches);
@@ -79,7 +80,11 @@ fn act_by<A: Acts>(rt: &HostRuntime, matches: &ArgMatches) -> io::Result<u8> {
     match task_of(matches) {
         Some(task) => Ok(A::act(rt, &task)),
         None => {
-            eprintln!(rt; "error: not what `serve` takes: see capnp_cli help serve")?;
+            let name = match matches.subcommand() {
+                Some((name, _)) => name,
+                None => "",
+            };
+            eprintln!(rt; "error: not what `{name}` takes: see capnp_cli help {name}")?;
             Ok(WRONG)
         }
     }
@@ -91,7 +96,8 @@ fn say(rt: &HostRuntime, error: &Error) -> io::Result<u8> {
     Ok(error.exit_code() as u8)
 }
 
-/// What `capnp_cli` understands, where the words of `serve` are open to other ones than a port and a count, or aren't.
+/// What `capnp_cli` understands, where its words are open to other ones than usual, or aren't: `serve` to others than a port
+/// and a count, `call` to none.
 fn root<'a>(alloc: Global, is_open: bool) -> Result<Command<'a>, AllocError> {
     let mut command = head(alloc)?;
     for name in &ALL {
@@ -169,6 +175,7 @@ impl Name {
             Name::Serve if is_open => &serving::OPEN_ARGUMENTS,
             Name::Serve => &serving::SERVE_ARGUMENTS,
             Name::Relay => &connections::RELAY_ARGUMENTS,
+            Name::Call if is_open => &connections::TYPES_ARGUMENTS,
             Name::Call => &connections::CALL_ARGUMENTS,
         }
     }

@@ -1,13 +1,16 @@
 //! The commands over connections.
 
+use crate::guarding::{is_guarded, rules_of};
 use cli_calls::{CallPlan, call_address};
-use cli_files::{BUFFER, STDIN};
-use cli_words::{Calling, GivenPlace, GivenService, Relaying, Serving};
+use cli_files::{BUFFER, STDIN, schema_at};
+use cli_words::{Calling, GivenPlace, GivenService, Relaying, Serving, WRONG};
 use cp_daemon::{
     LONGEST_LOOP, ListenAddress, Service, loop_bytes, serve_pipe, serve_place, serve_port,
 };
 use cp_frame::Mode;
-use net_proxy::{RelayPlan, RelayRoute, relay_port};
+use cp_guard::Rules;
+use cp_schema::Schema;
+use net_proxy::{GuardPlan, RelayPlan, RelayRoute, relay_port};
 use std::fs::File;
 use std::io::{self, BufWriter, Read};
 
@@ -31,17 +34,37 @@ pub(crate) fn serve(rt: &HostRuntime, serving: &Serving) -> u8 {
     }
 }
 
-/// Relays connections.
+/// Relays connections, guarded by rules if the words say so.
 pub(crate) fn relay(rt: &HostRuntime, relaying: &Relaying) -> io::Result<u8> {
+    if !is_guarded(&relaying.guarding) {
+        return relay_by(rt, relaying, None);
+    }
+    if relaying.shows {
+        eprintln!(rt; "error: a guard prints calls by --log, and takes no --show")?;
+        return Ok(WRONG);
+    }
+    match rules_of(rt, &relaying.guarding) {
+        Ok(rules) => {
+            let status = relay_by(rt, relaying, Some(&rules));
+            drop(rules);
+            status
+        }
+        Err(status) => Ok(status),
+    }
+}
+
+/// Relays connections, guarded by these rules if there are some.
+fn relay_by(rt: &HostRuntime, relaying: &Relaying, rules: Option<&Rules>) -> io::Result<u8> {
     let plan = RelayPlan {
         near: relaying.near,
         far: relaying.far,
         anew: relaying.anew,
         limits: relaying.limits,
         shows: relaying.shows,
+        guard: guard_of(relaying, rules),
     };
     let route = RelayRoute {
-        port: relaying.port,
+        address: relaying.address,
         target: relaying.target,
         count: relaying.count,
     };
@@ -52,13 +75,38 @@ pub(crate) fn relay(rt: &HostRuntime, relaying: &Relaying) -> io::Result<u8> {
     Ok(status)
 }
 
-/// Calls the objects at an address.
+/// How those that connect are guarded, by these rules if there are some.
+fn guard_of<'r>(relaying: &Relaying, rules: Option<&'r Rules>) -> Option<GuardPlan<'r>> {
+    Some(GuardPlan {
+        rules: rules?,
+        bytes_a_second: relaying.guarding.bytes.unwrap_or(u32::MAX),
+        logs: relaying.guarding.logs,
+    })
+}
+
+/// Calls the objects at an address, by the names of a schema where one is given.
 pub(crate) fn call(rt: &HostRuntime, calling: &Calling) -> u8 {
+    let Some(path) = calling.request else {
+        return call_by(rt, calling, None);
+    };
+    match schema_at(rt, path) {
+        Ok(schema) => {
+            let status = call_by(rt, calling, Some(&schema));
+            drop(schema);
+            status
+        }
+        Err(status) => status,
+    }
+}
+
+/// Calls the objects at an address.
+fn call_by(rt: &HostRuntime, calling: &Calling, schema: Option<&Schema>) -> u8 {
     let plan = CallPlan {
         mode: calling.mode,
         limits: calling.limits,
         shows_messages: calling.shows_messages,
         timeout: calling.timeout,
+        schema,
     };
     let (mut out, mut err) = (io::writer(rt), rt.stderr());
     call_address(

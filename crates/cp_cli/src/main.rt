@@ -2,8 +2,9 @@
 #![tactic(auto)]
 
 mod connections;
+mod guarding;
 
-use cli_files::{act_on_file, failed};
+use cli_files::{act_on_file, failed, print_types};
 use cli_words::{Acts, Task, run};
 use connections::{call, on_loop, relay, serve};
 use std::process::ExitCode;
@@ -25,6 +26,7 @@ impl Acts for All {
                 error,
             )),
             Task::Call(calling) => call(rt, calling),
+            Task::Types(asked) => print_types(rt, asked),
         }
     }
 }

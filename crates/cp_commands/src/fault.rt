@@ -1,7 +1,8 @@
 //! What stops a command.
 
-use cp_frame::FrameFault;
+use cp_frame::{FrameFault, Mode};
 use cp_reading::TreeFault;
+use cp_rpc::SchemaFault;
 use cp_schema::DecodeFault;
 use cp_stream::Refusal;
 use cp_tree::WriteFault;
@@ -13,6 +14,10 @@ use std::io;
 pub enum Stop {
     /// Input was refused.
     Refused(Refusal),
+    /// Input was refused that is read in this form, and seems to have the other one.
+    OtherForm(Refusal, Mode),
+    /// A message that is shown is none of rpc.capnp.
+    OtherStruct(SchemaFault),
     /// A message isn't as its schema says.
     Wrong(DecodeFault),
     /// The reader failed.

@@ -4,6 +4,7 @@
 mod asked;
 mod batch;
 mod fault;
+mod foreign;
 mod names;
 mod plan;
 mod status;
@@ -11,7 +12,8 @@ mod stop;
 mod texts;
 
 pub use asked::Asked;
+pub use foreign::{foreign_protocol, is_other_form};
 pub use names::Names;
 pub use plan::{Plan, act};
-pub use status::{ACCEPTED, BROKEN, REFUSED};
+pub use status::{ACCEPTED, BROKEN, CLOSED, REFUSED};
 pub use texts::{Encoding, encode};

@@ -3,14 +3,16 @@
 use crate::asked::Occurrences;
 use crate::batch::Batch;
 use crate::fault::Stop;
+use crate::foreign::is_other_form;
 use crate::names::Names;
 use crate::status::ACCEPTED;
 use crate::stop::stopped;
 use cp_frame::{FrameReader, Mode};
 use cp_lines::push_line;
 use cp_reading::{View, read_root};
+use cp_rpc::{MessageView, SchemaFault};
 use cp_schema::{Decoder, message_line};
-use cp_stream::{check_in, view_in};
+use cp_stream::{Refusal, check_in, view_in};
 use cp_words::{Limits, Segments};
 use cp_writing::write_segments;
 use std::alloc::Global;
@@ -79,9 +81,9 @@ struct Last {
 }
 
 impl Plan<'_> {
-    /// A reader of the frames that the command takes.
-    fn reader(&self, alloc: Global) -> FrameReader {
-        let (mode, limits) = match self {
+    /// The form and the limits of the frames that the command takes.
+    fn form(&self) -> (Mode, Limits) {
+        match self {
             Plan::Show { mode, limits }
             | Plan::Check { mode, limits }
             | Plan::Decode { mode, limits, .. }
@@ -89,8 +91,18 @@ impl Plan<'_> {
             Plan::Pack => (Mode::Plain, Limits::standard()),
             Plan::Unpack => (Mode::Packed, Limits::standard()),
             Plan::Recut { mode, .. } => (*mode, Limits::standard()),
-        };
-        FrameReader::new(alloc, mode, limits)
+        }
+    }
+
+    /// What stopped the command at a piece: for the first frame, that the stream seems to have the other form.
+    fn stop_at(&self, stop: Stop, piece: &[u8], progress: &Progress) -> Stop {
+        let (mode, _) = self.form();
+        match stop {
+            Stop::Refused(fault) if progress.bytes == 0 && is_other_form(mode, piece) => {
+                Stop::OtherForm(fault, mode)
+            }
+            stop => stop,
+        }
     }
 
     /// Does the command on a frame.
@@ -170,7 +182,8 @@ impl Plan<'_> {
         progress: &mut Progress,
     ) -> Result<(), Stop> {
         let alloc = last.alloc;
-        let mut reader = self.reader(alloc);
+        let (mode, limits) = self.form();
+        let mut reader = FrameReader::new(alloc, mode, limits);
         let mut piece = vec![in alloc; 0u8; LARGEST_PIECE]?;
         let mut most = PIECE;
         // A reader could go on for ever; no device gives this many pieces.
@@ -182,7 +195,10 @@ impl Plan<'_> {
                 Err(error) if error.kind() == ErrorKind::Interrupted => continue,
                 Err(error) => return Err(Stop::Reading(error)),
             };
-            let ended = self.do_piece(&mut reader, &piece[..length], last, out, progress)?;
+            let ended = match self.do_piece(&mut reader, &piece[..length], last, out, progress) {
+                Ok(ended) => ended,
+                Err(stop) => return Err(self.stop_at(stop, &piece[..length], progress)),
+            };
             most = if ended { PIECE } else { asked + PIECE / 2 };
         }
         Err(Stop::Reading(io::Error::from(ErrorKind::Other)))
@@ -231,7 +247,7 @@ fn show<W: Write>(
     line: &mut String,
     out: &mut W,
 ) -> Result<(), Stop> {
-    let view = view_in(segments, limits)?;
+    let view = shown_in(segments, limits)?;
     line.clear();
     push_line(alloc, line, &view)?;
     Ok(out.write_all(line.as_bytes())?)
@@ -246,7 +262,7 @@ fn name<W: Write>(
     out: &mut W,
 ) -> Result<(), Stop> {
     let alloc = last.alloc;
-    let view = view_in(segments, limits)?;
+    let view = shown_in(segments, limits)?;
     last.line.clear();
     push_line(alloc, &mut last.line, &view)?;
     let named = names.line(alloc, &mut last.returns, last.line.as_str(), &view)?;
@@ -254,6 +270,17 @@ fn name<W: Write>(
         last.line = line;
     }
     Ok(out.write_all(last.line.as_bytes())?)
+}
+
+/// The message that segments hold, for one who may have meant another struct.
+fn shown_in<'a>(segments: &'a Segments, limits: Limits) -> Result<MessageView<'a>, Stop> {
+    match view_in(segments, limits) {
+        Ok(view) => Ok(view),
+        Err(Refusal::Schema(fault)) if fault != SchemaFault::OutOfMemory => {
+            Err(Stop::OtherStruct(fault))
+        }
+        Err(refusal) => Err(Stop::Refused(refusal)),
+    }
 }
 
 /// Writes the message's line by a struct of a schema.

@@ -4,7 +4,7 @@ use crate::batch::Batch;
 use crate::fault::Stop;
 use crate::status::{ACCEPTED, REFUSED};
 use crate::stop::stopped;
-use cp_encoder::{EncodeFault, Encoder, Splitter, TextFault};
+use cp_encoder::{EncodeFault, Encoder, NotationFault, Splitter};
 use cp_frame::Mode;
 use cp_tree::Object;
 use cp_words::{Limits, Segments};
@@ -27,7 +27,7 @@ pub struct Encoding<'s> {
 #[derive(Drop)]
 enum Halt {
     /// A text isn't as it should be.
-    Text(TextFault),
+    Text(NotationFault),
     Stop(Stop),
 }
 
@@ -176,14 +176,14 @@ impl Texts {
     }
 
     /// A fault of the text by its place in all texts.
-    fn placed(&self, fault: TextFault) -> TextFault {
-        let TextFault {
+    fn placed(&self, fault: NotationFault) -> NotationFault {
+        let NotationFault {
             line,
             column,
             message,
         } = fault;
         let before = if line == 1 { self.column } else { 1 };
-        TextFault {
+        NotationFault {
             line: line.saturating_add(self.line).saturating_sub(1),
             column: column.saturating_add(before).saturating_sub(1),
             message,
@@ -194,7 +194,7 @@ impl Texts {
     fn refused<F: Display>(&self, fault: &F) -> Halt {
         let mut message = String::new(self.alloc);
         match write!(message, "{fault}") {
-            Ok(()) => Halt::Text(TextFault {
+            Ok(()) => Halt::Text(NotationFault {
                 line: self.line,
                 column: self.column,
                 message,

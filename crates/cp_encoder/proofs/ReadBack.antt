@@ -1,24 +1,24 @@
 -- What was given is read from the struct that is made: fields that are put later leave it as it is.
-use Rattle.std.proofs.Common.{◌≡◌, ◌≢◌, ℕ, zero, suc, ◌+◌, ◌*◌, ◌/◌, ◌%◌, ◌^◌, ◌<◌, ◌≤◌, List, [], ◌∷◌, length, map, replicate, refl, ap, sym, subst, ◌∙◌, arith, rules}
-use Rattle.std.specs.Prelude.{All, AllPairs, bit_xor, slice_set}
+use Rattle.std.proofs.Common.{◌≡◌, ◌≢◌, ℕ, zero, suc, ◌^◌, ◌<◌, List, [], ◌∷◌, length, map, replicate, refl, ap, sym, subst, ◌∙◌, arith, rules}
+use Rattle.std.specs.Prelude.{All, AllPairs, bit_xor}
 use Rattle.std.proofs.Math.Nat.{mod-eq_of_lt}
 use Rattle.std.proofs.lemmas.Nat.{mod_below, pow_pos, xor_lt}
 use Rattle.std.proofs.lemmas.List.{length-replicate, length-set}
 use Rattle.std.proofs.lemmas.List.Elements.{All-nil, All-cons}
 use Rattle.cp_tree.specs.Node.{Node, null, struct, Nodes, no_nodes, node, count}
 use Rattle.cp_tree.specs.NodeOf.{nodes_of}
-use Rattle.cp_tree.specs.Seen.{node_at, pointee_of}
+use Rattle.cp_tree.specs.Seen.{node_at}
 use Rattle.cp_tree.proofs.Trees.{count-nodes}
 use Rattle.cp_fields.specs.Numbers.{plain, uint}
 use Rattle.cp_builder.specs.Drafts.{with_node}
-use Rattle.cp_builder.specs.Numbers.{put, with_number, IsInWord}
+use Rattle.cp_builder.specs.Numbers.{with_number, IsInWord}
 use Rattle.cp_builder.proofs.ReadBack.{number_back_or, pointer_back}
 use Rattle.cp_builder.proofs.Others.{number_stays, pointer_stays}
 use Rattle.cp_encoder.specs.declared.value.Width.{Width}
 use Rattle.cp_encoder.specs.declared.value.Width.TheVariants as widths
 use Rattle.cp_encoder.specs.declared.value.Number.{Number}
 use Rattle.cp_encoder.specs.declared.value.Fields.{Fields, out-Fields, the_lemmas}
-use Rattle.cp_encoder.specs.declared.value.Pointer.{Pointer}
+use Rattle.cp_encoder.specs.declared.value.TextPointer.{TextPointer}
 use Rattle.cp_encoder.specs.Values.{bits_in, stored, with_stored, with_all_stored, with_all_nodes, value_node, fields_body, fields_node, placed}
 use Rattle.cp_encoder.specs.ReadBack.{FitsIn, AreBeside, numbers_of, pointers_of, HasOwnBits, HasOwnPlaces, IsNumberOf, IsPointerOf}
 
@@ -80,7 +80,7 @@ numbers_back f own =
     (subst (λ (d : ℕ). All (FitsIn d) (numbers_of f)) (sym (length-replicate (out-Fields f).words 0)) own.0)
     own.1)
 
-placed_is : (p : Pointer) → placed p ≡ (p.place, value_node p.value)
+placed_is : (p : TextPointer) → placed p ≡ (p.place, value_node p.value)
 placed_is p = search (rules, the_lemmas)
 
 count_kept : (ts : Nodes) (i : ℕ) (t : Node) → count (with_node ts i t) ≡ count ts
@@ -88,25 +88,25 @@ count_kept no_nodes i t = refl
 count_kept (node old ts) zero t = refl
 count_kept (node old ts) (suc i) t = ap suc (count_kept ts i t)
 
-pointers_stay : (ts : Nodes) (ps : List Pointer) (i : ℕ) → All (λ (p : Pointer). p.place ≢ i) ps → node_at (with_all_nodes ts (map placed ps)) i ≡ node_at ts i
+pointers_stay : (ts : Nodes) (ps : List TextPointer) (i : ℕ) → All (λ (p : TextPointer). p.place ≢ i) ps → node_at (with_all_nodes ts (map placed ps)) i ≡ node_at ts i
 pointers_stay ts [] i apart = refl
 pointers_stay ts (p ∷ ps) i apart =
     ap (λ (b : ℕ × Node). node_at (with_all_nodes (with_node ts b.0 b.1) (map placed ps)) i) (placed_is p)
-    ∙ pointers_stay (with_node ts p.place (value_node p.value)) ps i (rest_of (λ (q : Pointer). q.place ≢ i) p ps apart)
-    ∙ pointer_stays (struct [] ts) p.place (value_node p.value) i (first_of (λ (q : Pointer). q.place ≢ i) p ps apart)
+    ∙ pointers_stay (with_node ts p.place (value_node p.value)) ps i (rest_of (λ (q : TextPointer). q.place ≢ i) p ps apart)
+    ∙ pointer_stays (struct [] ts) p.place (value_node p.value) i (first_of (λ (q : TextPointer). q.place ≢ i) p ps apart)
 
-each_held : (ts : Nodes) (ps : List Pointer) → All (λ (p : Pointer). p.place < count ts) ps → AllPairs (λ (p q : Pointer). q.place ≢ p.place) ps
-    → All (λ (p : Pointer). node_at (with_all_nodes ts (map placed ps)) p.place ≡ value_node p.value) ps
-each_held ts [] within apart = All-nil (λ (p : Pointer). node_at ts p.place ≡ value_node p.value)
+each_held : (ts : Nodes) (ps : List TextPointer) → All (λ (p : TextPointer). p.place < count ts) ps → AllPairs (λ (p q : TextPointer). q.place ≢ p.place) ps
+    → All (λ (p : TextPointer). node_at (with_all_nodes ts (map placed ps)) p.place ≡ value_node p.value) ps
+each_held ts [] within apart = All-nil (λ (p : TextPointer). node_at ts p.place ≡ value_node p.value)
 each_held ts (p ∷ ps) within apart =
     let next : Nodes = with_node ts p.place (value_node p.value) in
-    subst (λ (b : ℕ × Node). All (λ (q : Pointer). node_at (with_all_nodes (with_node ts b.0 b.1) (map placed ps)) q.place ≡ value_node q.value) (p ∷ ps)) (sym (placed_is p))
-    (All-cons (λ (q : Pointer). node_at (with_all_nodes next (map placed ps)) q.place ≡ value_node q.value) p ps
-    (pointers_stay next ps p.place (with_first (λ (q r : Pointer). r.place ≢ q.place) p ps apart)
-    ∙ pointer_back (struct [] ts) p.place (value_node p.value) (first_of (λ (q : Pointer). q.place < count ts) p ps within))
+    subst (λ (b : ℕ × Node). All (λ (q : TextPointer). node_at (with_all_nodes (with_node ts b.0 b.1) (map placed ps)) q.place ≡ value_node q.value) (p ∷ ps)) (sym (placed_is p))
+    (All-cons (λ (q : TextPointer). node_at (with_all_nodes next (map placed ps)) q.place ≡ value_node q.value) p ps
+    (pointers_stay next ps p.place (with_first (λ (q r : TextPointer). r.place ≢ q.place) p ps apart)
+    ∙ pointer_back (struct [] ts) p.place (value_node p.value) (first_of (λ (q : TextPointer). q.place < count ts) p ps within))
     (each_held next ps
-    (subst (λ (n : ℕ). All (λ (q : Pointer). q.place < n) ps) (sym (count_kept ts p.place (value_node p.value))) (rest_of (λ (q : Pointer). q.place < count ts) p ps within))
-    (after_first (λ (q r : Pointer). r.place ≢ q.place) p ps apart)))
+    (subst (λ (n : ℕ). All (λ (q : TextPointer). q.place < n) ps) (sym (count_kept ts p.place (value_node p.value))) (rest_of (λ (q : TextPointer). q.place < count ts) p ps within))
+    (after_first (λ (q r : TextPointer). r.place ≢ q.place) p ps apart)))
 
 nulls_counted : (n : ℕ) → count (nodes_of (replicate n null)) ≡ n
 nulls_counted n = count-nodes (replicate n null) ∙ length-replicate n null
@@ -115,5 +115,5 @@ pub pointers_back : (f : Fields) → HasOwnPlaces f → All (IsPointerOf (fields
 pointers_back f own =
     subst (λ (b : List ℕ × Nodes). All (IsPointerOf (struct b.0 b.1)) (pointers_of f)) (sym (body_is f))
     (each_held (nodes_of (replicate (out-Fields f).pointers null)) (pointers_of f)
-    (subst (λ (n : ℕ). All (λ (p : Pointer). p.place < n) (pointers_of f)) (sym (nulls_counted (out-Fields f).pointers)) own.0)
+    (subst (λ (n : ℕ). All (λ (p : TextPointer). p.place < n) (pointers_of f)) (sym (nulls_counted (out-Fields f).pointers)) own.0)
     own.1)

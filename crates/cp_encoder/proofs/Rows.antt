@@ -1,6 +1,6 @@
 -- What stays of a row where something is put past its end, and of a word of which no bit is dropped.
-use Rattle.std.proofs.Common.{◌≡◌, ◌<◌, ◌≤◌, ◌/◌, ◌*◌, ◌%◌, ◌^◌, ℕ, List, length, map, set, ap, sym, ◌∙◌}
-use Rattle.std.specs.Prelude.{slice_index, slice_set}
+use Rattle.std.proofs.Common.{◌≡◌, ◌<◌, ◌≤◌, ◌/◌, ◌*◌, ◌%◌, ◌^◌, ℕ, List, length, map, ap, sym, ◌∙◌}
+use Rattle.std.specs.Prelude.{slice_index}
 use Rattle.std.proofs.Math.Nat.{mod-eq_of_lt}
 use Rattle.std.proofs.lemmas.List.{set_past}
 use Rattle.cp_tree.specs.NodeOf.{node_of, nodes_of}

@@ -8,10 +8,10 @@ use Rattle.cp_builder.specs.Drafts.{with_node, text_tree, bits_tree, bytes_tree,
 use Rattle.cp_encoder.specs.declared.value.Width.TheVariants as widths
 use Rattle.cp_encoder.specs.declared.value.Width.{Width}
 use Rattle.cp_encoder.specs.declared.value.Number.{Number}
-use Rattle.cp_encoder.specs.declared.value.Value.{Value, fold-Value}
-use Rattle.cp_encoder.specs.declared.value.Value.TheOpen.{Value-F, Fields-F, Pointer-F}
+use Rattle.cp_encoder.specs.declared.value.TextValue.{TextValue, fold-TextValue}
+use Rattle.cp_encoder.specs.declared.value.TextValue.TheOpen.{TextValue-F, Fields-F, TextPointer-F}
 use Rattle.cp_encoder.specs.declared.value.Fields.{Fields, fold-Fields}
-use Rattle.cp_encoder.specs.declared.value.Pointer.{Pointer, fold-Pointer}
+use Rattle.cp_encoder.specs.declared.value.TextPointer.{TextPointer, fold-TextPointer}
 
 -- how many bits a number has
 abbrev pub bits_in : Width → ℕ
@@ -40,38 +40,38 @@ with_all_nodes ts [] = ts
 with_all_nodes ts (p ∷ ps) = with_all_nodes (with_node ts p.0 p.1) ps
 
 -- one level, with each part already seen as its tree
-abbrev pub value_step : Value-F Node (List ℕ × Nodes) (ℕ × Node) → Node
-value_step Value-F.Null = null
-value_step (Value-F.Cap i) = cap i
-value_step (Value-F.Text bs) = text_tree bs.items
-value_step (Value-F.Struct b) = struct b.0 b.1
-value_step (Value-F.Voids n) = list (voids n)
-value_step (Value-F.Bits items) = bits_tree items.items
-value_step (Value-F.Bytes items) = bytes_tree items.items
-value_step (Value-F.Halves items) = halves_tree items.items
-value_step (Value-F.Quads items) = quads_tree items.items
-value_step (Value-F.Words items) = words_tree items.items
-value_step (Value-F.Pointers items) = ptrs (nodes_of items.items)
-value_step (Value-F.Structs d n items) = structs d n (bodies_of items.items)
+abbrev pub value_step : TextValue-F Node (List ℕ × Nodes) (ℕ × Node) → Node
+value_step TextValue-F.Null = null
+value_step (TextValue-F.Cap i) = cap i
+value_step (TextValue-F.Text bs) = text_tree bs.items
+value_step (TextValue-F.Struct b) = struct b.0 b.1
+value_step (TextValue-F.Voids n) = list (voids n)
+value_step (TextValue-F.Bits items) = bits_tree items.items
+value_step (TextValue-F.Bytes items) = bytes_tree items.items
+value_step (TextValue-F.Halves items) = halves_tree items.items
+value_step (TextValue-F.Quads items) = quads_tree items.items
+value_step (TextValue-F.Words items) = words_tree items.items
+value_step (TextValue-F.Pointers items) = ptrs (nodes_of items.items)
+value_step (TextValue-F.Structs d n items) = structs d n (bodies_of items.items)
 
 -- the words of a struct and its pointers: all as by default, but for those that are given
 abbrev pub fields_step : Fields-F Node (List ℕ × Nodes) (ℕ × Node) → List ℕ × Nodes
 fields_step f = (with_all_stored (replicate f.words 0) f.numbers.items, with_all_nodes (nodes_of (replicate f.pointers null)) f.values.items)
 
-abbrev pub pointer_step : Pointer-F Node (List ℕ × Nodes) (ℕ × Node) → ℕ × Node
+abbrev pub pointer_step : TextPointer-F Node (List ℕ × Nodes) (ℕ × Node) → ℕ × Node
 pointer_step p = (p.place, p.value)
 
 -- the tree of a value
-abbrev pub value_node : Value → Node
-value_node = fold-Value Node (List ℕ × Nodes) (ℕ × Node) value_step fields_step pointer_step
+abbrev pub value_node : TextValue → Node
+value_node = fold-TextValue Node (List ℕ × Nodes) (ℕ × Node) value_step fields_step pointer_step
 
 -- the words of a struct, and its pointers
 abbrev pub fields_body : Fields → List ℕ × Nodes
 fields_body = fold-Fields Node (List ℕ × Nodes) (ℕ × Node) value_step fields_step pointer_step
 
 -- the place of a pointer, and what it stands for
-abbrev pub placed : Pointer → ℕ × Node
-placed = fold-Pointer Node (List ℕ × Nodes) (ℕ × Node) value_step fields_step pointer_step
+abbrev pub placed : TextPointer → ℕ × Node
+placed = fold-TextPointer Node (List ℕ × Nodes) (ℕ × Node) value_step fields_step pointer_step
 
 -- the struct of the fields that are given
 abbrev pub fields_node : Fields → Node

@@ -3,18 +3,18 @@
 use crate::number::integer_of;
 use crate::reader::Reader;
 use crate::token::Token;
-use crate::value::Value;
+use crate::value::TextValue;
 
 impl<'s, 't> Reader<'s, 't> {
     /// A capability, or null.
-    pub(crate) fn cap(&mut self) -> Value {
+    pub(crate) fn cap(&mut self) -> TextValue {
         if let Token::Name(b"null") = self.token {
             self.advance();
-            return Value::Null;
+            return TextValue::Null;
         }
         if self.caps.is_none() {
             self.miss("null, since a message by itself has no capabilities");
-            return Value::Null;
+            return TextValue::Null;
         }
         let mut words = String::new(self.alloc);
         self.cap_words(&mut words);
@@ -22,17 +22,17 @@ impl<'s, 't> Reader<'s, 't> {
     }
 
     /// Adds a capability to those that were named.
-    fn add_cap(&mut self, words: String) -> Value {
+    fn add_cap(&mut self, words: String) -> TextValue {
         let Some(caps) = &mut self.caps else {
-            return Value::Null;
+            return TextValue::Null;
         };
         let index = caps.len();
         let pushed = caps.push(words);
         match u32::try_from(index) {
-            Ok(index) if pushed.is_ok() => Value::Cap(index),
+            Ok(index) if pushed.is_ok() => TextValue::Cap(index),
             _ => {
                 self.starve();
-                Value::Null
+                TextValue::Null
             }
         }
     }

@@ -6,7 +6,7 @@ use std::fmt;
 
 /// Where a text isn't as it should be.
 #[derive(PartialEq, Eq, Debug, Drop)]
-pub struct TextFault {
+pub struct NotationFault {
     /// The line, from 1.
     pub line: usize,
     /// The byte of that line, from 1.
@@ -18,7 +18,7 @@ pub struct TextFault {
 /// Why nothing is made of a text.
 #[derive(PartialEq, Eq, Debug, Drop)]
 pub enum EncodeFault {
-    Text(TextFault),
+    Text(NotationFault),
     /// A list, or all that the text has, is longer than a message's can be.
     TooLong,
     OutOfMemory,
@@ -34,7 +34,7 @@ impl fmt::Display for EncodeFault {
     }
 }
 
-impl fmt::Display for TextFault {
+impl fmt::Display for NotationFault {
     fn fmt<W: fmt::Write>(&self, f: &mut fmt::Formatter<W>) -> fmt::Result {
         write!(
             f,

@@ -23,9 +23,9 @@ mod token;
 mod value;
 
 pub use encoder::{Encoded, Encoder};
-pub use fault::{EncodeFault, TextFault};
+pub use fault::{EncodeFault, NotationFault};
 pub use laws::{given_numbers_come_back, given_pointers_come_back};
 pub use making::object_of;
 pub use nearest::nearest_types;
 pub use splitter::{Piece, Splitter};
-pub use value::{Fields, Number, Pointer, Value, Width};
+pub use value::{Fields, Number, TextPointer, TextValue, Width};

@@ -2,7 +2,7 @@
 
 use crate::numbers::width_of;
 use crate::reader::Reader;
-use crate::value::{Value, Width};
+use crate::value::{TextValue, Width};
 use cp_schema::Base;
 
 /// What ends a list, and what is wanted before that.
@@ -48,19 +48,19 @@ impl Element for u64 {
 
 impl<'s, 't> Reader<'s, 't> {
     /// A list of elements of this type, which is no pointer, after its bracket.
-    pub(crate) fn flat(&mut self, of: Base) -> Value {
+    pub(crate) fn flat(&mut self, of: Base) -> TextValue {
         match width_of(of) {
             None => self.voids(),
-            Some(Width::Bit) => Value::Bits(self.elements(of)),
-            Some(Width::Byte) => Value::Bytes(self.elements(of)),
-            Some(Width::TwoBytes) => Value::Halves(self.elements(of)),
-            Some(Width::FourBytes) => Value::Quads(self.elements(of)),
-            Some(Width::Word) => Value::Words(self.elements(of)),
+            Some(Width::Bit) => TextValue::Bits(self.elements(of)),
+            Some(Width::Byte) => TextValue::Bytes(self.elements(of)),
+            Some(Width::TwoBytes) => TextValue::Halves(self.elements(of)),
+            Some(Width::FourBytes) => TextValue::Quads(self.elements(of)),
+            Some(Width::Word) => TextValue::Words(self.elements(of)),
         }
     }
 
     /// A list of elements without bits.
-    fn voids(&mut self) -> Value {
+    fn voids(&mut self) -> TextValue {
         let mut count = 0_u32;
         for place in 0..=self.most() {
             if !self.goes_on(place, END, WANTED) {
@@ -69,7 +69,7 @@ impl<'s, 't> Reader<'s, 't> {
             self.void();
             count = count.saturating_add(1);
         }
-        Value::Voids(count)
+        TextValue::Voids(count)
     }
 
     /// The elements of a list.

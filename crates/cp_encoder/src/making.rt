@@ -10,7 +10,7 @@ ghost use Rattle.cp_encoder.specs.Values.{value_node, fields_body, fields_node, 
 ghost use Rattle.cp_encoder.specs.declared.fault.EncodeFault.TheVariants.{TooLong};
 
 use crate::fault::EncodeFault;
-use crate::value::{Fields, Number, Pointer, Value, Width};
+use crate::value::{Fields, Number, TextPointer, TextValue, Width};
 use cp_tree::{Body, Object, Tree};
 use std::alloc::{AllocError, Global};
 
@@ -28,22 +28,22 @@ pub fn object_of(alloc: Global, fields: &Fields) -> Result<Object, EncodeFault>
 
 /// What a value stands for.
 #[cycle(make)]
-fn tree_of(alloc: Global, value: &Value) -> Result<Tree, AllocError>
+fn tree_of(alloc: Global, value: &TextValue) -> Result<Tree, AllocError>
     ensures { IfOk result (λ t. node_of t ≡ value_node value.now) }
 {
     match value {
-        Value::Null => Ok(Tree::Null),
-        Value::Cap(index) => Ok(Tree::Cap(*index)),
-        Value::Text(bytes) => Ok(Tree::Bytes(with_zero(alloc, bytes)?)),
-        Value::Struct(fields) => Ok(Tree::Struct(body_of(alloc, fields)?)),
-        Value::Voids(count) => Ok(Tree::Voids(*count)),
-        Value::Bits(items) => Ok(Tree::Bits(Vec::from_slice(alloc, items)?)),
-        Value::Bytes(items) => Ok(Tree::Bytes(Vec::from_slice(alloc, items)?)),
-        Value::Halves(items) => Ok(Tree::Halves(Vec::from_slice(alloc, items)?)),
-        Value::Quads(items) => Ok(Tree::Quads(Vec::from_slice(alloc, items)?)),
-        Value::Words(items) => Ok(Tree::Words(Vec::from_slice(alloc, items)?)),
-        Value::Pointers(items) => Ok(Tree::Ptrs(trees_of(alloc, items)?)),
-        Value::Structs {
+        TextValue::Null => Ok(Tree::Null),
+        TextValue::Cap(index) => Ok(Tree::Cap(*index)),
+        TextValue::Text(bytes) => Ok(Tree::Bytes(with_zero(alloc, bytes)?)),
+        TextValue::Struct(fields) => Ok(Tree::Struct(body_of(alloc, fields)?)),
+        TextValue::Voids(count) => Ok(Tree::Voids(*count)),
+        TextValue::Bits(items) => Ok(Tree::Bits(Vec::from_slice(alloc, items)?)),
+        TextValue::Bytes(items) => Ok(Tree::Bytes(Vec::from_slice(alloc, items)?)),
+        TextValue::Halves(items) => Ok(Tree::Halves(Vec::from_slice(alloc, items)?)),
+        TextValue::Quads(items) => Ok(Tree::Quads(Vec::from_slice(alloc, items)?)),
+        TextValue::Words(items) => Ok(Tree::Words(Vec::from_slice(alloc, items)?)),
+        TextValue::Pointers(items) => Ok(Tree::Ptrs(trees_of(alloc, items)?)),
+        TextValue::Structs {
             words,
             pointers,
             items,
@@ -68,7 +68,7 @@ fn body_of(alloc: Global, fields: &Fields) -> Result<Body, AllocError>
 
 /// What so many pointers stand for, of which these are given.
 #[cycle(make)]
-fn pointers_of(alloc: Global, count: u16, given: &[Pointer]) -> Result<Vec<Tree>, AllocError>
+fn pointers_of(alloc: Global, count: u16, given: &[TextPointer]) -> Result<Vec<Tree>, AllocError>
     ensures { IfOk result (λ v. nodes_of (map node_of v.items) ≡ with_all_nodes (nodes_of (replicate count null)) (map placed given.now)) }
 {
     let mut trees = nulls(alloc, count)?;
@@ -81,7 +81,7 @@ fn pointers_of(alloc: Global, count: u16, given: &[Pointer]) -> Result<Vec<Tree>
 
 /// What the elements of a list stand for.
 #[cycle(make)]
-fn trees_of(alloc: Global, values: &[Value]) -> Result<Vec<Tree>, AllocError>
+fn trees_of(alloc: Global, values: &[TextValue]) -> Result<Vec<Tree>, AllocError>
     ensures { IfOk result (λ v. map node_of v.items ≡ map value_node values.now) }
 {
     let mut trees = Vec::with_capacity(alloc, values.len())?;
@@ -125,7 +125,7 @@ fn nulls(alloc: Global, count: u16) -> Result<Vec<Tree>, AllocError>
 }
 
 /// Puts what a pointer stands for in its place in a row of trees, if there is one.
-fn set_pointer(row: &mut Vec<Tree>, pointer: &Pointer, tree: Tree)
+fn set_pointer(row: &mut Vec<Tree>, pointer: &TextPointer, tree: Tree)
     requires { node_of tree ≡ value_node pointer.now.value }
     ensures { nodes_of (map node_of row.new.items) ≡ with_node (nodes_of (map node_of row.old.items)) (placed pointer.now).0 (placed pointer.now).1 }
 {

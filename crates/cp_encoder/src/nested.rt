@@ -5,7 +5,7 @@ use crate::lists::{END, WANTED};
 use crate::numbers::{is_pointer, width_of};
 use crate::reader::Reader;
 use crate::room::Room;
-use crate::value::{Fields, Pointer, Value};
+use crate::value::{Fields, TextPointer, TextValue};
 use cp_schema::{Base, FieldKind, Slot, Structure, Type};
 
 impl<'s, 't> Reader<'s, 't> {
@@ -24,13 +24,13 @@ impl<'s, 't> Reader<'s, 't> {
 
     /// What a pointer of this type stands for.
     #[cycle(value)]
-    pub(crate) fn pointer(&mut self, of: Type, room: Room) -> Value {
+    pub(crate) fn pointer(&mut self, of: Type, room: Room) -> TextValue {
         if of.lists == 0 && matches!(of.of, Base::Interface(_) | Base::AnyPointer) {
             return self.cap();
         }
         let Some(inner) = room.inside() else {
             self.miss("structs and lists that lie no more than 64 deep within one another");
-            return Value::Null;
+            return TextValue::Null;
         };
         if of.lists > 0 {
             let element = Type {
@@ -48,12 +48,12 @@ impl<'s, 't> Reader<'s, 't> {
 
     /// A struct of this node.
     #[cycle(value)]
-    fn inner_struct(&mut self, id: u64, room: Room) -> Value {
+    fn inner_struct(&mut self, id: u64, room: Room) -> TextValue {
         match self.structure(id) {
-            Some(of) => Value::Struct(self.body(of, room)),
+            Some(of) => TextValue::Struct(self.body(of, room)),
             None => {
                 self.miss("a struct that the schema has");
-                Value::Null
+                TextValue::Null
             }
         }
     }
@@ -103,7 +103,7 @@ impl<'s, 't> Reader<'s, 't> {
         if is_pointer(slot.of) {
             let value = self.pointer(slot.of, room);
             let place = slot.place;
-            self.push(&mut into.values, Pointer { place, value });
+            self.push(&mut into.values, TextPointer { place, value });
         } else {
             let bits = self.bits(slot.of.of);
             self.number(into, width_of(slot.of.of), slot, bits);
@@ -112,13 +112,13 @@ impl<'s, 't> Reader<'s, 't> {
 
     /// A list of elements of this type.
     #[cycle(value)]
-    pub(crate) fn list(&mut self, element: Type, room: Room) -> Value {
+    pub(crate) fn list(&mut self, element: Type, room: Room) -> TextValue {
         if !self.is_next(b'[') {
             self.miss_type(Type {
                 lists: element.lists.saturating_add(1),
                 of: element.of,
             });
-            return Value::Null;
+            return TextValue::Null;
         }
         self.advance();
         match element.of {
@@ -130,7 +130,7 @@ impl<'s, 't> Reader<'s, 't> {
 
     /// A list of pointers of this type, after its bracket.
     #[cycle(value)]
-    fn pointers(&mut self, element: Type, room: Room) -> Value {
+    fn pointers(&mut self, element: Type, room: Room) -> TextValue {
         let mut items = Vec::new(self.alloc);
         for place in 0..=self.most() {
             if !self.goes_on(place, END, WANTED) {
@@ -139,15 +139,15 @@ impl<'s, 't> Reader<'s, 't> {
             let value = self.pointer(element, room);
             self.push(&mut items, value);
         }
-        Value::Pointers(items)
+        TextValue::Pointers(items)
     }
 
     /// A list of structs of this node, after its bracket.
     #[cycle(value)]
-    fn structures(&mut self, id: u64, room: Room) -> Value {
+    fn structures(&mut self, id: u64, room: Room) -> TextValue {
         let Some(of) = self.structure(id) else {
             self.miss("a struct that the schema has");
-            return Value::Null;
+            return TextValue::Null;
         };
         let mut items = Vec::new(self.alloc);
         for place in 0..=self.most() {
@@ -157,7 +157,7 @@ impl<'s, 't> Reader<'s, 't> {
             let fields = self.body(of, room);
             self.push(&mut items, fields);
         }
-        Value::Structs {
+        TextValue::Structs {
             words: of.words,
             pointers: of.pointers,
             items,

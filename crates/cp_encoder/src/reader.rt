@@ -1,6 +1,6 @@
 //! A text, token by token.
 
-use crate::fault::{EncodeFault, TextFault};
+use crate::fault::{EncodeFault, NotationFault};
 use crate::naming::put_type;
 use crate::token::{Token, after_blanks, first_token};
 use cp_schema::{NodeKind, Schema, Structure, Type};
@@ -171,7 +171,7 @@ impl<'s, 't> Reader<'s, 't> {
             let read = self.text.len().saturating_sub(self.from.len());
             let (line, column) = place_after(self.text, read);
             self.fault = Some(if is_written {
-                EncodeFault::Text(TextFault {
+                EncodeFault::Text(NotationFault {
                     line,
                     column,
                     message,

@@ -3,26 +3,26 @@
 use crate::escape::{push_hex, push_text};
 use crate::reader::Reader;
 use crate::token::Token;
-use crate::value::Value;
+use crate::value::TextValue;
 
 impl<'s, 't> Reader<'s, 't> {
     /// A text.
-    pub(crate) fn text(&mut self) -> Value {
+    pub(crate) fn text(&mut self) -> TextValue {
         if !matches!(self.token, Token::Text(_)) {
             self.miss("Text");
-            return Value::Null;
+            return TextValue::Null;
         }
-        Value::Text(self.texts())
+        TextValue::Text(self.texts())
     }
 
     /// Data.
-    pub(crate) fn data_bytes(&mut self) -> Value {
+    pub(crate) fn data_bytes(&mut self) -> TextValue {
         match self.token {
-            Token::Text(_) => Value::Bytes(self.texts()),
-            Token::Hex(raw) => Value::Bytes(self.hex(raw)),
+            Token::Text(_) => TextValue::Bytes(self.texts()),
+            Token::Hex(raw) => TextValue::Bytes(self.hex(raw)),
             _ => {
                 self.miss("Data");
-                Value::Null
+                TextValue::Null
             }
         }
     }

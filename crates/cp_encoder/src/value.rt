@@ -3,7 +3,7 @@
 /// What a pointer is to stand for.
 #[cycle(value)]
 #[derive(Drop)]
-pub enum Value {
+pub enum TextValue {
     Null,
     /// A capability, by its index in the table that goes with the message.
     Cap(u32),
@@ -18,7 +18,7 @@ pub enum Value {
     Quads(Vec<u32>),
     Words(Vec<u64>),
     /// A list of pointers.
-    Pointers(Vec<Value>),
+    Pointers(Vec<TextValue>),
     /// A list of structs, each of this many data words and pointers.
     Structs {
         words: u16,
@@ -34,7 +34,7 @@ pub struct Fields {
     pub words: u16,
     pub pointers: u16,
     pub numbers: Vec<Number>,
-    pub values: Vec<Pointer>,
+    pub values: Vec<TextPointer>,
 }
 
 /// A field that is a number.
@@ -62,8 +62,8 @@ pub enum Width {
 /// A field that is a pointer.
 #[cycle(value)]
 #[derive(Drop)]
-pub struct Pointer {
+pub struct TextPointer {
     /// It is pointer so many.
     pub place: u32,
-    pub value: Value,
+    pub value: TextValue,
 }

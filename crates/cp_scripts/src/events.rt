@@ -50,6 +50,33 @@ pub fn call_of(alloc: Global, line: &str) -> Result<WrittenCall, Wrong> {
     }
 }
 
+/// The capability of a line. `Err` says where it isn't one.
+pub fn cap_of(alloc: Global, line: &str) -> Result<Cap, Wrong> {
+    let mut reader = Reader::new(alloc, line);
+    let cap = reader.cap();
+    match reader.end() {
+        Ok(()) => Ok(cap),
+        Err(wrong) => {
+            drop(cap);
+            Err(wrong)
+        }
+    }
+}
+
+/// The content and the capabilities of a line, `{T caps[..]}`. `Err` says where it isn't one.
+pub fn payload_of(alloc: Global, line: &str) -> Result<(Whole, Caps), Wrong> {
+    let mut reader = Reader::new(alloc, line);
+    reader.skip("{");
+    let payload = (reader.whole(), reader.caps());
+    match reader.end() {
+        Ok(()) => Ok(payload),
+        Err(wrong) => {
+            drop(payload);
+            Err(wrong)
+        }
+    }
+}
+
 /// What the application names.
 impl<'a> Reader<'a> {
     fn path(&mut self) -> Path {

@@ -11,6 +11,6 @@ mod reader;
 mod wrong;
 
 pub use acting::{Taken, act};
-pub use events::{WrittenCall, call_of, event_of, read_event};
+pub use events::{WrittenCall, call_of, cap_of, event_of, payload_of, read_event};
 pub use lines::Lines;
 pub use wrong::Wrong;

@@ -1,10 +1,15 @@
 //! One direction of a connection: what was read, and what is still to be written.
 
+use crate::gate::{Gate, GateFault, PairGuard};
 use crate::read_buffer::{PIECE, ReadBuffer};
-use cp_relay::{Relay, RelayFault, Visitor};
+use crate::watch::Watch;
+use cp_guard::Breach;
+use cp_relay::RelayFault;
+use cp_stream::Refusal;
 use net_sockets::{Got, NonblockingStream};
 use std::alloc::{AllocError, Global};
-use std::{io, mem};
+use std::io::{self, ErrorKind, Write};
+use std::mem;
 
 /// The most pieces of a long frame that one turn takes, so that other connections have theirs.
 const PIECES: usize = 32;
@@ -17,8 +22,14 @@ const SPARE: usize = 65_536;
 pub(crate) enum DirectionEnd {
     /// The source ended after a message.
     Well,
+    /// The source was reset after a message: its peer closed before it had read all. Nothing can be written to it any more.
+    Reset,
     /// A message was refused, or the source ended inside one. What was accepted went out.
     Refused(RelayFault),
+    /// The guard closes the connection, after this many bytes.
+    Closed(u64, Breach),
+    /// An answer of the guard, or a message that it changed, can't be written.
+    Unanswered(Refusal),
     /// The source failed. What was accepted went out.
     Unread(io::Error),
     /// The target failed.
@@ -30,7 +41,9 @@ pub(crate) enum DirectionEnd {
 #[derive(Drop)]
 pub(crate) struct Direction {
     alloc: Global,
-    relay: Relay,
+    gate: Gate,
+    /// Whether its source is the caller that is guarded.
+    is_callers: bool,
     piece: ReadBuffer,
     out: Vec<u8>,
     /// How many bytes of `out` were written.
@@ -41,10 +54,15 @@ pub(crate) struct Direction {
 
 impl Direction {
     /// A direction of which nothing was read.
-    pub(crate) fn new(alloc: Global, relay: Relay) -> Result<Direction, AllocError> {
+    pub(crate) fn new(
+        alloc: Global,
+        gate: Gate,
+        is_callers: bool,
+    ) -> Result<Direction, AllocError> {
         Ok(Direction {
             alloc,
-            relay,
+            gate,
+            is_callers,
             piece: ReadBuffer::new(alloc)?,
             out: Vec::new(alloc),
             sent: 0,
@@ -58,35 +76,54 @@ impl Direction {
     }
 
     /// Whether something can be done before the next event of these streams.
-    pub(crate) fn goes_on(&self, from: &NonblockingStream, to: &NonblockingStream) -> bool {
-        if self.is_written() {
-            self.ended.is_none() && (!self.piece.is_taken() || from.is_readable())
-        } else {
-            to.is_writable()
+    pub(crate) fn goes_on(
+        &self,
+        from: &NonblockingStream,
+        to: &NonblockingStream,
+        guard: &Option<PairGuard>,
+    ) -> bool {
+        if !self.is_written() {
+            return to.is_writable();
         }
+        if self.ended.is_some() || self.waits_for_answers(guard) {
+            return false;
+        }
+        !self.piece.is_taken() || (from.is_readable() && self.allowance(guard) > 0)
     }
 
     /// Takes pieces of the source until something goes out, lets through what is accepted of them, and writes as much as
     /// the target takes. A long frame may take the spare buffer, which comes back once the frame was written.
-    pub(crate) fn turn<V: Visitor>(
+    pub(crate) fn turn<W: Write + Drop>(
         &mut self,
         from: &mut NonblockingStream,
         to: &mut NonblockingStream,
-        visitor: &mut V,
+        guard: &mut Option<PairGuard>,
+        watch: &mut Watch<W>,
         spare: &mut Vec<u8>,
     ) {
         self.send(to, spare);
         for _ in 0..PIECES {
             // Only once all was written, so that a slow reader stops its writer.
-            if !self.is_written() || !self.goes_on(from, to) {
+            if !self.is_written() || !self.goes_on(from, to, guard) {
                 break;
             }
             if self.piece.is_taken() {
-                self.read(from);
+                self.read(from, guard);
             }
-            self.pass(visitor, spare);
+            self.pass(guard, watch, spare);
         }
         self.send(to, spare);
+    }
+
+    /// Takes the guard's answers, which go out between two messages, once all was written. Where this direction has
+    /// ended, nobody reads them.
+    pub(crate) fn take_answers(&mut self, guard: &mut PairGuard) {
+        if self.ended.is_some() {
+            guard.answers.clear();
+        } else if self.is_written() {
+            mem::swap(&mut self.out, &mut guard.answers);
+            guard.answers.clear();
+        }
     }
 
     /// Whether all that goes out was written.
@@ -94,34 +131,76 @@ impl Direction {
         self.sent >= self.out.len()
     }
 
+    /// Whether answers of the guard have to go back first.
+    fn waits_for_answers(&self, guard: &Option<PairGuard>) -> bool {
+        match guard {
+            Some(guard) => self.is_callers && !guard.answers.is_empty(),
+            None => false,
+        }
+    }
+
+    /// How many bytes may be read of the source.
+    fn allowance(&self, guard: &Option<PairGuard>) -> usize {
+        match guard {
+            Some(guard) if self.is_callers => guard.allowance().min(PIECE),
+            _ => PIECE,
+        }
+    }
+
     /// Reads a piece, if there may be one.
-    fn read(&mut self, from: &mut NonblockingStream) {
+    fn read(&mut self, from: &mut NonblockingStream, guard: &mut Option<PairGuard>) {
         if !from.is_readable() {
             return;
         }
-        match self.piece.read(from) {
-            Ok(Got::Bytes(_)) | Ok(Got::Nothing) => (),
+        let most = self.allowance(guard);
+        match self.piece.read(from, most) {
+            Ok(Got::Bytes(count)) => self.charge(guard, count),
+            Ok(Got::Nothing) => (),
             Ok(Got::End) => self.finish(),
-            Err(error) => self.ended = Some(DirectionEnd::Unread(error)),
+            Err(error) => self.break_off(error),
+        }
+    }
+
+    /// Counts the bytes that were read of the caller.
+    fn charge(&self, guard: &mut Option<PairGuard>, count: usize) {
+        if let Some(guard) = guard {
+            if self.is_callers {
+                guard.charge(count);
+            }
         }
     }
 
     /// The source has ended.
     fn finish(&mut self) {
-        self.ended = Some(match self.relay.finish() {
+        self.ended = Some(match self.gate.finish() {
             Ok(()) => DirectionEnd::Well,
             Err(fault) => DirectionEnd::Refused(fault),
         });
     }
 
-    /// Gives the piece to the relay.
-    fn pass<V: Visitor>(&mut self, visitor: &mut V, spare: &mut Vec<u8>) {
+    /// The source has failed. A reset after its last whole message is its end.
+    fn break_off(&mut self, error: io::Error) {
+        let is_end = is_reset(&error) && self.gate.finish().is_ok();
+        self.ended = Some(if is_end {
+            DirectionEnd::Reset
+        } else {
+            DirectionEnd::Unread(error)
+        });
+    }
+
+    /// Gives the piece to the gate.
+    fn pass<W: Write + Drop>(
+        &mut self,
+        guard: &mut Option<PairGuard>,
+        watch: &mut Watch<W>,
+        spare: &mut Vec<u8>,
+    ) {
         // A long frame gets the larger buffer.
         put_larger_first(&mut self.out, spare);
         let piece = self.piece.rest();
-        match let_through(&mut self.relay, visitor, piece, &mut self.out) {
+        match self.gate.let_through(guard, watch, piece, &mut self.out) {
             Ok(left) => self.piece.leave(left),
-            Err(fault) => self.ended = Some(DirectionEnd::Refused(fault)),
+            Err(fault) => self.ended = Some(DirectionEnd::from(fault)),
         }
         if self.out.is_empty() {
             put_larger_first(spare, &mut self.out);
@@ -170,19 +249,20 @@ fn put_larger_first(first: &mut Vec<u8>, second: &mut Vec<u8>) {
     }
 }
 
-/// Lets a piece through, up to a frame after which much goes out, and gives how many bytes are left of it.
-fn let_through<V: Visitor>(
-    relay: &mut Relay,
-    visitor: &mut V,
-    piece: &[u8],
-    out: &mut Vec<u8>,
-) -> Result<usize, RelayFault> {
-    let mut left = piece;
-    'passing: while !left.is_empty() && out.len() < PIECE {
-        let Some(back) = relay.next(visitor, left, out)? else {
-            return Ok(0);
-        };
-        left = back;
+/// Whether a stream failed since its peer has closed.
+pub(crate) fn is_reset(error: &io::Error) -> bool {
+    match error.kind() {
+        ErrorKind::ConnectionReset | ErrorKind::BrokenPipe => true,
+        _ => false,
     }
-    Ok(left.len())
+}
+
+impl From<GateFault> for DirectionEnd {
+    fn from(fault: GateFault) -> DirectionEnd {
+        match fault {
+            GateFault::Refused(fault) => DirectionEnd::Refused(fault),
+            GateFault::Closed(at, breach) => DirectionEnd::Closed(at, breach),
+            GateFault::Unwritten(refusal) => DirectionEnd::Unanswered(refusal),
+        }
+    }
 }

@@ -2,6 +2,7 @@
 #![tactic(auto)]
 
 mod direction;
+mod gate;
 mod pair;
 mod plan;
 mod proxy;
@@ -9,4 +10,5 @@ mod read_buffer;
 mod target;
 mod watch;
 
+pub use gate::GuardPlan;
 pub use plan::{RelayPlan, RelayRoute, relay_port};

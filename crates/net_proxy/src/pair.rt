@@ -1,6 +1,7 @@
 //! A connection and the one that was made for it.
 
-use crate::direction::{Direction, DirectionEnd};
+use crate::direction::{Direction, DirectionEnd, is_reset};
+use crate::gate::PairGuard;
 use crate::plan::{ACCEPTED, BROKEN, REFUSED, RelayPlan};
 use crate::watch::{RelayedFrom, Watch};
 use cp_frame::FrameFault;
@@ -25,8 +26,9 @@ impl PairEnd {
     /// The status that it leads to.
     pub(crate) fn status(&self) -> u8 {
         match self.end {
-            DirectionEnd::Well => ACCEPTED,
-            DirectionEnd::Refused(_) => REFUSED,
+            DirectionEnd::Well | DirectionEnd::Reset => ACCEPTED,
+            DirectionEnd::Refused(_) | DirectionEnd::Closed(..) | DirectionEnd::Unanswered(_) =>
+                REFUSED,
             DirectionEnd::Unread(_) | DirectionEnd::Unwritten(_) => BROKEN,
         }
     }
@@ -35,19 +37,35 @@ impl PairEnd {
     /// it ends inside a message follows from it, since the failed write took the error that a read would have met.
     fn yields_to(&self, other: &PairEnd) -> bool {
         match self.end {
-            DirectionEnd::Well => true,
+            DirectionEnd::Well | DirectionEnd::Reset => !other.is_unheard(),
             DirectionEnd::Refused(fault) => {
                 fault.why == Why::Refused(Refusal::Frame(FrameFault::Truncated))
                     && matches!(other.end, DirectionEnd::Unwritten(_))
             }
-            DirectionEnd::Unread(_) | DirectionEnd::Unwritten(_) => false,
+            // What the peer had sent was its last, so what it didn't read is nobody's loss.
+            DirectionEnd::Unwritten(_) => self.is_unheard() && other.status() == ACCEPTED,
+            DirectionEnd::Closed(..) | DirectionEnd::Unanswered(_) | DirectionEnd::Unread(_) => {
+                false
+            }
+        }
+    }
+
+    /// Whether the target closed before it had read all.
+    fn is_unheard(&self) -> bool {
+        match self.end {
+            DirectionEnd::Unwritten(error) => is_reset(&error),
+            _ => false,
         }
     }
 
     /// Whether the other direction isn't waited for. Where the target has failed, what had come from it still goes out.
     fn ends_both(&self) -> bool {
         match self.end {
-            DirectionEnd::Refused(_) | DirectionEnd::Unread(_) => true,
+            DirectionEnd::Reset
+            | DirectionEnd::Refused(_)
+            | DirectionEnd::Closed(..)
+            | DirectionEnd::Unanswered(_)
+            | DirectionEnd::Unread(_) => true,
             // A server that aborts closes while its client may still be sending: what it sent goes out.
             DirectionEnd::Well | DirectionEnd::Unwritten(_) => false,
         }
@@ -57,8 +75,10 @@ impl PairEnd {
 impl fmt::Display for PairEnd {
     fn fmt<W: fmt::Write>(&self, f: &mut fmt::Formatter<W>) -> fmt::Result {
         match self.end {
-            DirectionEnd::Well => f.write_str("ended")?,
+            DirectionEnd::Well | DirectionEnd::Reset => f.write_str("ended")?,
             DirectionEnd::Refused(fault) => write!(f, "{fault}")?,
+            DirectionEnd::Closed(at, breach) => write!(f, "refused at byte {at}: {breach}")?,
+            DirectionEnd::Unanswered(refusal) => write!(f, "not answered: {refusal}")?,
             DirectionEnd::Unread(error) | DirectionEnd::Unwritten(error) => write!(
                 f,
                 "device: {error}"
@@ -85,7 +105,8 @@ pub(crate) enum PairTurn {
 
 /// A connection that was accepted, and the one to the target.
 #[derive(Drop)]
-pub(crate) struct Pair {
+pub(crate) struct Pair<'r> {
+    guard: Option<PairGuard<'r>>,
     near: NonblockingStream,
     far: NonblockingStream,
     there: Direction,
@@ -98,20 +119,21 @@ pub(crate) struct Pair {
     queued: bool,
 }
 
-impl Pair {
+impl<'r> Pair<'r> {
     /// A pair of streams, of which nothing was read.
     pub(crate) fn new(
         alloc: Global,
-        plan: &RelayPlan,
+        plan: &RelayPlan<'r>,
         near: NonblockingStream,
         far: NonblockingStream,
         number: u64,
-    ) -> Result<Pair, AllocError> {
+    ) -> Result<Pair<'r>, AllocError> {
         Ok(Pair {
+            guard: plan.guard(alloc),
             near,
             far,
-            there: Direction::new(alloc, plan.there(alloc))?,
-            back: Direction::new(alloc, plan.back(alloc))?,
+            there: Direction::new(alloc, plan.there(alloc), true)?,
+            back: Direction::new(alloc, plan.back(alloc), false)?,
             far_is_shut: false,
             near_is_shut: false,
             number,
@@ -149,19 +171,38 @@ impl Pair {
         spare: &mut Vec<u8>,
     ) -> PairTurn {
         watch.turn_to(self.place(false));
-        self.there.turn(&mut self.near, &mut self.far, watch, spare);
+        self.there.turn(&mut self.near, &mut self.far, &mut self.guard, watch, spare);
+        self.pass_answers_on();
         watch.turn_to(self.place(true));
-        self.back.turn(&mut self.far, &mut self.near, watch, spare);
+        self.back.turn(&mut self.far, &mut self.near, &mut self.guard, watch, spare);
+        self.pass_answers_on();
         self.pass_ends_on();
         if let Some(ended) = self.ended() {
             return PairTurn::Ends(ended);
         }
-        self.queued = self.there.goes_on(&self.near, &self.far)
-            || self.back.goes_on(&self.far, &self.near);
+        self.queued = self.there.goes_on(&self.near, &self.far, &self.guard)
+            || self.back.goes_on(&self.far, &self.near, &self.guard);
         if self.queued {
             PairTurn::More
         } else {
             PairTurn::Waits
+        }
+    }
+
+    /// A second has passed. Says whether the pair comes into the queue.
+    pub(crate) fn pass_second(&mut self) -> bool {
+        if let Some(guard) = &mut self.guard {
+            guard.pass_second();
+        }
+        let enters = !self.queued;
+        self.queued = true;
+        enters
+    }
+
+    /// Has the guard's answers go back.
+    fn pass_answers_on(&mut self) {
+        if let Some(guard) = &mut self.guard {
+            self.back.take_answers(guard);
         }
     }
 

@@ -1,15 +1,18 @@
 //! What is relayed, and from where to where.
 
+use crate::gate::{Gate, GuardPlan, PairGuard};
 use crate::proxy::Proxy;
 use crate::target::Target;
 use crate::watch::Watch;
 use cp_frame::Mode;
+use cp_guard::Filter;
 use cp_relay::{Output, Relay};
 use cp_words::Limits;
 use net_sockets::{Incoming, Listener};
 use std::alloc::{AllocGlobal, Global};
 use std::io::{self, Write};
-use std::net::{Ipv4Addr, Net, SocketAddr};
+use std::net::{Net, SocketAddr};
+use std::time::Clock;
 
 /// Everything was let through.
 pub(crate) const ACCEPTED: u8 = 0;
@@ -21,8 +24,8 @@ pub(crate) const BROKEN: u8 = 2;
 /// The connections that are relayed.
 #[derive(Clone, Copy)]
 pub struct RelayRoute<'a> {
-    /// The port of 127.0.0.1 that takes them.
-    pub port: u16,
+    /// The address that takes them.
+    pub address: SocketAddr,
     /// A `HOST:PORT`, or the path of a Unix socket, to which one is made for each.
     pub target: &'a str,
     /// How many are taken.
@@ -31,7 +34,7 @@ pub struct RelayRoute<'a> {
 
 /// How the messages of a connection are relayed.
 #[derive(Clone, Copy)]
-pub struct RelayPlan {
+pub struct RelayPlan<'r> {
     /// The form of the frames of those that connect.
     pub near: Mode,
     /// The form of the target's frames.
@@ -41,17 +44,36 @@ pub struct RelayPlan {
     pub limits: Limits,
     /// Whether each message that goes is printed as a line.
     pub shows: bool,
+    /// How those that connect are guarded, if they are. Then `shows` says nothing.
+    pub guard: Option<GuardPlan<'r>>,
 }
 
-impl RelayPlan {
-    /// A relay to the target.
-    pub(crate) fn there(&self, alloc: Global) -> Relay {
-        Relay::new(alloc, self.near, self.output(self.far), self.limits)
+impl<'r> RelayPlan<'r> {
+    /// What lets messages to the target through.
+    pub(crate) fn there(&self, alloc: Global) -> Gate {
+        self.gate(alloc, self.near, self.output(self.far), false)
     }
 
-    /// A relay of what comes back.
-    pub(crate) fn back(&self, alloc: Global) -> Relay {
-        Relay::new(alloc, self.far, self.output(self.near), self.limits)
+    /// What lets the messages that come back through.
+    pub(crate) fn back(&self, alloc: Global) -> Gate {
+        self.gate(alloc, self.far, self.output(self.near), true)
+    }
+
+    /// The guard of a connection, if it has one.
+    pub(crate) fn guard(&self, alloc: Global) -> Option<PairGuard<'r>> {
+        match self.guard {
+            Some(plan) => Some(PairGuard::new(alloc, plan)),
+            None => None,
+        }
+    }
+
+    /// What lets messages of this form through.
+    fn gate(&self, alloc: Global, from: Mode, output: Output, comes_back: bool) -> Gate {
+        if self.guard.is_some() {
+            Gate::Filter(Filter::new(alloc, from, output, self.limits, comes_back))
+        } else {
+            Gate::Relay(Relay::new(alloc, from, output, self.limits))
+        }
     }
 
     /// What goes out, in this form.
@@ -68,7 +90,8 @@ impl RelayPlan {
 /// Takes the connections of a route, makes one to the target for each, and relays both directions of each until both
 /// have ended. Several go on at once.
 ///
-/// Each message that goes is a line of `out`, if the plan says so, and what stops a direction is one of `err`. Where
+/// Each message that goes is a line of `out`, or each call of a guarded connection, if the plan says so. What stops a
+/// direction is a line of `err`. Where
 /// one is refused, what was accepted of it goes out, and both its connections are closed. The status is that of the
 /// first connection that ended with one: 0 where all was accepted, 1 where something was refused, and 2
 /// where a connection failed, or `out`.
@@ -80,7 +103,7 @@ pub fn relay_port<N, W: Write + Drop, E: Write>(
     err: &mut E,
 ) -> u8
 where
-    N: Net + AllocGlobal,
+    N: Net + Clock + AllocGlobal,
 {
     let mut watch = Watch::new(rt.alloc(), out, plan.shows, route.count > 1);
     match relay(rt, route, plan, &mut watch, err) {
@@ -101,11 +124,10 @@ fn relay<N, W: Write + Drop, E: Write>(
     err: &mut E,
 ) -> io::Result<u8>
 where
-    N: Net + AllocGlobal,
+    N: Net + Clock + AllocGlobal,
 {
     let target = Target::of(rt, route.target)?;
-    let address = SocketAddr::from((Ipv4Addr::LOCALHOST, route.port));
-    let listener = Listener::bind(rt, address)?;
+    let listener = Listener::bind(rt, route.address)?;
     let incoming = Incoming::new(listener, Some(route.count as u64));
-    Proxy::new(rt, *plan, incoming, target)?.run(rt, watch, err)
+    Proxy::new(rt, plan, incoming, target)?.run(rt, watch, err)
 }

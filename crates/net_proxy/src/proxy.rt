@@ -8,6 +8,8 @@ use crate::pair::{Pair, PairEnd, PairTurn};
 use crate::plan::{ACCEPTED, RelayPlan};
 use crate::target::Target;
 use crate::watch::Watch;
+use cp_guard::{Breach, Cause};
+use cp_schema::MethodNumber;
 use mio::{Events, Poll, Token};
 use net_sockets::{Incoming, NonblockingStream};
 use slab::Slab;
@@ -15,7 +17,7 @@ use std::alloc::{AllocGlobal, Global};
 use std::collections::VecDeque;
 use std::io::{self, Write};
 use std::net::Net;
-use std::time::Duration;
+use std::time::{Clock, Duration, Instant};
 
 /// The listener's token, which no stream has.
 const LISTENER: Token = Token(usize::MAX);
@@ -32,50 +34,60 @@ const MOST_SPARE: usize = 4_194_304;
 /// The milliseconds after which a listener that failed is tried again.
 const AGAIN: u64 = 100;
 
+/// The milliseconds of the longest wait while a guard counts seconds.
+const SECOND: u64 = 250;
+
 /// The connections that came, each with the one that was made for it.
 #[derive(Drop)]
-pub(crate) struct Proxy<'a> {
+pub(crate) struct Proxy<'a, 'p, 'r> {
     alloc: Global,
-    plan: RelayPlan,
+    plan: &'p RelayPlan<'r>,
     poll: Poll,
     events: Events,
     incoming: Incoming,
     target: Target<'a>,
-    pairs: Slab<Pair>,
+    pairs: Slab<Pair<'r>>,
     /// A buffer without bytes, for the next long frame.
     spare: Vec<u8>,
     /// The keys of the pairs that can go on at once.
     queue: VecDeque<usize>,
+    start: Instant,
+    /// The second, from the start on, that guards count.
+    second: u64,
     status: u8,
 }
 
-impl<'a> Proxy<'a> {
+impl<'a, 'p, 'r> Proxy<'a, 'p, 'r> {
     /// A proxy to which no connection has come.
-    pub(crate) fn new<N: Net + AllocGlobal>(
+    pub(crate) fn new<N: Net + Clock + AllocGlobal>(
         rt: &N,
-        plan: RelayPlan,
+        plan: &'p RelayPlan<'r>,
         mut incoming: Incoming,
         target: Target<'a>,
-    ) -> io::Result<Proxy<'a>> {
+    ) -> io::Result<Proxy<'a, 'p, 'r>> {
         let poll = Poll::new(rt)?;
         incoming.register(poll.registry(), LISTENER)?;
         let alloc = rt.alloc();
+        let events = Events::with_capacity(alloc, EVENTS)?;
+        let start = Instant::now(rt)?;
         Ok(Proxy {
             alloc,
             plan,
             poll,
-            events: Events::with_capacity(alloc, EVENTS)?,
+            events,
             incoming,
             target,
             pairs: Slab::new(alloc),
             spare: Vec::new(alloc),
             queue: VecDeque::new(alloc),
+            start,
+            second: 0,
             status: ACCEPTED,
         })
     }
 
     /// Relays until the last connection has ended, and gives the status.
-    pub(crate) fn run<N: Net, W: Write + Drop, E: Write>(
+    pub(crate) fn run<N: Net + Clock, W: Write + Drop, E: Write>(
         &mut self,
         rt: &N,
         watch: &mut Watch<W>,
@@ -91,7 +103,7 @@ impl<'a> Proxy<'a> {
     }
 
     /// Waits for events, takes connections, and gives each pair that can go on a turn.
-    fn round<N: Net, W: Write + Drop, E: Write>(
+    fn round<N: Net + Clock, W: Write + Drop, E: Write>(
         &mut self,
         rt: &N,
         watch: &mut Watch<W>,
@@ -100,6 +112,9 @@ impl<'a> Proxy<'a> {
         let wait = self.wait();
         self.poll.poll(&mut self.events, wait)?;
         let has_event = self.note_events()?;
+        if self.plan.guard.is_some() {
+            self.pass_seconds(rt)?;
+        }
         self.incoming.begin_round(has_event);
         self.accept(rt, watch, err);
         for _ in 0..self.queue.len() {
@@ -117,9 +132,31 @@ impl<'a> Proxy<'a> {
         }
         if self.incoming.has_failed() {
             Some(Duration::from_millis(AGAIN))
+        } else if self.plan.guard.is_some() && !self.pairs.is_empty() {
+            Some(Duration::from_millis(SECOND))
         } else {
             None
         }
+    }
+
+    /// Has guards count anew, where a second has passed.
+    fn pass_seconds<N: Clock>(&mut self, rt: &N) -> io::Result<()> {
+        let second = Instant::now(rt)?.duration_since(self.start).as_secs();
+        if second == self.second {
+            return Ok(());
+        }
+        self.second = second;
+        // No key is greater, as no more pairs are there at once.
+        for key in 0..MOST_PAIRS {
+            let enters = match self.pairs.get_mut(key) {
+                Some(pair) => pair.pass_second(),
+                None => false,
+            };
+            if enters {
+                self.queue.push_back(key)?;
+            }
+        }
+        Ok(())
     }
 
     /// Whether a connection may be waiting, and can be relayed.
@@ -170,7 +207,7 @@ impl<'a> Proxy<'a> {
     /// Makes the pair of a connection. Where this fails both its streams are closed.
     fn admit<N: Net>(&mut self, rt: &N, near: NonblockingStream, number: u64) -> io::Result<()> {
         let far = self.target.connect(rt)?;
-        let mut pair = Pair::new(self.alloc, &self.plan, near, far, number)?;
+        let mut pair = Pair::new(self.alloc, self.plan, near, far, number)?;
         let key = self.pairs.vacant_key();
         pair.register(self.poll.registry(), Token(key.wrapping_mul(2)))?;
         self.pairs.insert(pair)?;
@@ -219,7 +256,23 @@ impl<'a> Proxy<'a> {
             if watch.numbers() {
                 let _ = write!(err, "{number}: ");
             }
-            let _ = writeln!(err, "{ended}");
+            let _ = write!(err, "{ended}");
+            if let Some(name) = self.method_of(&ended) {
+                let _ = write!(err, " {name}");
+            }
+            let _ = writeln!(err);
         }
+    }
+
+    /// The name of the method for whose call a guard closed a connection.
+    fn method_of(&self, ended: &PairEnd) -> Option<&str> {
+        let DirectionEnd::Closed(_, Breach::Refused(cause)) = ended.end else {
+            return None;
+        };
+        let Cause::NotAllowed { interface, method } = cause else {
+            return None;
+        };
+        let guard = self.plan.guard?;
+        Some(guard.rules.name_of(MethodNumber { interface, method }))
     }
 }

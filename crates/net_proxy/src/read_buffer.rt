@@ -44,12 +44,14 @@ impl ReadBuffer {
         self.start = self.end.saturating_sub(left);
     }
 
-    /// Reads the next piece.
-    pub(crate) fn read(&mut self, from: &mut NonblockingStream) -> io::Result<Got> {
-        let got = from.read(&mut self.bytes)?;
+    /// Reads the next piece, of at most so many bytes, once nothing is left of this one.
+    pub(crate) fn read(&mut self, from: &mut NonblockingStream, most: usize) -> io::Result<Got> {
+        self.start = 0;
+        self.end = 0;
+        let most = most.min(self.bytes.len());
+        let got = from.read(&mut self.bytes[..most])?;
         if let Got::Bytes(count) = got {
-            self.start = 0;
-            self.end = count;
+            self.end = count.min(self.bytes.len());
         }
         Ok(got)
     }

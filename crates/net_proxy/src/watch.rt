@@ -1,6 +1,7 @@
 //! The lines of the messages that go.
 
 use crate::pair::arrow;
+use cp_guard::{Cause, JudgedCall, Rules};
 use cp_lines::push_line;
 use cp_relay::Visitor;
 use cp_rpc::MessageView;
@@ -20,6 +21,8 @@ pub(crate) struct Watch<'a, W> {
     alloc: Global,
     out: &'a mut W,
     shows: bool,
+    /// Whether calls were printed that weren't put out.
+    logs: bool,
     /// Whether connections are numbered.
     numbers: bool,
     line: String,
@@ -34,6 +37,7 @@ impl<'a, W: Write + Drop> Watch<'a, W> {
             alloc,
             out,
             shows,
+            logs: false,
             numbers,
             line: String::new(alloc),
             failed: None,
@@ -59,10 +63,35 @@ impl<'a, W: Write + Drop> Watch<'a, W> {
         if let Some(error) = self.failed.take() {
             return Err(error);
         }
-        if self.shows {
+        if self.shows || self.logs {
             self.out.flush()?;
         }
         Ok(())
+    }
+
+    /// Prints a call, by its name, with what became of it.
+    pub(crate) fn log(&mut self, rules: &Rules, call: &JudgedCall) {
+        if self.failed.is_none() {
+            self.logs = true;
+            if let Err(error) = self.log_line(rules, call) {
+                self.failed = Some(error);
+            }
+        }
+    }
+
+    /// Prints the line of a call.
+    fn log_line(&mut self, rules: &Rules, call: &JudgedCall) -> io::Result<()> {
+        if self.numbers {
+            write!(self.out, "{} ", self.place.number)?;
+        }
+        let (question, name) = (call.question, rules.name_of(call.method));
+        let became = match call.cause {
+            None => "goes",
+            Some(Cause::NotAllowed { .. }) => "is not allowed",
+            Some(Cause::TooMany) => "is one too many",
+            Some(Cause::TooFast) => "is one too many in this second",
+        };
+        writeln!(self.out, "> call q={question} {name} {became}")
     }
 
     /// The message's line, with its place before it.

@@ -92,7 +92,10 @@ fn push_written(
 ) -> Result<(), Fault> {
     match plan {
         Plan::Pack | Plan::Unpack | Plan::Recut { .. } => {
-            Ok(text.push_str(hex::encode(alloc, out)?.as_str())?)
+            let digits = hex::encode(alloc, out)?;
+            let pushed = text.push_str(digits.as_str());
+            drop(digits);
+            Ok(pushed?)
         }
         _ => push_lines(text, out),
     }
@@ -102,36 +105,86 @@ fn push_written(
 fn done(alloc: Global, plan: &Plan<'_>, mut file: &[u8]) -> Result<String, Fault> {
     let (mut out, mut err) = (Vec::new(alloc), Vec::new(alloc));
     let status = act(alloc, plan, &mut file, &mut out, &mut err);
-    let mut text = format!(in alloc; "{status}\t")?;
-    push_lines(&mut text, &err)?;
+    let mut text = String::new(alloc);
+    let written = (out.as_slice(), err.as_slice());
+    let pushed = push_done(alloc, &mut text, plan, status, written);
+    drop(out);
+    drop(err);
+    match pushed {
+        Ok(()) => Ok(text),
+        Err(fault) => {
+            drop(text);
+            Err(fault)
+        }
+    }
+}
+
+/// Adds a status, what was said and what was written.
+fn push_done(
+    alloc: Global,
+    text: &mut String,
+    plan: &Plan<'_>,
+    status: u8,
+    (out, err): (&[u8], &[u8]),
+) -> Result<(), Fault> {
+    write!(text, "{status}\t")?;
+    push_lines(text, err)?;
     text.push('\t')?;
-    push_written(alloc, &mut text, plan, &out)?;
-    Ok(text)
+    push_written(alloc, text, plan, out)
+}
+
+/// The calls of a row's own file, by which `returns` shows what they return.
+fn asked_of(alloc: Global, words: &str, file: &[u8]) -> Result<Option<Asked>, Fault> {
+    if words != "returns plain" {
+        return Ok(None);
+    }
+    let asked = Asked::read(alloc, file, Mode::Plain, Limits::standard())?;
+    Ok(Some(asked))
 }
 
 /// By what a row's messages are shown: a schema, and for `returns` the calls of the row's own file.
 pub fn names_of(alloc: Global, request: &[u8], words: &str, file: &[u8]) -> Result<Names, Fault> {
-    let asked = if words == "returns plain" {
-        Some(Asked::read(alloc, file, Mode::Plain, Limits::standard())?)
-    } else {
-        None
-    };
-    Ok(Names {
-        schema: Schema::read(alloc, request)?,
-        asked,
-    })
+    let asked = asked_of(alloc, words, file)?;
+    match Schema::read(alloc, request) {
+        Ok(schema) => Ok(Names { schema, asked }),
+        Err(fault) => {
+            drop(asked);
+            Err(Fault::from(fault))
+        }
+    }
 }
 
 /// Does the command of a line with its file, in hexadecimal, and compares what comes of it with the rest of the line.
 pub fn try_line(alloc: Global, request: &[u8], line: &str) -> Result<u64, Fault> {
     let mut parts = line.splitn(3, '\t');
     let words = parts.next().ok_or(Fault::Row)?;
-    let file = decoded(alloc, parts.next().ok_or(Fault::Row)?)?;
+    let file = parts.next().ok_or(Fault::Row)?;
     let wanted = parts.next().ok_or(Fault::Row)?;
-    let names = names_of(alloc, request, words, &file)?;
-    let Some(plan) = plan_of(words, &names) else {
-        return Err(Fault::Row);
-    };
-    expect(done(alloc, &plan, &file)?, wanted)?;
+    let file = decoded(alloc, file)?;
+    let tried = try_file(alloc, request, words, &file, wanted);
+    drop(file);
+    tried
+}
+
+/// The same with the file's bytes.
+fn try_file(
+    alloc: Global,
+    request: &[u8],
+    words: &str,
+    file: &[u8],
+    wanted: &str,
+) -> Result<u64, Fault> {
+    let names = names_of(alloc, request, words, file)?;
+    let done = done_by(alloc, &names, words, file);
+    drop(names);
+    expect(done?, wanted)?;
     Ok(1)
+}
+
+/// What the command of a row does, by these names.
+fn done_by(alloc: Global, names: &Names, words: &str, file: &[u8]) -> Result<String, Fault> {
+    match plan_of(words, names) {
+        Some(plan) => done(alloc, &plan, file),
+        None => Err(Fault::Row),
+    }
 }

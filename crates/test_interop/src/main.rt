@@ -3,6 +3,7 @@
 //! reader confirmed. Beside them are files, and what each command does with them.
 #![tactic(auto)]
 
+mod call;
 mod command;
 mod fault;
 mod frame;
@@ -11,7 +12,6 @@ mod stream;
 mod text;
 
 use crate::fault::Fault;
-use crate::row::Row;
 use std::alloc::Global;
 use std::fs;
 use std::process::ExitCode;
@@ -23,12 +23,13 @@ const STREAMS: [(&str, &str); 3] = [
     ("rust.1.c2s", "rust.1.c2s.show"),
 ];
 
-/// The files of rows: `frames.txt`, `commands.txt`, and `texts.txt`.
+/// The files of rows: `frames.txt`, `commands.txt`, `texts.txt` and `calls.txt`.
 #[derive(Clone, Copy)]
 enum Rows {
     Frames,
     Commands,
     Texts,
+    Calls,
 }
 
 impl Rows {
@@ -37,6 +38,7 @@ impl Rows {
             Rows::Frames => "frames.txt",
             Rows::Commands => "commands.txt",
             Rows::Texts => "texts.txt",
+            Rows::Calls => "calls.txt",
         }
     }
 
@@ -45,15 +47,17 @@ impl Rows {
         match self {
             Rows::Frames | Rows::Commands => "shown.request",
             Rows::Texts => "texts.request",
+            Rows::Calls => "calls.request",
         }
     }
 
     /// Tries a row, and answers how many trials it took.
     fn try_line(self, alloc: Global, request: &[u8], line: &str) -> Result<u64, Fault> {
         match self {
-            Rows::Frames => Row::parse(alloc, line).and_then(|row| row.try_all(alloc)),
+            Rows::Frames => row::try_line(alloc, line),
             Rows::Commands => command::try_line(alloc, request, line),
             Rows::Texts => text::try_line(alloc, request, line),
+            Rows::Calls => call::try_line(alloc, request, line),
         }
     }
 
@@ -103,6 +107,7 @@ fn main(rt: HostRuntime) -> anyhow::Result<ExitCode> {
     let good = Rows::Frames.try_all(&rt, alloc)?
         & Rows::Commands.try_all(&rt, alloc)?
         & Rows::Texts.try_all(&rt, alloc)?
+        & Rows::Calls.try_all(&rt, alloc)?
         & streams(&rt, alloc)?;
     Ok(if good {
         ExitCode::SUCCESS

@@ -3,64 +3,52 @@
 use crate::command::{names_of, plan_of};
 use crate::fault::Fault;
 use crate::row::expect;
-use cp_commands::{ACCEPTED, Encoding, Plan, act, encode};
+use cp_commands::{ACCEPTED, Encoding, Names, Plan, act, encode};
 use cp_encoder::Encoder;
 use cp_frame::Mode;
 use std::alloc::Global;
 
+/// By what texts are made frames of, and these are shown.
+#[derive(Clone, Copy)]
+struct TextPlan<'s> {
+    encoder: Encoder<'s>,
+    plan: Plan<'s>,
+}
+
+/// The struct of this name.
+fn struct_of<'s>(alloc: Global, names: &'s Names, name: &str) -> Result<TextPlan<'s>, Fault> {
+    let command = format!(in alloc; "decode packed {name}")?;
+    let plan = plan_of(command.as_str(), names);
+    drop(command);
+    match (Encoder::by_name(&names.schema, name), plan) {
+        (Some(encoder), Some(plan)) => Ok(TextPlan { encoder, plan }),
+        _ => Err(Fault::Row),
+    }
+}
+
 /// What is shown of the frames that texts are made, or what is said where one is refused.
-fn line_of(
-    alloc: Global,
-    encoder: Encoder<'_>,
-    plan: &Plan<'_>,
-    mut texts: &[u8],
-) -> Result<String, Fault> {
+fn line_of(alloc: Global, of: &TextPlan<'_>, mut texts: &[u8]) -> Result<String, Fault> {
     let (mut frames, mut said) = (Vec::new(alloc), Vec::new(alloc));
     let by = Encoding {
-        encoder,
+        encoder: of.encoder,
         mode: Mode::Packed,
     };
     let status = encode(alloc, &by, &mut texts, &mut frames, &mut said);
-    if status == ACCEPTED {
-        show(alloc, plan, &frames, &mut said)?;
-    }
+    let is_shown = status != ACCEPTED || is_shown(alloc, &of.plan, &frames, &mut said);
     drop(frames);
+    if !is_shown {
+        drop(said);
+        return Err(Fault::Refused);
+    }
     String::from_utf8(said).map_err(|_| Fault::Refused)
 }
 
-/// Adds what is shown of frames.
-fn show(
-    alloc: Global,
-    plan: &Plan<'_>,
-    mut frames: &[u8],
-    said: &mut Vec<u8>,
-) -> Result<(), Fault> {
+/// Adds what is shown of frames. Says whether all are.
+fn is_shown(alloc: Global, plan: &Plan<'_>, mut frames: &[u8], said: &mut Vec<u8>) -> bool {
     let mut fault = Vec::new(alloc);
     let status = act(alloc, plan, &mut frames, said, &mut fault);
     drop(fault);
-    if status == ACCEPTED {
-        Ok(())
-    } else {
-        Err(Fault::Refused)
-    }
-}
-
-/// Texts with a line's end for each bar.
-fn texts_of(alloc: Global, row: &str) -> Result<Vec<u8>, Fault> {
-    let mut texts = Vec::with_capacity(alloc, row.len())?;
-    for byte in row.as_bytes() {
-        texts.push(if *byte == b'|' { b'\n' } else { *byte })?;
-    }
-    Ok(texts)
-}
-
-/// Lines with a bar for the end of each.
-fn row_of(alloc: Global, lines: &str) -> Result<String, Fault> {
-    let mut row = String::new(alloc);
-    for c in lines.chars() {
-        row.push(if c == '\n' { '|' } else { c })?;
-    }
-    Ok(row)
+    status == ACCEPTED
 }
 
 /// Makes frames of the texts of a line, shows them, and compares that, or what is said of a fault, with the rest of the line.
@@ -68,24 +56,38 @@ fn row_of(alloc: Global, lines: &str) -> Result<String, Fault> {
 pub fn try_line(alloc: Global, request: &[u8], line: &str) -> Result<u64, Fault> {
     let mut parts = line.splitn(3, '\t');
     let name = parts.next().ok_or(Fault::Row)?;
-    let texts = texts_of(alloc, parts.next().ok_or(Fault::Row)?)?;
+    let texts = parts.next().ok_or(Fault::Row)?;
     let wanted = parts.next().ok_or(Fault::Row)?;
     let names = names_of(alloc, request, "", &[])?;
-    let command = format!(in alloc; "decode packed {name}")?;
-    let Some(plan) = plan_of(command.as_str(), &names) else {
-        return Err(Fault::Row);
-    };
-    let Some(encoder) = Encoder::by_name(&names.schema, name) else {
-        return Err(Fault::Row);
-    };
-    let lines = line_of(alloc, encoder, &plan, &texts)?;
-    expect(row_of(alloc, lines.as_str())?, wanted)?;
+    let tried = try_by(alloc, &names, name, texts, wanted);
+    drop(names);
+    tried
+}
+
+/// The same by these names.
+fn try_by(
+    alloc: Global,
+    names: &Names,
+    name: &str,
+    texts: &str,
+    wanted: &str,
+) -> Result<u64, Fault> {
+    let of = struct_of(alloc, names, name)?;
+    let texts = texts.replace(alloc, '|', "\n")?;
+    let lines = line_of(alloc, &of, texts.as_bytes());
+    drop(texts);
+    let lines = lines?;
+    let tried = try_lines(alloc, &of, lines.as_str(), wanted);
+    drop(lines);
+    tried
+}
+
+/// The lines are the wanted ones, and are read as themselves.
+fn try_lines(alloc: Global, of: &TextPlan<'_>, lines: &str, wanted: &str) -> Result<u64, Fault> {
+    expect(lines.replace(alloc, '\n', "|")?, wanted)?;
     if lines.starts_with("refused") {
         return Ok(1);
     }
-    expect(
-        line_of(alloc, encoder, &plan, lines.as_bytes())?,
-        lines.as_str(),
-    )?;
+    expect(line_of(alloc, of, lines.as_bytes())?, lines)?;
     Ok(2)
 }

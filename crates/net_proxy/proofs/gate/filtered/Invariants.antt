@@ -1,5 +1,5 @@
 use Rattle.std.proofs.Common.{length}
-use Rattle.net_proxy.proofs.direction.let_through.Given as goal
+use Rattle.net_proxy.proofs.gate.filtered.Given as goal
 
 abbrev pub decreases-passing : goal.decreases-passing
 decreases-passing g l = length l.left

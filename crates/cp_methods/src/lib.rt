@@ -1,0 +1,21 @@
+//! Calls of a schema's methods as one types them, `Notebook.add (text = "milk")`, and the interfaces and types of a request as text.
+#![tactic(auto)]
+
+mod calls;
+mod defaults;
+mod describing;
+mod fault;
+mod finding;
+mod given;
+mod listing;
+mod mentions;
+mod naming;
+mod nearest;
+mod results;
+mod word;
+
+pub use calls::{CallReader, NamedCall};
+pub use describing::{describe, nearest_names, type_named};
+pub use listing::list_methods;
+pub use results::results_line;
+pub use word::{is_named, plain_params};

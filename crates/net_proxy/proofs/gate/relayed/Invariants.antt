@@ -1,0 +1,5 @@
+use Rattle.std.proofs.Common.{length}
+use Rattle.net_proxy.proofs.gate.relayed.Given as goal
+
+abbrev pub decreases-passing : goal.decreases-passing
+decreases-passing g l = length l.left
