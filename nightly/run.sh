@@ -10,6 +10,7 @@
 #   peers     sessions of C++ clients, and of peers at fault                   15 seconds
 #   matrix    clients and servers of the C++ and the Rust library, each with each   some minutes, the first time with the Rust library's build
 #   relay     sessions of C++ clients and of peers at fault through a relay    a minute
+#   guard     11,000 random sessions of the C++ library through a guard        some minutes
 #   fields    texts of schemas, read by generated code and by the reference tool   half an hour
 #   schemas   random schemas, shown and read by generated code as by the reference tool   half an hour
 #   texts     texts by random schemas, made messages of as by the reference tool     five minutes
@@ -36,7 +37,7 @@
 set -u
 here=$(cd "$(dirname "${BASH_SOURCE[0]}")" && pwd)
 root=$(dirname "$here")
-all=(look memory moves peers matrix relay fields schemas texts host load callees tails faults readme interfaces sessions crowd served pieces starved embed fuzz edits plants)
+all=(look memory moves peers matrix relay guard fields schemas texts host load callees faults readme interfaces sessions crowd served pieces starved embed fuzz edits plants)
 alone=night # runs only where it is named: it takes as long as all others
 planted=(cp_words cp_tables cp_writing cp_packed cp_frame cp_messages cp_rpc cp_stream cp_refs cp_vat cp_serve)
 
@@ -74,6 +75,8 @@ peers() { built && "$here/peers/run.sh" "$server" "$folder"; }
 matrix() { built && "$here/callees/answering/build.sh" "$folder" && "$here/peers/matrix.sh" "$server" "$folder" "$folder/answering"; }
 
 relay() { built && "$here/relay/run.sh" "$server" "$folder/relay"; }
+
+guard() { built && "$here/guard/run.sh" "$server" "$folder"; }
 
 fields() {
     "$root/tools/build.sh" capnpc_rattle cp_cli && "$root/tools/generated.sh" &&

@@ -10,7 +10,7 @@ import time
 
 TOP = pathlib.Path(__file__).resolve().parent.parent.parent
 PORT = 7000
-WANTED = ["note 1 is posted\n", "note 2 is posted\n  hello\n", "question:1 results {(0300000000000000;) caps[]}\n"]
+WANTED = ["note 1 is posted\n", "note 2 is posted\n  hello\n", "question:1 results Board.post (count = 3)\n"]
 
 
 def steps_of(text):
