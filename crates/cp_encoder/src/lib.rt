@@ -26,6 +26,7 @@ pub use encoder::{Encoded, Encoder};
 pub use fault::{EncodeFault, NotationFault};
 pub use laws::{given_numbers_come_back, given_pointers_come_back};
 pub use making::object_of;
-pub use nearest::nearest_types;
+pub use naming::{name_of, put_type};
+pub use nearest::{Nearest, nearest_types, put_name};
 pub use splitter::{Piece, Splitter};
 pub use value::{Fields, Number, TextPointer, TextValue, Width};

@@ -1,10 +1,10 @@
-//! Types by their names.
+//! Types by their names, as a schema has them.
 
-use cp_schema::{Base, Node, Schema, Type};
+use cp_schema::{Base, Schema, Type};
 use std::alloc::AllocError;
 
 /// Adds the name of a type.
-pub(crate) fn put_type(line: &mut String, schema: &Schema, of: Type) -> Result<(), AllocError> {
+pub fn put_type(line: &mut String, schema: &Schema, of: Type) -> Result<(), AllocError> {
     for _ in 0..of.lists {
         line.push_str("List(")?;
     }
@@ -13,6 +13,14 @@ pub(crate) fn put_type(line: &mut String, schema: &Schema, of: Type) -> Result<(
         line.push(')')?;
     }
     Ok(())
+}
+
+/// The name of the type of this number.
+pub fn name_of(schema: &Schema, id: u64) -> &str {
+    match schema.find(id) {
+        Some(node) => node.name(),
+        None => "a type that the schema lacks",
+    }
 }
 
 /// Adds the name of a type that isn't one of lists.
@@ -26,16 +34,8 @@ fn put_base(line: &mut String, schema: &Schema, of: Base) -> Result<(), AllocErr
         Base::Text => line.push_str("Text"),
         Base::Data => line.push_str("Data"),
         Base::Enum(id) | Base::Struct(id) | Base::Interface(id) => {
-            line.push_str(name_of(schema.find(id)))
+            line.push_str(name_of(schema, id))
         }
         Base::AnyPointer => line.push_str("AnyPointer"),
-    }
-}
-
-/// The name of a node.
-fn name_of(node: Option<&Node>) -> &str {
-    match node {
-        Some(node) => node.name(),
-        None => "a type that the schema lacks",
     }
 }

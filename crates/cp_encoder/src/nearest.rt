@@ -7,26 +7,27 @@ use strsim::levenshtein;
 /// How many names are kept.
 const MOST: usize = 3;
 
-/// A name that is known, and how many letters of it have to be changed.
+/// A name that is known, with that of the type that it lies in, if that is shown, and how many letters of it have to be changed.
 #[derive(Clone, Copy)]
-struct Known<'n> {
-    name: &'n str,
+struct Known<'k> {
+    scope: &'k str,
+    name: &'k str,
     changes: usize,
 }
 
 /// The names nearest to a name so far, the nearest first.
 #[derive(Drop)]
-pub(crate) struct Nearest<'n> {
+pub struct Nearest<'n, 'k> {
     alloc: Global,
     name: &'n str,
-    found: Vec<Known<'n>>,
+    found: Vec<Known<'k>>,
     /// Whether memory ran out.
     is_starved: bool,
 }
 
-impl<'n> Nearest<'n> {
+impl<'n, 'k> Nearest<'n, 'k> {
     /// No name yet, for this one.
-    pub(crate) fn new(alloc: Global, name: &'n [u8]) -> Nearest<'n> {
+    pub fn new(alloc: Global, name: &'n [u8]) -> Nearest<'n, 'k> {
         Nearest {
             alloc,
             name: str::from_utf8(name).unwrap_or(""),
@@ -36,14 +37,19 @@ impl<'n> Nearest<'n> {
     }
 
     /// Adds a name that is known.
-    pub(crate) fn add(&mut self, name: &'n str) {
-        if self.keep(name).is_err() {
+    pub fn add(&mut self, name: &'k str) {
+        self.add_of("", name);
+    }
+
+    /// Adds the name of what lies in a type.
+    pub fn add_of(&mut self, scope: &'k str, name: &'k str) {
+        if self.keep(scope, name).is_err() {
             self.is_starved = true;
         }
     }
 
     /// What is wanted, with the nearest names.
-    pub(crate) fn wanted(&self, what: &str) -> Result<String, AllocError> {
+    pub fn wanted(&self, what: &str) -> Result<String, AllocError> {
         if self.is_starved {
             return Err(AllocError);
         }
@@ -51,15 +57,19 @@ impl<'n> Nearest<'n> {
         line.push_str(what)?;
         for (place, known) in self.found.iter().enumerate() {
             line.push_str(if place == 0 { " such as " } else { ", " })?;
-            line.push_str(known.name)?;
+            put_name(&mut line, known.scope, known.name)?;
         }
         Ok(line)
     }
 
     /// Keeps a name, if it is one of the nearest.
-    fn keep(&mut self, name: &'n str) -> Result<(), AllocError> {
+    fn keep(&mut self, scope: &'k str, name: &'k str) -> Result<(), AllocError> {
         let changes = levenshtein(self.alloc, self.name, name)?;
-        self.found.push(Known { name, changes })?;
+        self.found.push(Known {
+            scope,
+            name,
+            changes,
+        })?;
         self.found.sort_by_key(|known| known.changes)?;
         self.found.truncate(MOST);
         Ok(())
@@ -79,4 +89,13 @@ pub fn nearest_types(alloc: Global, schema: &Schema, name: &str) -> Result<Strin
     let wanted = nearest.wanted("a struct");
     drop(nearest);
     wanted
+}
+
+/// Adds the name of what lies in a type, if that has a name.
+pub fn put_name(line: &mut String, scope: &str, name: &str) -> Result<(), AllocError> {
+    if !scope.is_empty() {
+        line.push_str(scope)?;
+        line.push('.')?;
+    }
+    line.push_str(name)
 }

@@ -6,10 +6,8 @@ use crate::fault::{missed, missed_made};
 use crate::finding::{interface_named, interface_of, lineage, method_at, method_named, own_method};
 use crate::given::GivenKind;
 use crate::mentions::Mentions;
-use crate::naming::name_of;
-use crate::nearest::{Nearest, put_name};
 use crate::word::{Part, Word};
-use cp_encoder::{EncodeFault, Encoded, Encoder};
+use cp_encoder::{EncodeFault, Encoded, Encoder, Nearest, name_of, put_name};
 use cp_schema::{MethodNumber, Schema};
 use std::alloc::{AllocError, Global};
 
@@ -209,7 +207,7 @@ impl<'s> CallReader<'s> {
 
     /// A name where an interface is wanted.
     fn missed_interface(&self, name: Part<'_>) -> EncodeFault {
-        let mut nearest = Nearest::new(self.alloc, name.text);
+        let mut nearest = Nearest::new(self.alloc, name.text.as_bytes());
         for node in &self.schema.nodes {
             if interface_of(node).is_some() {
                 nearest.add(node.name());
@@ -222,7 +220,7 @@ impl<'s> CallReader<'s> {
 
     /// A name where a method is wanted, of an interface or of any one.
     fn missed_method(&self, interface: Option<u64>, name: Part<'_>) -> EncodeFault {
-        let mut nearest = Nearest::new(self.alloc, name.text);
+        let mut nearest = Nearest::new(self.alloc, name.text.as_bytes());
         let added = match interface {
             Some(id) => self.add_methods_of(&mut nearest, id),
             None => {

@@ -2,8 +2,7 @@
 
 use crate::defaults::bits_of;
 use crate::listing::{put_head, put_types};
-use crate::naming::put_type;
-use crate::nearest::Nearest;
+use cp_encoder::{Nearest, put_type};
 use cp_schema::{
     Comments, FieldKind, Interface, Node, NodeKind, Schema, Slot, StructField, Structure,
 };
@@ -24,7 +23,7 @@ pub fn type_named<'s>(schema: &'s Schema, name: &str) -> Option<&'s Node> {
 
 /// A type, such as those of a schema whose names are nearest to this.
 pub fn nearest_names(alloc: Global, schema: &Schema, name: &str) -> Result<String, AllocError> {
-    let mut nearest = Nearest::new(alloc, name);
+    let mut nearest = Nearest::new(alloc, name.as_bytes());
     for node in &schema.nodes {
         if is_type(node) {
             nearest.add(node.name());

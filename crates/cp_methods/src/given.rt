@@ -2,10 +2,8 @@
 
 use crate::calls::CallReader;
 use crate::fault::{missed, missed_made};
-use crate::naming::put_type;
-use crate::nearest::Nearest;
 use crate::word::Part;
-use cp_encoder::EncodeFault;
+use cp_encoder::{EncodeFault, Nearest, put_type};
 use cp_schema::{Base, FieldKind, NodeKind, Slot, Structure};
 use std::alloc::AllocError;
 
@@ -194,7 +192,7 @@ impl<'s> CallReader<'s> {
 
     /// A name where a field is wanted.
     fn missed_field(&self, of: &Structure, name: Part<'_>) -> EncodeFault {
-        let mut nearest = Nearest::new(self.alloc, name.text);
+        let mut nearest = Nearest::new(self.alloc, name.text.as_bytes());
         for field in &of.fields {
             nearest.add(field.name.as_str());
         }

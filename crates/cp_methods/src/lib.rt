@@ -9,8 +9,6 @@ mod finding;
 mod given;
 mod listing;
 mod mentions;
-mod naming;
-mod nearest;
 mod results;
 mod word;
 

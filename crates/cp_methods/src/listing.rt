@@ -1,8 +1,7 @@
 //! The methods of a request, as lines.
 
 use crate::finding::{interface_of, method_at};
-use crate::naming::{name_of, put_type};
-use crate::nearest::put_name;
+use cp_encoder::{name_of, put_name, put_type};
 use cp_schema::{
     FieldKind, Interface, Method, MethodNumber, Node, NodeKind, Schema, StructField, Structure,
 };
