@@ -32,6 +32,7 @@ mod servers;
 mod setters;
 mod sheet;
 mod structs;
+mod told;
 mod trees;
 mod twice;
 mod unions;
@@ -45,6 +46,7 @@ use pages::{line_of, name_twice, root_text, sheets, specs_root};
 use sheet::Sheet;
 use std::io::Read;
 use std::{env, fs};
+use told::tell_names;
 use twice::found_twice;
 
 /// What `--help` prints.
@@ -296,7 +298,10 @@ fn check(sheets: &[Sheet<'_>]) -> anyhow::Result<()> {
 fn answer(rt: &HostRuntime, task: &Task, schema: &Schema) -> anyhow::Result<()> {
     for file in &schema.files {
         match schema.find(file.id) {
-            Some(node) => make_crate(rt, task, schema, node)?,
+            Some(node) => {
+                make_crate(rt, task, schema, node)?;
+                tell_names(rt, schema, node.path(), task.scope())?;
+            }
             None => bail!("the request has no file {}", file.id),
         }
     }
