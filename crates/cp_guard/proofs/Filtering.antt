@@ -1,5 +1,6 @@
 -- What a filter puts out is what its relay lets through, as the guard judged it.
 use Rattle.std.proofs.Common.{◌≡◌, ℕ, List, [], ◌∷◌, ◌++◌, length, Some, None, Bool, refl, sym, ◌∙◌, ap, subst, arith, length-append}
+use Rattle.std.specs.Global.{Vec}
 use Rattle.cp_words.specs.Limits.{Bounds}
 use Rattle.cp_frame.specs.declared.mode.Mode.{Mode}
 use Rattle.cp_frame.specs.Stream.{NoFront}
@@ -12,7 +13,7 @@ use Rattle.cp_guard.specs.declared.guard.Guard.{Guard}
 use Rattle.cp_guard.specs.declared.filter.Filter.{Filter}
 use Rattle.cp_guard.specs.declared.ruling.Ruling.{Ruling}
 use Rattle.cp_guard.specs.Guard.{IsSame, Begins, Judges}
-use Rattle.cp_guard.specs.Filter.{Follows, IsSameFilter, GuardsNext, IsUnasked, GuardsNone}
+use Rattle.cp_guard.specs.Filter.{Does, IsSameFilter, GuardsNext, IsUnasked, GuardsNone}
 use Rattle.cp_guard.proofs.One.{one_of}
 
 -- what a reader stands for begins with no frame
@@ -27,11 +28,11 @@ none_passed before after mode output limits b sent rest [] none passes lets = le
 none_passed before after mode output limits b sent rest (m ∷ ms) none passes lets = absurd (none passes.6.0 passes.0 passes.1 passes.4 passes.6.1)
 
 -- where the relay let a frame through, what was judged of its message was done
-pub guards_next : (before begun judged after : Guard) (old mid new : Filter) (piece rest frame out now answers later : List ℕ) (v : Ruling) → Begins old.comes_back before begun
+pub guards_next : (before begun judged after : Guard) (old mid new : Filter) (piece rest frame : List ℕ) (out now answers later : Vec ℕ) (v : Ruling) → Begins old.comes_back before begun
     → GivesNext Judges old.relay piece mid.relay begun judged [] frame rest → ((w : Ruling) → judged.ruling ≡ Some w → v ≡ w) → IsSame judged after
-    → Follows old.on old.back old.limits v frame out now answers later → new.relay ≡ mid.relay → new.on ≡ old.on → new.back ≡ old.back → new.limits ≡ old.limits → new.comes_back ≡ old.comes_back
+    → Does old v frame out now answers later → new.relay ≡ mid.relay → new.on ≡ old.on → new.back ≡ old.back → new.limits ≡ old.limits → new.comes_back ≡ old.comes_back
     → GuardsNext before after old new piece rest out now answers later
-guards_next before begun judged after old mid new piece rest frame out now answers later v e n took kept followed relay on back limits side = record {
+guards_next before begun judged after old mid new piece rest frame out now answers later v e n took kept done relay on back limits side = record {
   front = n.front;
   whole = n.whole;
   shorter = n.shorter;
@@ -56,14 +57,14 @@ guards_next before begun judged after old mid new piece rest frame out now answe
           judged = rw (took one.goes_on.ruling one.goes_on.says_so, kept.state, ← e.comes_back, ← e.rules, ← e.state) one.goes_on.judged;
           rules = kept.rules ∙ one.goes_on.rules ∙ e.rules;
           called = rw (kept.call, kept.state, ← e.comes_back) one.goes_on.called;
-          follows = subst (λ (x : List ℕ). Follows old.on old.back old.limits v x out now answers later) lets.goes_out followed;
+          does = subst (λ (x : List ℕ). Does old v x out now answers later) lets.goes_out done;
         },
         subst (λ (r : Relay). StandsFor r []) (sym relay) g.1,
       );
 }
 
 -- where nothing ended, nothing was judged
-pub guards_none : (before begun after : Guard) (old new : Filter) (piece frame out answers : List ℕ) → Begins old.comes_back before begun → GivesNone Judges old.relay piece new.relay begun after [] frame
+pub guards_none : (before begun after : Guard) (old new : Filter) (piece frame : List ℕ) (out answers : Vec ℕ) → Begins old.comes_back before begun → GivesNone Judges old.relay piece new.relay begun after [] frame
     → new.on ≡ old.on → new.back ≡ old.back → new.limits ≡ old.limits → new.comes_back ≡ old.comes_back → GuardsNone before after old new piece out out answers answers
 guards_none before begun after old new piece frame out answers e n on back limits side = record {
   same = record { stream = n.same_stream; on = on; back = back; limits = limits; comes_back = side };

@@ -1,11 +1,13 @@
 -- What a filter puts out for each message.
-use Rattle.std.specs.Prelude.{◌≡◌, ◌<◌, ℕ, List, [], ◌++◌, length}
+use Rattle.std.specs.Prelude.{◌≡◌, ◌⊎◌, ◌<◌, ℕ, List, [], ◌++◌, length, Option, Some, IfSome, IfNone, Result, IfOk}
+use Rattle.std.specs.Global.{Vec}
 use Rattle.cp_words.specs.Limits.{Bounds}
 use Rattle.cp_frame.specs.declared.mode.Mode.{Mode}
 use Rattle.cp_messages.specs.declared.message.Message.{Message}
 use Rattle.cp_stream.specs.Stream.{IsFrameOf}
 use Rattle.cp_stream.specs.Write.{IsPut}
-use Rattle.cp_relay.specs.Relay.{Relay, StandsFor, IsSameStream, IsSentFor}
+use Rattle.cp_relay.specs.declared.fault.RelayFault.{RelayFault}
+use Rattle.cp_relay.specs.Relay.{Relay, StandsFor, IsSameStream, IsSentFor, EndsInside}
 use Rattle.cp_guard.specs.declared.guard.Guard.{Guard}
 use Rattle.cp_guard.specs.declared.filter.Filter.{Filter}
 use Rattle.cp_guard.specs.declared.ruling.Ruling.{Ruling}
@@ -21,6 +23,10 @@ Follows on back limits (rulings.Answers m) sent out now answers later = (now ≡
 Follows on back limits rulings.Drops sent out now answers later = (now ≡ out) × (later ≡ answers)
 Follows on back limits (rulings.Closes breach) sent out now answers later = ⊥
 
+-- The filter does what was judged of a message that is sent as these bytes.
+abbrev pub Does : Filter → Ruling → List ℕ → Vec ℕ → Vec ℕ → Vec ℕ → Vec ℕ → Type 0
+Does f ruling sent out now answers later = Follows f.on f.back f.limits ruling sent out.items now.items answers.items later.items
+
 -- The filter reads the same stream, for the same guard and in the same forms.
 pub record IsSameFilter (old new : Filter) : Type 0 where
   pub stream : IsSameStream old.relay new.relay
@@ -30,7 +36,7 @@ pub record IsSameFilter (old new : Filter) : Type 0 where
   pub comes_back : new.comes_back ≡ old.comes_back
 
 -- These bytes are the frame of one message. The guard judged it, and what it judged was done.
-pub record Guarded (before after : Guard) (f : Filter) (frame out now answers later : List ℕ) : Type 0 where
+pub record Guarded (before after : Guard) (f : Filter) (frame : List ℕ) (out now answers later : Vec ℕ) : Type 0 where
   pub message : Message
   pub is_frame : IsFrameOf f.relay.frames.mode f.relay.frames.limits frame message
   pub sent : List ℕ
@@ -39,10 +45,10 @@ pub record Guarded (before after : Guard) (f : Filter) (frame out now answers la
   pub judged : record { ruling = ruling; state = after.state } ≡ judged_from f.comes_back before.rules.now before.state message
   pub rules : after.rules.now ≡ before.rules.now
   pub called : after.call ≡ call_in f.comes_back after.state.refused message
-  pub follows : Follows f.on f.back f.limits ruling sent out now answers later
+  pub does : Does f ruling sent out now answers later
 
 -- The piece was read up to the end of a frame, and what the guard judged of its message was done.
-pub record GuardsNext (before after : Guard) (old new : Filter) (piece rest out now answers later : List ℕ) : Type 0 where
+pub record GuardsNext (before after : Guard) (old new : Filter) (piece rest : List ℕ) (out now answers later : Vec ℕ) : Type 0 where
   pub front : List ℕ
   pub whole : piece ≡ front ++ rest
   pub shorter : length rest < length piece
@@ -55,8 +61,20 @@ pub record IsUnasked (before after : Guard) : Type 0 where
   pub state : after.state ≡ before.state
 
 -- The piece was read, and no frame ends in it.
-pub record GuardsNone (before after : Guard) (old new : Filter) (piece out now answers later : List ℕ) : Type 0 where
+pub record GuardsNone (before after : Guard) (old new : Filter) (piece : List ℕ) (out now answers later : Vec ℕ) : Type 0 where
   pub same : IsSameFilter old new
-  pub goes_on : now ≡ out
-  pub goes_back : later ≡ answers
+  pub goes_on : now.items ≡ out.items
+  pub goes_back : later.items ≡ answers.items
   pub reads : (b : List ℕ) → StandsFor old.relay b → StandsFor new.relay (b ++ piece) × IsUnasked before after
+
+-- this holds of the rest of a piece, where one is given
+abbrev pub IfGives : {T E : Type 0} → Result (Option T) E → (T → Type 0) → Type 0
+IfGives result Holds = IfOk result (λ next. IfSome next Holds)
+
+-- this holds where none is given
+abbrev pub IfGivesNone : {T E : Type 0} → Result (Option T) E → Type 0 → Type 0
+IfGivesNone result Holds = IfOk result (λ next. IfNone next Holds)
+
+-- The stream ends inside a frame; or the relay had stopped, and says so again.
+abbrev pub EndsBadly : Relay → Relay → RelayFault → Type 0
+EndsBadly old new fault = EndsInside old new fault ⊎ ((old.fault ≡ Some fault) × (new ≡ old))

@@ -53,12 +53,16 @@ pub record Begins (side : Bool) (old new : Guard) : Type 0 where
   pub comes_back : new.comes_back ≡ side
   pub waits : new.ruling ≡ None
 
+-- This became of a message, by what the guard knew before it.
+abbrev pub IsJudged : Guard → Message → Ruling → Guard → Type 0
+IsJudged old m ruling new = record { ruling = ruling; state = new.state } ≡ judged_from old.comes_back old.rules.now old.state m
+
 -- The guard judged a message, where it had judged none, and it goes on.
 pub record GoesOn (old : Guard) (m : Message) (new : Guard) : Type 0 where
   pub waited : old.ruling ≡ None
   pub ruling : Ruling
   pub says_so : new.ruling ≡ Some ruling
-  pub judged : record { ruling = ruling; state = new.state } ≡ judged_from old.comes_back old.rules.now old.state m
+  pub judged : IsJudged old m ruling new
   pub rules : new.rules.now ≡ old.rules.now
   pub comes_back : new.comes_back ≡ old.comes_back
   pub called : new.call ≡ call_in old.comes_back new.state.refused m

@@ -1,9 +1,9 @@
 //! One direction of a guarded connection.
 
-ghost use Rattle.std.specs.Prelude.{◌≡◌, ◌⊎◌, ◌++◌, Some, [], IfOk, IfErr, IfSome, IfNone, OnOk, OnErr};
-ghost use Rattle.cp_relay.specs.Relay.{StandsFor, EndsWell, EndsInside, new_relay};
+ghost use Rattle.std.specs.Prelude.{◌≡◌, ◌++◌, [], IfErr, OnOk, OnErr};
+ghost use Rattle.cp_relay.specs.Relay.{StandsFor, EndsWell, new_relay};
 ghost use Rattle.cp_stream.specs.Write.{IsPut};
-ghost use Rattle.cp_guard.specs.Filter.{GuardsNext, GuardsNone, Follows, IsSameFilter};
+ghost use Rattle.cp_guard.specs.Filter.{GuardsNext, GuardsNone, Does, IsSameFilter, IfGives, IfGivesNone, EndsBadly};
 
 use crate::guard::Guard;
 use crate::ruling::{Breach, Ruling};
@@ -105,8 +105,8 @@ impl Filter {
         out: &mut Vec<u8>,
         answers: &mut Vec<u8>,
     ) -> Result<Option<&'a [u8]>, FilterFault>
-        ensures given { IfOk result (λ next. IfSome next (λ rest. GuardsNext guard.old guard.new self.old self.new piece.now rest.now out.old.items out.new.items answers.old.items answers.new.items)) }
-        ensures none { IfOk result (λ next. IfNone next (GuardsNone guard.old guard.new self.old self.new piece.now out.old.items out.new.items answers.old.items answers.new.items)) }
+        ensures given { IfGives result (λ rest. GuardsNext guard.old guard.new self.old self.new piece.now rest.now out.old out.new answers.old answers.new) }
+        ensures none { IfGivesNone result (GuardsNone guard.old guard.new self.old self.new piece.now out.old out.new answers.old answers.new) }
         ensures goes_on { OnErr result (out.new.items ≡ out.old.items) }
         ensures goes_back { OnErr result (answers.new.items ≡ answers.old.items) }
     {
@@ -125,7 +125,7 @@ impl Filter {
     /// Ends the stream, as `Relay::finish` does.
     pub fn finish(&mut self) -> Result<(), RelayFault>
         ensures ok { OnOk result (EndsWell self.old.relay self.new.relay) }
-        ensures stopped { IfErr result (λ fault. EndsInside self.old.relay self.new.relay fault ⊎ ((self.old.relay.fault ≡ Some fault) × (self.new.relay ≡ self.old.relay))) }
+        ensures stopped { IfErr result (λ fault. EndsBadly self.old.relay self.new.relay fault) }
         ensures same { self.new.comes_back ≡ self.old.comes_back }
     {
         self.relay.finish()
@@ -138,7 +138,7 @@ impl Filter {
         out: &mut Vec<u8>,
         answers: &mut Vec<u8>,
     ) -> Result<(), FilterFault>
-        ensures followed { OnOk result (Follows self.old.on self.old.back self.old.limits ruling self.old.frame.items out.old.items out.new.items answers.old.items answers.new.items) }
+        ensures followed { OnOk result (Does self.old ruling self.old.frame.items out.old out.new answers.old answers.new) }
         ensures same { IsSameFilter self.old self.new }
         ensures relay { self.new.relay ≡ self.old.relay }
         ensures goes_on { OnErr result (out.new.items ≡ out.old.items) }

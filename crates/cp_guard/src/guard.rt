@@ -2,9 +2,8 @@
 
 ghost use Rattle.std.specs.Prelude.{◌≡◌, IfOk, Some};
 ghost use Rattle.cp_rpc.specs.Viewed.{viewed};
-ghost use Rattle.cp_guard.specs.Judged.{judged_from};
 ghost use Rattle.cp_guard.specs.declared.ruling.Ruling.{Ruling};
-ghost use Rattle.cp_guard.specs.Guard.{breach_of, call_in, IsFresh, IsSame, Begins};
+ghost use Rattle.cp_guard.specs.Guard.{breach_of, call_in, IsFresh, IsSame, IsJudged, Begins};
 
 use crate::rules::Rules;
 use crate::ruling::{Breach, Cause, Ruling};
@@ -119,7 +118,7 @@ impl<'r> Guard<'r> {
 
     /// What becomes of a message.
     fn judge(&mut self, message: &MessageView) -> Result<Ruling, AllocError>
-        ensures judged { IfOk result (λ v. record { ruling = v; state = self.new.state } ≡ judged_from self.old.comes_back self.old.rules.now self.old.state (viewed message.now)) }
+        ensures judged { IfOk result (λ ruling. IsJudged self.old (viewed message.now) ruling self.new) }
         ensures rules { self.new.rules.now ≡ self.old.rules.now }
         ensures comes_back { self.new.comes_back ≡ self.old.comes_back }
     {

@@ -2,9 +2,8 @@
 
 ghost use Rattle.std.specs.Prelude.{◌≡◌, IfOk, IfNone};
 ghost use Rattle.cp_rpc.specs.Viewed.{viewed, viewed_call, viewed_return, viewed_resolve, viewed_target};
-ghost use Rattle.cp_messages.specs.declared.message.Message.TheVariants as messages;
 ghost use Rattle.cp_guard.specs.State.{limit_cause, call_cause, CountsOneMore, with_one_more};
-ghost use Rattle.cp_guard.specs.Judged.{judged, judged_back, call_judged, bootstrap_judged, finish_judged, return_judged, resolve_judged, target_judged, refused_so, passed_call, is_elsewhere};
+ghost use Rattle.cp_guard.specs.Judged.{judged, judged_back, call_judged, bootstrap_judged, finish_judged, return_judged, resolve_judged, target_judged, refused_so, passed_call, returning, is_elsewhere};
 
 use crate::answer::{answer_of, exception_of};
 use crate::caps::{descriptor_cause, has_broken, payload_without, target_cause};
@@ -282,7 +281,7 @@ impl GuardState {
 
 /// The Return with this in place of what it returns.
 fn returning(view: &ReturnView<View>, returned: Returned) -> Ruling
-    ensures { result ≡ Ruling.Changes (messages.Return (record { answer_id = view.now.answer_id; release_param_caps = view.now.release_param_caps; returned = returned })) }
+    ensures { result ≡ returning (viewed_return (λ t. t) view.now) returned }
 {
     Ruling::Changes(Message::Return(Return {
         answer_id: view.answer_id,
