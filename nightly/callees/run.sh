@@ -94,8 +94,10 @@ question:3 results Cell.add (value = 46)
 question:4 results Desk.now (cell = <external capability>) caps[import:2]
 question:5 results Cell.get (value = 51)
 question:6 results Trial.echo (content = <opaque pointer>) caps[import:1]
-question:7 results Cell.get (value = 51)" "${named[@]}" "$at" 'Trial.now ()' '1.cell.add (amount = 41)' 'question:1.cell Cell.add (amount = 5)' \
-    'now (gift = question:1[0])' '4.cell.get' 'echo (content = question:1.cell)' '6.content.get ()'
+question:7 results Cell.get (value = 51)
+question:8 results Desk.now (cell = <external capability>) caps[import:3]
+question:9 results Cell.get (value = 0)" "${named[@]}" "$at" 'Trial.now ()' '1.cell.add (amount = 41)' 'question:1.cell Cell.add (amount = 5)' \
+    'now (gift = question:1[0])' '4.cell.get' 'echo (content = question:1.cell)' '6.content.get ()' 'now (gift = null)' '8.cell.get'
 expect 1 'question:1 results Desk.now (cell = <external capability>) caps[import:1]
 question:2 exception failed "remote exception: no such object"
 question:3 results Desk.later (cell = <external capability>) caps[import:2]' "${named[@]}" "$at" "i=$desk m=0" 'tell (cell = object:0)' 'later ()'

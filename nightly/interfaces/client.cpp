@@ -84,7 +84,32 @@ static void reckons(capnp::EzRpcClient& client) {
   auto lacks = reckoner.reckonRequest();
   lacks.initExpression().setParam(0);
   print("a param of no function", failure(lacks.send(), scope));
+  auto null = reckoner.reckonRequest();
+  null.initExpression().initCall().initParams(2);
+  print("a null function", failure(null.send(), scope));
   print("another interface", failure(reckoner.castAs<Calculator>().evaluateRequest().send(), scope));
+}
+
+// A person for whom nobody speaks, and a watcher that is none.
+static void adds_alone(Directory::Client directory, kj::WaitScope& scope) {
+  auto watch = directory.watchRequest();
+  watch.setWatcher(nullptr);
+  watch.send().wait(scope);
+  auto add = directory.addRequest();
+  add.initPerson().setName("Bob");
+  add.getPerson().setFriend(nullptr);
+  auto find = directory.findRequest();
+  find.setName("Bob");
+  auto added = add.send();
+  auto found = find.send();
+  auto promised = found.getPerson().getFriend().greetRequest().send();
+
+  print("alone", kj::str(added.wait(scope).getCount()));
+  auto came = found.wait(scope);
+  print("found alone", kj::str(came.getPerson().getName(), came.getPerson().hasFriend() ? ", somebody" : ", nobody"));
+  print("nobody, promised", failure(kj::mv(promised), scope));
+  print("nobody, found", failure(came.getPerson().getFriend().greetRequest().send(), scope));
+  print("name again", directory.nameRequest().send().wait(scope).getName());
 }
 
 static void directs(capnp::EzRpcClient& client) {
@@ -120,6 +145,7 @@ static void directs(capnp::EzRpcClient& client) {
   nobody.setName("Nobody");
   print("nobody", kj::str("\"", nobody.send().wait(scope).getPerson().getName(), "\""));
   print("watched", kj::strArray(names, ", "));
+  adds_alone(directory, scope);
   print("another interface", failure(directory.castAs<Calculator>().evaluateRequest().send(), scope));
 }
 

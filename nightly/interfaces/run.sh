@@ -28,7 +28,9 @@ f(12, 34): 1234
 2 ^ (4 + 5): 512
 7.5: 7.5
 a param of no function: failed: expected expression.getParam() < params.size() [0 < 0]; no such param
-no value: failed: null capability" "$build/interfaces" calculator "$port"
+no value: failed: null capability
+no function: failed: Called null capability.
+no value + 3: 3" "$build/interfaces" calculator "$port"
 end
 echo "a calculator in C++: pipelined functions and values, definitions, and a function of the client's"
 
@@ -38,14 +40,19 @@ watch: done
 add: 2
 promised: hello yourself
 found: Ada, 36, says hello, hello
-alone: 3" "$build/interfaces" directory "$port"
+alone: 3
+nobody, promised: failed: Pipeline call on a request that returned no capabilities or was already closed.
+nobody, found: failed: null capability
+watched by nobody: done
+name again: a directory in C++" "$build/interfaces" directory "$port"
 end
-echo "a directory in C++: a friend called before it came, one that is the client's own, and none; a watcher of the client's"
+echo "a directory in C++: a friend called before it came, one that is the client's own, and none; a watcher of the client's, and none"
 
 begin "$port" "$build/interfaces" serve reckoner "$port"
 expect "6 * 7: 42
 2 ^ 10 * 3 - 7: 3065
 a param of no function: failed: remote exception: no number
+a null function: failed: remote exception: null capability
 another interface: unimplemented: remote exception: no such method" "$build/client" reckoner "127.0.0.1:$port"
 wait "$pid"
 begin "$port" "$build/interfaces" serve directory "$port"
@@ -55,6 +62,11 @@ found: Ada, 36
 greeted: good day, from Ada's friend
 nobody: \"\"
 watched: Ada, Alan
+alone: 3
+found alone: Bob, nobody
+nobody, promised: failed: remote exception: null capability
+nobody, found: failed: Called null capability.
+name again: the shelf
 another interface: unimplemented: remote exception: no such method" "$build/client" directory "127.0.0.1:$port"
 wait "$pid"
 pid=''

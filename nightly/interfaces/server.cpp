@@ -1,6 +1,7 @@
 // Servers by the reference library. Usage: server calculator|directory ADDRESS (HOST:PORT)
 //   calculator: as calculator.capnp says
 //   directory: as directory.capnp says; it knows Grace, 85, from the beginning, who answers each greeting herself
+// Both take null capabilities: a value that is none is 0, and nobody may speak for a person.
 #include "calculator.capnp.h"
 #include "directory.capnp.h"
 #include <capnp/ez-rpc.h>
@@ -17,6 +18,7 @@ static kj::Promise<double> numberOf(Expression::Reader expression, Numbers param
     case Expression::NUMBER:
       return expression.getNumber();
     case Expression::VALUE:
+      if (!expression.hasValue()) return 0.0;
       return expression.getValue().readRequest().send().then([](auto&& said) { return said.getNumber(); });
     case Expression::PARAM:
       KJ_REQUIRE(expression.getParam() < params.size(), "no such param");
@@ -162,7 +164,7 @@ class DirectoryServer final : public Directory::Server {
   }
 
   kj::Promise<void> watch(WatchContext context) override {
-    watchers.add(context.getParams().getWatcher());
+    if (context.getParams().hasWatcher()) watchers.add(context.getParams().getWatcher());
     return kj::READY_NOW;
   }
 };

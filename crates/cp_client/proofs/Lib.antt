@@ -1,6 +1,8 @@
-pub mod Living
-pub mod Going
-pub mod Waiting
+pub mod Deciding
+pub mod Devices
+pub mod Beginning
+pub mod Telling
+pub mod Writing
+pub mod Reading
 pub mod Trees
 pub mod Streaming
-pub mod Attending

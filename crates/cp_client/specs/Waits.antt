@@ -1,77 +1,88 @@
 -- How a client waits.
-use Rattle.std.specs.Prelude.{◌≡◌, ◌⊎◌, ℕ, [], ◌∷◌, Option, Some, None}
-use Rattle.std.specs.Io.KnownBytes.{IsAtEnd}
+use Rattle.std.specs.Prelude.{◌≡◌, ◌⊎◌, ℕ, Some, None}
 use Rattle.std.specs.FinMap.{get, remove}
 use Rattle.cp_refs.specs.declared.call.Request.{Request}
 use Rattle.cp_refs.specs.declared.cap.Cap.{Cap}
 use Rattle.cp_refs.specs.declared.outcome.Outcome.{Outcome}
+use Rattle.cp_servants.specs.Servant.{Kind}
 use Rattle.cp_vat_machine.specs.declared.event.Event.TheVariants as events
-use Rattle.cp_connection.specs.declared.happening.Happening.{Happening}
-use Rattle.cp_connection.specs.Receiving.{EndsWell}
-use Rattle.cp_connection.specs.Lives.{Life}
+use Rattle.cp_connection.specs.declared.fault.ConnectionFault.TheVariants.{OutOfMemory}
+use Rattle.cp_session.specs.Doing.{HasMore, HasNone, PollsOn, RunsOut}
 use Rattle.cp_client.specs.declared.fault.ClientFault.{ClientFault}
 use Rattle.cp_client.specs.declared.fault.ClientFault.TheVariants as client_faults
-use Rattle.cp_client.specs.Seat.{Seat}
-use Rattle.cp_client.specs.Goes.{Goes, asked_after, closed_after, NoneFailed, ReadFailed, WriteFailed, Asks, IsUnasked, IsUndone, Finishes}
+use Rattle.cp_client.specs.Conversation.{Conversation}
+use Rattle.cp_client.specs.Calls.{Asks, Finishes, IsUnasked, IsUndone}
+use Rattle.cp_client.specs.Reading.{GoesOn, Halts}
+use Rattle.cp_client.specs.Telling.{Knows}
+use Rattle.cp_client.specs.Writing.{Flushes, WritesPart}
 
--- the outcome of a question came, and is given out: it is there no more
-abbrev pub GivesOut : Seat → ℕ → Outcome → Seat → Type 0
-GivesOut old q outcome new = (get old.asked q ≡ Some (Some outcome)) × (new ≡ record old { asked = remove old.asked q })
+module _ {A : Type 0} where
+  -- the outcome of a question came, and is given out: it is there no more
+  abbrev pub GivesOut : Conversation A → ℕ → Outcome → Conversation A → Type 0
+  GivesOut old q outcome new = (get old.asked q ≡ Some (Some outcome)) × (new ≡ record old { asked = remove old.asked q })
 
--- the outcome of a question that is asked is given out, if it came
-abbrev pub TakesOut : Seat → ℕ → Option Outcome → Seat → Type 0
-TakesOut old q (Some outcome) new = GivesOut old q outcome new
-TakesOut old q None new = (get old.asked q ≡ Some None) × (new ≡ old)
+  -- a question is asked, and its outcome hasn't come
+  abbrev pub IsAwaited : ℕ → Conversation A → Type 0
+  IsAwaited q state = get state.asked q ≡ Some None
 
--- This happening was handed out, and is known.
-pub record Notes (old : Seat) (happening : Happening) (new : Seat) : Type 0 where
-  pub life : Life old.link [] [] [] new.link
-  pub asked : new.asked ≡ asked_after (happening ∷ []) old.asked
-  pub closed : new.closed ≡ closed_after (happening ∷ []) old.closed
-  pub same : new ≡ record old { link = new.link; asked = new.asked; closed = new.closed }
+-- Of objects of one kind.
+module _ {A : Type 0} (kind : Kind A) where
+  -- the objects went on, or memory ran out for that
+  pub record Polls (old new : Conversation A) : Type 0 where
+    pub polls : PollsOn kind old.session 0 new.session ⊎ RunsOut kind old.session 0 new.session
+    pub same : new ≡ record old { session = new.session }
 
--- The client went on until the outcome of a question came, which is given out. No call of a device failed.
-pub record Waits (old : Seat) (q : ℕ) (outcome : Outcome) (new : Seat) : Type 0 where
-  pub mid : Seat
-  pub goes : Goes old mid
-  pub gives : GivesOut mid q outcome new
-  pub none_failed : NoneFailed old new
+  -- All was written. Then the objects went on, where one may give more; or else bytes of the peer were taken.
+  pub data Steps (old new : Conversation A) : Type 0 where
+    polls_on : (mid : Conversation A) → Flushes kind old mid → HasMore kind mid.session → Polls mid new → Steps old new
+    reads_on : (mid : Conversation A) → Flushes kind old mid → HasNone kind mid.session → GoesOn kind mid new → Steps old new
 
--- The peer's bytes ended after a message. All that was sent was written.
-pub record IsEnded (new : Seat) : Type 0 where
-  pub at_end : IsAtEnd new.from.bytes
-  pub well : EndsWell new.link new.link
-  pub written : new.link.unwritten ≡ []
+  -- why a client doesn't go on: not all was written; or it was, the objects have no more to give, and no byte of the peer is taken
+  pub data Fails (old : Conversation A) (fault : ClientFault) (new : Conversation A) : Type 0 where
+    unwritten : WritesPart kind old fault new → Fails old fault new
+    halts : (mid : Conversation A) → Flushes kind old mid → HasNone kind mid.session → Halts mid fault new → Fails old fault new
 
--- why a client doesn't go on: a call of a device failed; or the peer's bytes ended; or the connection ended, or memory ran out
-abbrev pub StopsFor : Seat → ClientFault → Seat → Type 0
-StopsFor old (client_faults.Device error) new = ReadFailed old new ⊎ WriteFailed old new
-StopsFor old client_faults.Ended new = NoneFailed old new × IsEnded new
-StopsFor old (client_faults.Connection fault) new = NoneFailed old new
-StopsFor old fault new = ⊥
+  -- The client went on, step by step. Before each step it knew all that its session had to tell, and this held.
+  pub data GoesWhile (holds : Conversation A → Type 0) (old : Conversation A) : Conversation A → Type 0 where
+    begins : GoesWhile holds old old
+    steps : {mid known new : Conversation A} → GoesWhile holds old mid → Knows mid known → holds known → Steps known new → GoesWhile holds old new
 
--- why no outcome is given out: the question isn't asked; or it is, its outcome hasn't come, and the client doesn't go on
-abbrev pub IsUntold : Seat → ℕ → ClientFault → Seat → Type 0
-IsUntold old q client_faults.NotAsked new = NoneFailed old new × (get new.asked q ≡ None)
-IsUntold old q fault new = StopsFor old fault new
+  -- The client went on while the outcome of a question hadn't come. Then that is given out.
+  pub record Waits (old : Conversation A) (q : ℕ) (outcome : Outcome) (new : Conversation A) : Type 0 where
+    pub mid : Conversation A
+    pub known : Conversation A
+    pub goes : GoesWhile (IsAwaited q) old mid
+    pub knows : Knows mid known
+    pub gives : GivesOut known q outcome new
 
--- The client went on, and stopped before an outcome was given out.
-pub record Stops (old : Seat) (q : ℕ) (fault : ClientFault) (new : Seat) : Type 0 where
-  pub goes : Goes old new
-  pub untold : IsUntold old q fault new
+  -- Why no outcome is given out: the question isn't asked; or its outcome hasn't come, and the client doesn't go on; or memory ran out.
+  pub data Stops (old : Conversation A) (q : ℕ) (fault : ClientFault) (new : Conversation A) : Type 0 where
+    not_asked : (mid : Conversation A) → GoesWhile (IsAwaited q) old mid → Knows mid new → fault ≡ client_faults.NotAsked → get new.asked q ≡ None
+        → Stops old q fault new
+    stopped : (mid known : Conversation A) → GoesWhile (IsAwaited q) old mid → Knows mid known → IsAwaited q known → Fails known fault new → Stops old q fault new
+    ran_out : GoesWhile (IsAwaited q) old new → fault ≡ client_faults.Connection OutOfMemory → Stops old q fault new
 
--- a call was made, its outcome came and was given out, and its question was given up
-pub record IsAnswered (old : Seat) (cap : Cap) (request : Request) (outcome : Outcome) (new : Seat) : Type 0 where
-  pub q : ℕ
-  pub called : Seat
-  pub told : Seat
-  pub asks : Asks old (events.Call cap request) q called
-  pub waits : Waits called q outcome told
-  pub finishes : Finishes told q new
+  -- a client goes on whatever came
+  abbrev pub Serves : Conversation A → Conversation A → Type 0
+  Serves = GoesWhile (λ _. Unit {0})
 
--- Why a call isn't answered: it isn't made; or its outcome isn't given out; or that was, and is lost, since its question can't be given up.
-pub data IsUnanswered (old : Seat) (cap : Cap) (request : Request) (fault : ClientFault) (new : Seat) : Type 0 where
-  unasked : IsUnasked old (events.Call cap request) fault new → IsUnanswered old cap request fault new
-  untold : (q : ℕ) (called : Seat) → Asks old (events.Call cap request) q called → Stops called q fault new → IsUnanswered old cap request fault new
-  unfinished : (q : ℕ) (outcome : Outcome) (called told : Seat) → Asks old (events.Call cap request) q called → Waits called q outcome told
-      → IsUndone told (events.Finish q) fault new → IsUnanswered old cap request fault new
+  -- Why a client serves no more: it doesn't go on; or memory ran out.
+  pub data ServesUntil (old : Conversation A) (fault : ClientFault) (new : Conversation A) : Type 0 where
+    halted : (mid known : Conversation A) → Serves old mid → Knows mid known → Fails known fault new → ServesUntil old fault new
+    overran : Serves old new → fault ≡ client_faults.Connection OutOfMemory → ServesUntil old fault new
+
+  -- a call was made, its outcome came and was given out, and its question was given up
+  pub record IsAnswered (old : Conversation A) (cap : Cap) (request : Request) (outcome : Outcome) (new : Conversation A) : Type 0 where
+    pub q : ℕ
+    pub called : Conversation A
+    pub given : Conversation A
+    pub asks : Asks old (events.Call cap request) q called
+    pub waits : Waits called q outcome given
+    pub finishes : Finishes given q new
+
+  -- Why a call isn't answered: it isn't made; or its outcome isn't given out; or that was, and is lost, since its question can't be given up.
+  pub data IsUnanswered (old : Conversation A) (cap : Cap) (request : Request) (fault : ClientFault) (new : Conversation A) : Type 0 where
+    unasked : IsUnasked old (events.Call cap request) fault new → IsUnanswered old cap request fault new
+    untold : (q : ℕ) (called : Conversation A) → Asks old (events.Call cap request) q called → Stops called q fault new → IsUnanswered old cap request fault new
+    unfinished : (q : ℕ) (outcome : Outcome) (called given : Conversation A) → Asks old (events.Call cap request) q called → Waits called q outcome given
+        → IsUndone given (events.Finish q) fault new → IsUnanswered old cap request fault new

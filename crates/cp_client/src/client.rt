@@ -1,105 +1,176 @@
 //! A client.
 
-ghost use Rattle.std.specs.Prelude.{◌≡◌, ◌<◌, [], None, Some, IfOk, IfErr, OnOk, option_copied, length};
+ghost use Rattle.std.specs.Prelude.{◌≡◌, ◌<◌, ℕ, [], None, IfOk, IfErr, OnOk, OnErr, option_copied};
 ghost use Rattle.cp_vat_machine.specs.declared.event.Event.TheVariants as events;
-ghost use Rattle.cp_stream.specs.Read.{FailedOnce};
-ghost use Rattle.cp_stream.specs.Tap.{failures_of};
-ghost use Rattle.cp_client.specs.Seat.{fresh, new_seat, seat_with};
-ghost use Rattle.cp_client.specs.SeatOf.{seat};
-ghost use Rattle.cp_client.specs.Goes.{Goes, Exchanges, NoneFailed, Asks, IsUnasked, IsUndone, Finishes, Releases};
-ghost use Rattle.cp_client.specs.Reading.{IsConnections, IsDevice, StopsReading};
-ghost use Rattle.cp_client.specs.Waits.{Waits, Stops, StopsFor, IsAnswered, IsUnanswered};
+ghost use Rattle.cp_session.specs.State.{link_of};
+ghost use Rattle.cp_client.specs.Calls.{Asks, Exports, Finishes, IsUnasked, IsUndone, IsUnexported, Releases};
+ghost use Rattle.cp_client.specs.Devices.{fresh};
+ghost use Rattle.cp_client.specs.Conversation.{new_conversation};
+ghost use Rattle.cp_client.specs.ConversationOf.{seen};
+ghost use Rattle.cp_client.specs.Reading.{Ends, GoesOn, Halts, IsClosed, IsOpen, ReadFailed, Reads, Takes};
+ghost use Rattle.cp_client.specs.Telling.{Knows, knowing};
+ghost use Rattle.cp_client.specs.Waits.{Fails, IsAnswered, IsUnanswered, Polls, ServesUntil, Steps, Stops, Waits};
+ghost use Rattle.cp_client.specs.Writing.{Flushes, WriteFailed, WritesOn, WritesPart, WritesSome};
 ghost use Rattle.cp_client.specs.declared.fault.ClientFault.TheVariants.{Ended};
 
 use crate::fault::ClientFault;
+use crate::nobody::Nobody;
+use crate::piece::Piece;
 use crate::question::Question;
-use crate::session::Session;
+use crate::questions::Questions;
 use cp_connection::{ConnectionFault, Tally};
 use cp_frame::Mode;
 use cp_refs::{Cap, Outcome, Request};
+use cp_servants::Servant;
+use cp_session::{Session, SessionEvent, SessionLimits, SessionOptions};
 use cp_stream::{DeviceError, Tap};
 use cp_vat_machine::Reason;
 use cp_words::Limits;
 use std::alloc::Global;
 use std::io::{ErrorKind, Read, Write};
 
+/// The time at which all is done that a client does: it has no limits of time.
+const NOW: u64 = 0;
+
 /// One end of a connection over a reader and a writer, which asks questions and waits for their outcomes (rpc.capnp,
-/// level 1). It has no object for its peer's Bootstrap.
+/// level 1). Its objects, if it has some, answer its peer's calls meanwhile, and may call what they were given.
 ///
 /// # In which order calls are made
 ///
-/// 1. `bootstrap` asks for the peer's object. Its question may be called at once, by `Question::cap`.
-/// 2. `call` calls a capability: what a question will give, at a path by `Question::at`, or an import that an outcome
-///    named. A call is sent when the client next waits, in one go with all that was called before.
-/// 3. `wait` waits for a question's outcome, and gives it out, once. `ask` is `call`, `wait` and `finish`.
-/// 4. `finish` gives a question up when none of its paths is needed any more, and `release` an import: till then the peer
+/// 1. `new` makes it, or `with_objects`.
+/// 2. `bootstrap` asks for the peer's object. Its question may be called at once, by `Question::cap`.
+/// 3. `call` calls a capability: what a question will give, at a path by `Question::at`, an import that an outcome named, or an
+///    object of the client's. A call is sent when the client next waits, in one go with all that was called before. `export` adds an
+///    object, whose capability a call's table may name.
+/// 4. `wait` waits for a question's outcome, and gives it out, once. `ask` is `call`, `wait` and `finish`.
+/// 5. `finish` gives a question up when none of its paths is needed any more, and `release` an import: till then the peer
 ///    keeps them. `flush` writes what is still to be sent, and `into_devices` ends the client.
 ///
-/// Nothing is read before all that was sent is written. A call that comes from the peer fails with `no such object`.
+/// Nothing is read before all that was sent is written, and before the objects gave all that they have: so an object that always
+/// says that it may give more keeps its client from reading.
+///
+/// # Its objects
+///
+/// `O` is their one type, or `Box<dyn Servant>` for objects of several. Object 0 is the one that was exported first. A call of an
+/// object that isn't there fails with `no such object`.
+///
+/// An import that several objects were given is released when each of them gave it up. What the program was given isn't
+/// counted: an object that gives up the same import takes it from the program too, unless a question that wasn't finished
+/// still gives it.
 ///
 /// # Errors, and what each leaves
 ///
 /// - `Device`: a call of the reader or of the writer failed. Nothing is lost: a later call writes and reads on from there.
-/// - `Ended`: the peer's bytes ended after a message. The client may still call, and write.
+/// - `Ended`: the peer's bytes ended after a message, the objects gave all that they had, and it was written. No more is read. The
+///   client may still call, and write.
 /// - `NotAsked`: no such question waits for its outcome.
 /// - `Connection`: the connection ended, by its peer's fault or its own, or memory ran out; or its vat refuses this call,
-///   which changes nothing then. Where the vat closed, `closed` says why, and all that was sent, an Abort too, was written
-///   if the writer took it.
+///   which changes nothing then. Where the connection ended, all that was sent, an Abort too, was written before that is said.
+///   Where the vat closed, `closed` says why.
 ///
 /// Outcomes that came before a fault are given out after it.
-#[derive(Drop)]
-pub struct Client<R, W> {
+pub struct Client<R, W, O = Nobody> {
     from: Tap<R>,
     to: Tap<W>,
-    /// All but the devices, for one who has what happened done by others, as `ExportedObjects` has by its objects.
-    pub session: Session,
+    session: Session<O>,
+    /// The bytes that were read and weren't taken.
+    piece: Piece,
+    questions: Questions,
+    /// Why the vat closed.
+    closed: Option<Reason>,
 }
 
-impl<R: Read + Drop, W: Write + Drop> Client<R, W> {
-    /// A client that asked nothing. What comes is read within these limits; what goes out keeps to the standard ones.
-    pub fn new(alloc: Global, from: R, to: W, mode: Mode, limits: Limits) -> Client<R, W>
-        ensures { seat R.remaining W.contents result ≡ new_seat mode limits (fresh (R.remaining from)) (fresh (W.contents to)) }
-    {
-        Client {
-            from: Tap::new(from),
-            to: Tap::new(to),
-            session: Session::new(alloc, mode, limits, None),
-        }
+// Not derived: a crate that lets one go calls this function, and need not prove the drop of all that it holds.
+impl<R: Drop, W: Drop, O: Drop> Drop for Client<R, W, O> {
+    fn drop(self) {
+        let Client {
+            from: _,
+            to: _,
+            session: _,
+            piece: _,
+            questions: _,
+            closed: _,
+        } = self;
     }
+}
 
-    /// The same, whose peer gets this object of the client's for its Bootstrap.
-    pub fn with_bootstrap(
+impl<R: Read + Drop, W: Write + Drop> Client<R, W, Nobody> {
+    /// A client without objects, that asked nothing. What comes is read within these limits; what goes out keeps to the standard ones.
+    pub fn new(alloc: Global, from: R, to: W, mode: Mode, limits: Limits) -> Client<R, W, Nobody>
+        ensures { seen R.remaining W.contents result ≡ new_conversation mode limits None (fresh (R.remaining from)) (fresh (W.contents to)) }
+    {
+        Client::with_objects(alloc, from, to, mode, limits, None)
+    }
+}
+
+impl<R: Read + Drop, W: Write + Drop, O: Servant> Client<R, W, O> {
+    /// The same, that may have objects, of which the peer gets this one for its Bootstrap.
+    pub fn with_objects(
         alloc: Global,
         from: R,
         to: W,
         mode: Mode,
         limits: Limits,
-        object: u32,
-    ) -> Client<R, W>
-        ensures { seat R.remaining W.contents result ≡ seat_with mode limits (Some object) (fresh (R.remaining from)) (fresh (W.contents to)) }
+        bootstrap: Option<u32>,
+    ) -> Client<R, W, O>
+        ensures { seen R.remaining W.contents result ≡ new_conversation mode limits bootstrap (fresh (R.remaining from)) (fresh (W.contents to)) }
     {
+        let options = SessionOptions {
+            mode,
+            messages: limits,
+            bootstrap,
+            may_call: true,
+            // The program holds what outcomes gave it.
+            releases_idle: false,
+            limits: SessionLimits::unlimited(),
+        };
         Client {
             from: Tap::new(from),
             to: Tap::new(to),
-            session: Session::new(alloc, mode, limits, Some(object)),
+            session: Session::new(alloc, &options, Vec::new(alloc), NOW),
+            piece: Piece::new(alloc),
+            questions: Questions::new(alloc),
+            closed: None,
         }
+    }
+
+    /// Adds an object, and gives the capability of it. `TooManyObjects` says that there are 2^32 of them; at any other `Err` memory
+    /// ran out.
+    pub fn export(&mut self, object: O) -> Result<Cap, ClientFault>
+        ensures exports { let at = seen R.remaining W.contents in IfOk result (λ cap. Exports (at self.old) object cap (at self.new)) }
+        ensures unexported { let at = seen R.remaining W.contents in IfErr result (λ f. IsUnexported (at self.old) f) }
+        ensures same { let at = seen R.remaining W.contents in OnErr result (at self.new ≡ at self.old) }
+    {
+        match self.session.export(object)? {
+            Some(cap) => Ok(cap),
+            None => Err(ClientFault::TooManyObjects),
+        }
+    }
+
+    /// The objects, in the order in which they were exported.
+    pub fn objects(&self) -> &[O]
+        ensures { result.now ≡ (seen R.remaining W.contents self.now).session.objects }
+    {
+        self.session.objects()
     }
 
     /// Asks for the peer's bootstrap capability. Refused as `Vat::bootstrap`.
     pub fn bootstrap(&mut self) -> Result<Question, ClientFault>
-        ensures asks { let at = seat R.remaining W.contents in IfOk result (λ q. Asks (at self.old) events.Bootstrap q.number (at self.new)) }
-        ensures unasked { let at = seat R.remaining W.contents in IfErr result (λ f. IsUnasked (at self.old) events.Bootstrap f (at self.new)) }
+        ensures asks { let at = seen R.remaining W.contents in IfOk result (λ q. Asks (at self.old) events.Bootstrap q.number (at self.new)) }
+        ensures unasked { let at = seen R.remaining W.contents in IfErr result (λ f. IsUnasked (at self.old) events.Bootstrap f (at self.new)) }
     {
         let number = self.session.bootstrap()?;
+        self.questions.ask(number)?;
         Ok(Question { number })
     }
 
     /// Calls a capability. Refused as `Vat::call`.
     pub fn call(&mut self, cap: Cap, request: Request) -> Result<Question, ClientFault>
-        ensures asks { let at = seat R.remaining W.contents in IfOk result (λ q. Asks (at self.old) (events.Call cap request) q.number (at self.new)) }
-        ensures unasked { let at = seat R.remaining W.contents in IfErr result (λ f. IsUnasked (at self.old) (events.Call cap request) f (at self.new)) }
+        ensures asks { let at = seen R.remaining W.contents in IfOk result (λ q. Asks (at self.old) (events.Call cap request) q.number (at self.new)) }
+        ensures unasked { let at = seen R.remaining W.contents in IfErr result (λ f. IsUnasked (at self.old) (events.Call cap request) f (at self.new)) }
     {
         let number = self.session.call(cap, request)?;
+        self.questions.ask(number)?;
         Ok(Question { number })
     }
 
@@ -107,13 +178,13 @@ impl<R: Read + Drop, W: Write + Drop> Client<R, W> {
     /// question until that is finished, and its imports until they are released. An outcome that comes for another
     /// question is kept for it.
     pub fn wait(&mut self, question: Question) -> Result<Outcome, ClientFault>
-        ensures waits { let at = seat R.remaining W.contents in IfOk result (λ outcome. Waits (at self.old) question.number outcome (at self.new)) }
-        ensures stops { let at = seat R.remaining W.contents in IfErr result (λ fault. Stops (at self.old) question.number fault (at self.new)) }
+        ensures waits { let at = seen R.remaining W.contents in IfOk result (λ outcome. Waits O.kind (at self.old) question.number outcome (at self.new)) }
+        ensures stops { let at = seen R.remaining W.contents in IfErr result (λ f. Stops O.kind (at self.old) question.number f (at self.new)) }
     {
         for _ in 0..u64::MAX {
             // The outcome is looked for before anything is written: one that has come needs no writer.
-            self.session.note()?;
-            let came = self.session.take_outcome(question.number)?;
+            self.note();
+            let came = self.questions.take(question.number)?;
             if let Some(outcome) = came {
                 return Ok(outcome);
             }
@@ -125,39 +196,44 @@ impl<R: Read + Drop, W: Write + Drop> Client<R, W> {
     /// Calls a capability, waits for the outcome, and finishes the question.
     /// Where memory runs out as the question is given up, the outcome is lost; `call`, `wait` and `finish` lose none.
     pub fn ask(&mut self, cap: Cap, request: Request) -> Result<Outcome, ClientFault>
-        ensures answered { let at = seat R.remaining W.contents in IfOk result (λ outcome. IsAnswered (at self.old) cap request outcome (at self.new)) }
-        ensures unanswered { let at = seat R.remaining W.contents in IfErr result (λ fault. IsUnanswered (at self.old) cap request fault (at self.new)) }
+        ensures answered { let at = seen R.remaining W.contents in IfOk result (λ outcome. IsAnswered O.kind (at self.old) cap request outcome (at self.new)) }
+        ensures unanswered { let at = seen R.remaining W.contents in IfErr result (λ f. IsUnanswered O.kind (at self.old) cap request f (at self.new)) }
     {
         let question = self.call(cap, request)?;
         let outcome = self.wait(question)?;
-        self.finish(question)?;
-        Ok(outcome)
+        match self.finish(question) {
+            Ok(()) => Ok(outcome),
+            Err(fault) => {
+                drop(outcome);
+                Err(fault)
+            }
+        }
     }
 
     /// Gives a question up, before or after its outcome. Refused as `Vat::finish`.
     pub fn finish(&mut self, question: Question) -> Result<(), ClientFault>
-        ensures finishes { let at = seat R.remaining W.contents in OnOk result (Finishes (at self.old) question.number (at self.new)) }
-        ensures undone { let at = seat R.remaining W.contents in IfErr result (λ f. IsUndone (at self.old) (events.Finish question.number) f (at self.new)) }
+        ensures finishes { let at = seen R.remaining W.contents in OnOk result (Finishes (at self.old) question.number (at self.new)) }
+        ensures undone { let at = seen R.remaining W.contents in IfErr result (λ f. IsUndone (at self.old) (events.Finish question.number) f (at self.new)) }
     {
-        self.session.finish(question.number)
+        self.session.finish(question.number)?;
+        self.questions.forget(question.number);
+        Ok(())
     }
 
     /// Gives an import back, with its whole count. Refused as `Vat::release`: so while results of a call of the peer's name it,
     /// as those of a tail call do until the peer finishes that.
     pub fn release(&mut self, import: u32) -> Result<(), ClientFault>
-        ensures releases { let at = seat R.remaining W.contents in OnOk result (Releases (at self.old) import (at self.new)) }
-        ensures undone { let at = seat R.remaining W.contents in IfErr result (λ f. IsUndone (at self.old) (events.Release import) f (at self.new)) }
+        ensures releases { let at = seen R.remaining W.contents in OnOk result (Releases (at self.old) import (at self.new)) }
+        ensures undone { let at = seen R.remaining W.contents in IfErr result (λ f. IsUndone (at self.old) (events.Release import) f (at self.new)) }
     {
-        self.session.connection.release(import)?;
+        self.session.release(import)?;
         Ok(())
     }
 
     /// Writes all that was sent, and waits for nothing.
     pub fn flush(&mut self) -> Result<(), ClientFault>
-        ensures exchanges { let at = seat R.remaining W.contents in Exchanges (at self.old) (at self.new) }
-        ensures written { OnOk result ((seat R.remaining W.contents self.new).link.unwritten ≡ []) }
-        ensures none_failed { let at = seat R.remaining W.contents in OnOk result (NoneFailed (at self.old) (at self.new)) }
-        ensures stops { let at = seat R.remaining W.contents in IfErr result (λ fault. StopsFor (at self.old) fault (at self.new)) }
+        ensures flushes { let at = seen R.remaining W.contents in OnOk result (Flushes O.kind (at self.old) (at self.new)) }
+        ensures part { let at = seen R.remaining W.contents in IfErr result (λ f. WritesPart O.kind (at self.old) f (at self.new)) }
     {
         self.write()?;
         // The writer may keep bytes that the peer waits for.
@@ -165,14 +241,13 @@ impl<R: Read + Drop, W: Write + Drop> Client<R, W> {
         Ok(())
     }
 
-    /// Takes the peer's messages until they end. A call that comes fails with `no such object`.
+    /// Takes the peer's messages until they end, while the objects answer.
     pub fn serve(&mut self) -> Result<(), ClientFault>
-        ensures goes { let at = seat R.remaining W.contents in Goes (at self.old) (at self.new) }
-        ensures serves { let at = seat R.remaining W.contents in OnOk result (StopsFor (at self.old) Ended (at self.new)) }
-        ensures stops { let at = seat R.remaining W.contents in IfErr result (λ fault. StopsFor (at self.old) fault (at self.new)) }
+        ensures serves { let at = seen R.remaining W.contents in OnOk result (ServesUntil O.kind (at self.old) Ended (at self.new)) }
+        ensures stops { let at = seen R.remaining W.contents in IfErr result (λ f. ServesUntil O.kind (at self.old) f (at self.new)) }
     {
         for _ in 0..u64::MAX {
-            self.session.note()?;
+            self.note();
             match self.step() {
                 Ok(()) => {}
                 Err(ClientFault::Ended) => return Ok(()),
@@ -184,77 +259,144 @@ impl<R: Read + Drop, W: Write + Drop> Client<R, W> {
 
     /// Why the vat closed, if it did.
     pub fn closed(&self) -> Option<&Reason>
-        ensures { option_copied result ≡ (seat R.remaining W.contents self.now).closed }
+        ensures { option_copied result ≡ (seen R.remaining W.contents self.now).closed }
     {
-        self.session.closed.as_ref()
+        self.closed.as_ref()
     }
 
     /// How many bytes and messages were taken, and how many messages were sent.
     pub fn tally(&self) -> Tally
-        ensures { result ≡ (seat R.remaining W.contents self.now).link.tally }
+        ensures { result ≡ (seen R.remaining W.contents self.now).session.service.work.link.tally }
     {
-        self.session.connection.tally()
+        self.session.tally()
     }
 
     /// Ends the client, and gives its reader and its writer back. What is still to be sent isn't written then.
     pub fn into_devices(self) -> (R, W)
-        ensures from { R.remaining result.0 ≡ (seat R.remaining W.contents self).from.bytes }
-        ensures to { W.contents result.1 ≡ (seat R.remaining W.contents self).to.bytes }
+        ensures from { R.remaining result.0 ≡ (seen R.remaining W.contents self).from.bytes }
+        ensures to { W.contents result.1 ≡ (seen R.remaining W.contents self).to.bytes }
     {
-        let Client { from, to, .. } = self;
+        let Client {
+            from,
+            to,
+            session,
+            piece,
+            questions,
+            closed,
+        } = self;
+        drop(session);
+        drop(piece);
+        drop(questions);
+        drop(closed);
         (from.into_inner(), to.into_inner())
     }
 
-    /// Writes all that was sent, and then takes bytes up to the end of a message, or of those that were read.
-    pub fn step(&mut self) -> Result<(), ClientFault>
-        ensures exchanges { let at = seat R.remaining W.contents in Exchanges (at self.old) (at self.new) }
-        ensures none_failed { let at = seat R.remaining W.contents in OnOk result (NoneFailed (at self.old) (at self.new)) }
-        ensures stops { let at = seat R.remaining W.contents in IfErr result (λ fault. StopsFor (at self.old) fault (at self.new)) }
+    /// Writes all that was sent. Then the objects go on where one may give more, or else bytes of the peer are taken.
+    fn step(&mut self) -> Result<(), ClientFault>
+        ensures steps { let at = seen R.remaining W.contents in OnOk result (Steps O.kind (at self.old) (at self.new)) }
+        ensures fails { let at = seen R.remaining W.contents in IfErr result (λ f. Fails O.kind (at self.old) f (at self.new)) }
     {
         self.flush()?;
-        self.session.goes_on()?;
-        self.read()?;
-        self.receive()?;
+        if self.session.has_more() {
+            self.poll();
+            return Ok(());
+        }
+        self.go_on()
+    }
+
+    /// Has the objects go on. Where memory runs out `is_open` says so, once all is written.
+    fn poll(&mut self)
+        ensures { let at = seen R.remaining W.contents in Polls O.kind (at self.old) (at self.new) }
+    {
+        let _ = self.session.poll(NOW);
+    }
+
+    /// Takes bytes up to the end of a message, or of those that were read; or ends them.
+    fn go_on(&mut self) -> Result<(), ClientFault>
+        ensures goes_on { let at = seen R.remaining W.contents in OnOk result (GoesOn O.kind (at self.old) (at self.new)) }
+        ensures halts { let at = seen R.remaining W.contents in IfErr result (λ f. Halts (at self.old) f (at self.new)) }
+    {
+        self.is_open()?;
+        let has_bytes = self.read()?;
+        if has_bytes {
+            self.take();
+            return Ok(());
+        }
+        self.end();
         Ok(())
     }
 
-    /// Takes bytes up to the end of a message, or of those that were read.
-    fn receive(&mut self) -> Result<(), ClientFault>
-        requires { self.old.session.over ≡ None }
-        ensures exchanges { let at = seat R.remaining W.contents in Exchanges (at self.old) (at self.new) }
-        ensures same { (self.new.from ≡ self.old.from) × (self.new.to ≡ self.old.to) }
-        ensures ended { IfErr result IsConnections }
+    /// Says why nothing more is taken, if nothing is.
+    fn is_open(&self) -> Result<(), ClientFault>
+        ensures is_open { let at = seen R.remaining W.contents in OnOk result (IsOpen (at self.now).session) }
+        ensures closed { let at = seen R.remaining W.contents in IfErr result (λ f. IsClosed (at self.now).session f) }
     {
-        self.session.receive()
+        if let Some(fault) = self.session.fault() {
+            return Err(ClientFault::Connection(fault));
+        }
+        if !self.session.takes_bytes() {
+            return Err(ClientFault::Ended);
+        }
+        Ok(())
     }
 
-    /// Reads a piece, where nothing is left of one.
-    fn read(&mut self) -> Result<(), ClientFault>
-        ensures exchanges { let at = seat R.remaining W.contents in Exchanges (at self.old) (at self.new) }
-        ensures same { (self.new.session.over ≡ self.old.session.over) × (self.new.to ≡ self.old.to) }
-        ensures none_failed { OnOk result (failures_of self.new.from ≡ failures_of self.old.from) }
-        ensures stops { let at = seat R.remaining W.contents in IfErr result (λ fault. StopsReading (at self.old) fault (at self.new)) }
+    /// Reads a piece, where nothing is left of one. Says whether there are bytes; else the peer's ended.
+    fn read(&mut self) -> Result<bool, ClientFault>
+        ensures reads { let at = seen R.remaining W.contents in IfOk result (λ some. Reads (at self.old) some (at self.new)) }
+        ensures failed { let at = seen R.remaining W.contents in IfErr result (λ f. ReadFailed (at self.old) f (at self.new)) }
     {
-        if !self.session.piece.is_empty() {
-            return Ok(());
+        if !self.piece.is_empty() {
+            return Ok(true);
         }
-        let came = self.session.piece.fill(&mut self.from)?;
-        if came {
-            return Ok(());
+        self.piece.fill(&mut self.from)
+    }
+
+    /// Takes the bytes that were read, up to the end of a message. Where they can't be taken `is_open` says so, once all is written.
+    fn take(&mut self)
+        ensures { let at = seen R.remaining W.contents in Takes O.kind (at self.old) (at self.new) }
+    {
+        match self.session.receive(self.piece.bytes(), NOW) {
+            Ok(count) => self.piece.took(count),
+            Err(_) => {}
         }
-        self.session.connection.end()?;
-        Err(ClientFault::Ended)
+    }
+
+    /// Ends the peer's bytes. The objects still give what they owe. Once that is written, `is_open` says that the peer ended.
+    fn end(&mut self)
+        ensures { let at = seen R.remaining W.contents in Ends O.kind (at self.old) (at self.new) }
+    {
+        let _ = self.session.end(NOW);
+    }
+
+    /// Keeps what happened: each outcome for its question, and why the vat closed.
+    fn note(&mut self)
+        ensures { let at = seen R.remaining W.contents in Knows (at self.old) (at self.new) }
+    {
+        'noting: while let Some(event) = self.session.poll_event() {
+            self.note_one(event);
+        }
+    }
+
+    /// Keeps what an event says. Of what else ended the session its fault says why.
+    fn note_one(&mut self, event: SessionEvent)
+        ensures { let at = seen R.remaining W.contents in at self.new ≡ knowing event (at self.old) }
+    {
+        match event {
+            SessionEvent::Outcome { question, outcome } => self.questions.come(question, outcome),
+            SessionEvent::Closed(reason) => self.closed = Some(reason),
+            SessionEvent::Fault(_) => {}
+            SessionEvent::Limit(_) => {}
+            SessionEvent::Ended => {}
+        }
     }
 
     /// Writes all that was sent.
     fn write(&mut self) -> Result<(), ClientFault>
-        ensures exchanges { let at = seat R.remaining W.contents in Exchanges (at self.old) (at self.new) }
-        ensures same { (self.new.from ≡ self.old.from) × (self.new.session.over ≡ self.old.session.over) }
-        ensures written { OnOk result (self.new.session.connection.unwritten ≡ []) }
-        ensures none_failed { OnOk result (failures_of self.new.to ≡ failures_of self.old.to) }
-        ensures failed { IfErr result (λ fault. IsDevice fault × FailedOnce (failures_of self.old.to) (failures_of self.new.to)) }
+        ensures writes { let at = seen R.remaining W.contents in OnOk result (WritesOn O.kind (at self.old) (at self.new)) }
+        ensures all { let at = seen R.remaining W.contents in OnOk result ((link_of (at self.new).session).unwritten ≡ []) }
+        ensures part { let at = seen R.remaining W.contents in IfErr result (λ f. WritesPart O.kind (at self.old) f (at self.new)) }
     {
-        'writing: while !self.session.connection.outgoing().is_empty() {
+        'writing: while !self.session.outgoing().is_empty() {
             self.write_some()?;
         }
         Ok(())
@@ -262,19 +404,16 @@ impl<R: Read + Drop, W: Write + Drop> Client<R, W> {
 
     /// Offers the writer what was sent, and notes how much it took.
     fn write_some(&mut self) -> Result<(), ClientFault>
-        ensures exchanges { let at = seat R.remaining W.contents in Exchanges (at self.old) (at self.new) }
-        ensures same { (self.new.from ≡ self.old.from) × (self.new.session.over ≡ self.old.session.over) }
-        ensures fewer { OnOk result (length self.new.session.connection.unwritten < length self.old.session.connection.unwritten) }
-        ensures none_failed { OnOk result (failures_of self.new.to ≡ failures_of self.old.to) }
-        ensures failed { IfErr result (λ fault. IsDevice fault × FailedOnce (failures_of self.old.to) (failures_of self.new.to)) }
+        ensures writes { let at = seen R.remaining W.contents in OnOk result ((count : ℕ) × (0 < count) × WritesSome O.kind (at self.old) count (at self.new)) }
+        ensures failed { let at = seen R.remaining W.contents in IfErr result (λ f. WriteFailed (at self.old) f (at self.new)) }
     {
         // Each count is noted, so that after a failed call it is known to the byte what was written.
-        let count = self.to.write(self.session.connection.outgoing())?;
+        let count = self.to.write(self.session.outgoing())?;
         // A writer that takes nothing would be asked for ever.
         if count == 0 {
             return Err(ClientFault::Device(DeviceError::from(ErrorKind::WriteZero)));
         }
-        self.session.connection.wrote(count);
+        self.session.wrote(count, NOW);
         Ok(())
     }
 }

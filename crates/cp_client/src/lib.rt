@@ -5,17 +5,16 @@
 mod caller;
 mod client;
 mod contents;
-mod exports;
 mod fault;
+mod nobody;
 mod piece;
 mod question;
-mod session;
+mod questions;
 mod stream;
 
 pub use client::Client;
 pub use contents::{request_of, word_at};
-pub use exports::ExportedObjects;
 pub use fault::{ClientFault, StreamingFault};
+pub use nobody::Nobody;
 pub use question::Question;
-pub use session::Session;
 pub use stream::Stream;

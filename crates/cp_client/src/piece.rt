@@ -1,10 +1,10 @@
 //! The bytes that were read and weren't taken.
 
-ghost use Rattle.std.specs.Prelude.{◌≡◌, ◌↔◌, [], false, IsTrue, IfOk, IfErr, OnOk, drop, length};
+ghost use Rattle.std.specs.Prelude.{◌≡◌, ◌↔◌, ◌<◌, [], true, false, IsTrue, IfOk, IfErr, OnOk, drop, length};
 ghost use Rattle.std.specs.Io.KnownBytes.{Consumes, IsAtEnd};
 ghost use Rattle.cp_stream.specs.Tap.{inner_of, failures_of};
-ghost use Rattle.cp_client.specs.Seat.{device};
-ghost use Rattle.cp_client.specs.Reading.{IsUnread};
+ghost use Rattle.cp_client.specs.Devices.{device};
+ghost use Rattle.cp_client.specs.Devices.{IsUnread};
 
 use crate::fault::ClientFault;
 use cp_stream::Tap;
@@ -27,7 +27,7 @@ pub(crate) struct Piece {
 
 impl Model for Piece {
     ghost use Rattle.std.specs.Prelude.{List, ℕ, ◌≤◌, drop, take, length};
-    ghost use Rattle.cp_client.specs.Seat.{most_kept};
+    ghost use Rattle.cp_client.specs.Devices.{most_kept};
 
     ghost Value = { List ℕ };
 
@@ -79,6 +79,7 @@ impl Piece {
     pub(crate) fn fill<R: Read>(&mut self, from: &mut Tap<R>) -> Result<bool, ClientFault>
         requires { self.old ≡ [] }
         ensures read { OnOk result (Consumes (R.remaining (inner_of from.old)) (R.remaining (inner_of from.new)) self.new) }
+        ensures some { IfOk result (λ some. some ≡ true → 0 < length self.new) }
         ensures ended { IfOk result (λ some. some ≡ false → (self.new ≡ []) × IsAtEnd (R.remaining (inner_of from.new))) }
         ensures none_failed { OnOk result (failures_of from.new ≡ failures_of from.old) }
         ensures unread { IfErr result (λ fault. (self.new ≡ []) × IsUnread fault (device R.remaining from.old) (device R.remaining from.new)) }

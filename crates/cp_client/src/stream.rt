@@ -1,13 +1,14 @@
 //! Calls of which several are under way.
 
 ghost use Rattle.std.specs.Prelude.{◌≡◌, [], drop, IfErr, OnOk};
-ghost use Rattle.cp_client.specs.SeatOf.{seat};
+ghost use Rattle.cp_client.specs.ConversationOf.{seen};
 ghost use Rattle.cp_client.specs.Streams.{Breaks, ComesTo, Ends, EndsEach, IsFull, IsUnended, IsUnsent, MakesRoom, Sends, due, new_flow, oldest};
 
 use crate::client::Client;
 use crate::fault::StreamingFault;
 use crate::question::Question;
 use cp_refs::{Outcome, Request};
+use cp_servants::Servant;
 use cp_stubs::{CallTarget, NoResults, payload_of};
 use std::alloc::Global;
 use std::collections::VecDeque;
@@ -51,14 +52,14 @@ impl Stream {
 
     /// Calls a capability. Where as many calls are under way as the window has, the oldest is waited for before. Where memory
     /// runs out the call may have been made, and isn't under way.
-    pub fn send<R: Read + Drop, W: Write + Drop>(
+    pub fn send<R: Read + Drop, W: Write + Drop, O: Servant>(
         &mut self,
-        client: &mut Client<R, W>,
+        client: &mut Client<R, W, O>,
         target: &CallTarget,
         request: Request,
     ) -> Result<(), StreamingFault>
-        ensures sends { let at = seat R.remaining W.contents in OnOk result (Sends self.old (at client.old) target.now request self.new (at client.new)) }
-        ensures unsent { let at = seat R.remaining W.contents in IfErr result (λ f. IsUnsent self.old (at client.old) target.now request f self.new.under_way (at client.new)) }
+        ensures sends { let at = seen R.remaining W.contents in OnOk result (Sends O.kind self.old (at client.old) target.now request self.new (at client.new)) }
+        ensures unsent { let at = seen R.remaining W.contents in IfErr result (λ f. IsUnsent O.kind self.old (at client.old) target.now request f self.new.under_way (at client.new)) }
         ensures same_window { self.new.window ≡ self.old.window }
     {
         self.make_room(client)?;
@@ -68,13 +69,13 @@ impl Stream {
     }
 
     /// Waits for all calls that are under way, in order.
-    pub fn end<R: Read + Drop, W: Write + Drop>(
+    pub fn end<R: Read + Drop, W: Write + Drop, O: Servant>(
         &mut self,
-        client: &mut Client<R, W>,
+        client: &mut Client<R, W, O>,
     ) -> Result<(), StreamingFault>
-        ensures ends { let at = seat R.remaining W.contents in OnOk result (EndsEach (at client.old) self.old.under_way (at client.new)) }
+        ensures ends { let at = seen R.remaining W.contents in OnOk result (EndsEach O.kind (at client.old) self.old.under_way (at client.new)) }
         ensures none_left { OnOk result (self.new.under_way ≡ []) }
-        ensures breaks { let at = seat R.remaining W.contents in IfErr result (λ f. Breaks self.old.under_way (at client.old) f self.new.under_way (at client.new)) }
+        ensures breaks { let at = seen R.remaining W.contents in IfErr result (λ f. Breaks O.kind self.old.under_way (at client.old) f self.new.under_way (at client.new)) }
         ensures same_window { self.new.window ≡ self.old.window }
     {
         'ending: while let Some(question) = self.oldest() {
@@ -84,12 +85,12 @@ impl Stream {
     }
 
     /// Waits for the question that has to end before another is asked, if there is one.
-    fn make_room<R: Read + Drop, W: Write + Drop>(
+    fn make_room<R: Read + Drop, W: Write + Drop, O: Servant>(
         &mut self,
-        client: &mut Client<R, W>,
+        client: &mut Client<R, W, O>,
     ) -> Result<(), StreamingFault>
-        ensures room { let at = seat R.remaining W.contents in OnOk result (MakesRoom self.old.under_way (at client.old) (due self.old) self.new.under_way (at client.new)) }
-        ensures full { let at = seat R.remaining W.contents in IfErr result (λ f. IsFull self.old (at client.old) f self.new.under_way (at client.new)) }
+        ensures room { let at = seen R.remaining W.contents in OnOk result (MakesRoom O.kind self.old.under_way (at client.old) (due self.old) self.new.under_way (at client.new)) }
+        ensures full { let at = seen R.remaining W.contents in IfErr result (λ f. IsFull O.kind self.old (at client.old) f self.new.under_way (at client.new)) }
         ensures same_window { self.new.window ≡ self.old.window }
     {
         match self.due() {
@@ -116,14 +117,14 @@ impl Stream {
     }
 
     /// Waits for the outcome of the oldest question, and gives the question up.
-    fn end_oldest<R: Read + Drop, W: Write + Drop>(
+    fn end_oldest<R: Read + Drop, W: Write + Drop, O: Servant>(
         &mut self,
-        client: &mut Client<R, W>,
+        client: &mut Client<R, W, O>,
         question: u32,
     ) -> Result<(), StreamingFault>
-        ensures ends { let at = seat R.remaining W.contents in OnOk result (Ends (at client.old) question (at client.new)) }
+        ensures ends { let at = seen R.remaining W.contents in OnOk result (Ends O.kind (at client.old) question (at client.new)) }
         ensures left { OnOk result (self.new.under_way ≡ drop 1 self.old.under_way) }
-        ensures unended { let at = seat R.remaining W.contents in IfErr result (λ f. IsUnended self.old.under_way (at client.old) question f self.new.under_way (at client.new)) }
+        ensures unended { let at = seen R.remaining W.contents in IfErr result (λ f. IsUnended O.kind self.old.under_way (at client.old) question f self.new.under_way (at client.new)) }
         ensures same_window { self.new.window ≡ self.old.window }
     {
         let number = question;

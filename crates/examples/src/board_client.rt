@@ -4,7 +4,7 @@ use board::{
     BoardClient, BoardPostParamsDraft, BoardReadParamsDraft, ReaderClient, ReaderNoteParamsView,
     ReaderNoteResultsDraft, ReaderServant, ReaderServer,
 };
-use jamdrosek::client::{Client, ExportedObjects, Question};
+use jamdrosek::client::{Client, Question};
 use jamdrosek::interfaces::{Answer, MethodCall, MethodFault, ServerObject, Table, payload_of};
 use jamdrosek::{Limits, Mode};
 use std::alloc::Global;
@@ -14,7 +14,8 @@ use std::net::{Ipv4Addr, SocketAddr, TcpStream};
 pub fn run(rt: &HostRuntime) -> anyhow::Result<()> {
     let alloc = rt.alloc();
     let stream = TcpStream::connect(rt, SocketAddr::from((Ipv4Addr::LOCALHOST, 7000)))?;
-    let mut client = Client::new(alloc, &stream, &stream, Mode::Plain, Limits::standard());
+    let (mode, limits) = (Mode::Plain, Limits::standard());
+    let mut client = Client::with_objects(alloc, &stream, &stream, mode, limits, None);
     let said = read_and_post(alloc, &mut client);
     // This consumes the client, so that the prover needn't check its drop here.
     let _ = client.into_devices();
@@ -25,15 +26,14 @@ pub fn run(rt: &HostRuntime) -> anyhow::Result<()> {
 /// Makes all its calls before the server has answered the first. Returns the notes, and how many there are now.
 pub fn read_and_post<R: Read + Drop, W: Write + Drop>(
     alloc: Global,
-    client: &mut Client<R, W>,
+    client: &mut Client<R, W, ReaderServant<Lines>>,
 ) -> anyhow::Result<String> {
     let board = BoardClient::new(alloc, client.bootstrap()?.cap(alloc));
-    let mut readers = ExportedObjects::new(alloc);
     let object = Lines {
         alloc,
         text: String::new(alloc),
     };
-    let reader = readers.export(ReaderServant { alloc, object })?;
+    let reader = client.export(ReaderServant { alloc, object })?;
     let mut table = Table::new(alloc);
     let mut read = BoardReadParamsDraft::new(alloc)?;
     read.set_reader_client(&mut table, ReaderClient::new(alloc, reader))?;
@@ -42,10 +42,10 @@ pub fn read_and_post<R: Read + Drop, W: Write + Drop>(
     post.set_text(alloc, "hello")?;
     let posted = board.post(client, post)?;
     let number = posted.question();
-    let came = payload_of(readers.wait(client, Question { number })?)?;
+    let came = payload_of(client.wait(Question { number })?)?;
     let count = posted.results(&came)?.count();
     let mut said = format!(in alloc; "note {count} is posted")?;
-    for reader in readers.objects() {
+    for reader in client.objects() {
         said.push_str(reader.object.text.as_str())?;
     }
     Ok(said)
@@ -53,7 +53,7 @@ pub fn read_and_post<R: Read + Drop, W: Write + Drop>(
 
 /// The notes with which a reader was called, each on a line.
 #[derive(Drop)]
-struct Lines {
+pub struct Lines {
     alloc: Global,
     text: String,
 }

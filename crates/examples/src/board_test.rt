@@ -23,7 +23,8 @@ pub fn run(rt: &HostRuntime) -> anyhow::Result<()> {
 /// What a client says that receives these bytes, and what it sends.
 fn exchange(alloc: Global, from: &[u8]) -> anyhow::Result<(anyhow::Result<String>, Vec<u8>)> {
     let to = Vec::new(alloc);
-    let mut client = Client::new(alloc, from, to, Mode::Plain, Limits::standard());
+    let (mode, limits) = (Mode::Plain, Limits::standard());
+    let mut client = Client::with_objects(alloc, from, to, mode, limits, None);
     let said = read_and_post(alloc, &mut client);
     let (_, sent) = client.into_devices();
     Ok((said, sent))

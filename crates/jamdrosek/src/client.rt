@@ -1,31 +1,31 @@
-//! A client of one connection (cp_client): it asks, and waits for what that comes to.
+//! A client of one connection (cp_client): it makes calls, and waits for their outcomes.
 //!
-//! `bootstrap` asks for the peer's object, `call` calls a capability, and `wait` gives a question's outcome, once. What a
-//! question will give may be called before it came: `Question::cap` for a bootstrap, and `Question::at` a path of pointer
-//! fields for a call. Calls are sent when the client next waits, in one go. `ask` calls and waits.
+//! `bootstrap` asks for the peer's object, `call` calls a capability, and `wait` returns a question's outcome, once. Results can be called
+//! before they arrive (pipelining): `Question::cap` is a bootstrap's object, and `Question::at` the capability at a path of pointer fields.
+//! Calls are sent when the client next waits, all together. `ask` calls and waits.
 //!
-//! `finish` gives a question up, and `release` an import that an outcome named: till then the peer keeps them. `flush` writes
-//! what is still to be sent. `into_devices` ends the client, and gives the reader and the writer back.
+//! `finish` gives a question up, and `release` an import that an outcome named; until then the peer keeps them. `flush` writes what is still
+//! to be sent. `into_devices` ends the client, and returns the reader and the writer.
 //!
-//! A `ClientFault` says why a call gives nothing. `Device` has the error of the reader or of the writer. After it and after
-//! `Ended` the client goes on, as where a reader's timeout ended a read. After a fault of the connection outcomes that came
-//! before are still given out, and `closed` says why the vat closed.
+//! A `ClientFault` says why a call failed. `Device` has the error of the reader or of the writer; the client can go on after it, for example
+//! when a reader's timeout ended a read. After `Ended` nothing more is read. Outcomes that came before that, or before a fault of the
+//! connection, are still returned, and `closed` says why the vat closed.
 //!
-//! A `Content` makes the params of a call field by field, and `results_of`, `word_in`, `text_in` and `data_in` are what came.
-//! `request_of` is a call whose params are a struct of data words, and `word_at` a data word of results.
+//! A `Content` builds a call's params field by field. `results_of`, `word_in`, `text_in` and `data_in` read results. `request_of` is a call
+//! whose params are a struct of data words, and `word_at` a data word of results.
 //!
-//! A client answers a call that comes with `no such object`. To offer objects, `export` them from an `ExportedObjects`, name their
-//! capabilities in calls, and wait by `ExportedObjects::wait`: it hands the calls that come to them, and polls them, while it waits.
-//! They may call what they were given (`server::Servant::ask`). A client made by `with_bootstrap` gives the object
-//! of that number, 0 for the first one exported, to its peer's Bootstrap. `ExportedObjects::serve` answers until the peer ends.
+//! A client answers an incoming call with `no such object`. One made by `with_objects` can have objects: `export` adds one, whose capability
+//! a call's table may name. While the client waits they get the calls that come, and are polled. They may call what they were given
+//! (`server::Servant::ask`). `with_objects` also says which of them the peer's Bootstrap gets, by its number: the first one exported is 0.
+//! `serve` answers until the peer ends.
 //!
-//! A `Stream` sends calls of which several are under way, up to a window, as those of a method with `-> stream`.
+//! A `Stream` keeps several calls in flight, up to a window, for example those of a `-> stream` method.
 //!
 //! The reader and the writer may be the two ends of a `TcpStream`, `&stream` twice, or bytes in memory.
 
 pub use cp_builder::DraftFault;
 pub use cp_client::{
-    Client, ClientFault, ExportedObjects, Question, Stream, StreamingFault, request_of, word_at,
+    Client, ClientFault, Nobody, Question, Stream, StreamingFault, request_of, word_at,
 };
 pub use cp_connection::ConnectionFault;
 pub use cp_refs::{Cap, Caps, Outcome, Path, Request};

@@ -1,17 +1,16 @@
-//! Interfaces of a schema by name (cp_stubs): what the code stands on that `capnpc_rattle --interfaces` writes of them, and what
-//! their objects and their callers need beside it.
+//! Interfaces of a schema by name (cp_stubs): what generated code stands on, and what objects and callers need beside it.
 //!
-//! Of an interface `Store` the plugin writes `StoreServer`, a trait with a method for each of its methods. An object of yours
-//! implements it, and `ServerObject`, and is served as a `StoreServant`, wherever a `server::Servant` is. A method gets the `MethodCall`
-//! and its params as a view, and gives an `Answer`: `Answer::of` its results, a draft, or `Answer::naming` those that name
-//! the capabilities of a `Table`, or `Answer::Later`, which `ServerObject::poll` settles. By `?` a method fails with the exception that
-//! a `MethodFault` is, or with one of its own (`failed`). The capabilities that params name are given up with the answer, but for those that are kept
+//! For an interface `Store`, `capnpc_rattle --interfaces` generates the trait `StoreServer`, with a method for each of the schema's. Your
+//! object implements it and `ServerObject`. A `StoreServant` around it is served wherever a `server::Servant` is. A method gets the
+//! `MethodCall`, and its params as a view. It returns an `Answer`: `Answer::of` its results, `Answer::naming` results with the capabilities
+//! of a `Table`, or `Answer::Later`, which `ServerObject::poll` settles. An `Err` fails the call with an exception: `?` converts faults of
+//! fields and of memory, and `failed` makes one of your own. Capabilities of the params are released with the answer, unless it keeps them
 //! (`Answer::keeping`).
 //!
-//! A `StoreClient` calls: its method `get` takes a `Caller`, as a `Client` is one, and a draft of the params, and gives a
-//! promise, whose fields that are structs or capabilities are promises and clients too, to be called before anything came.
-//! `payload_of` the outcome that is waited for is what the promise's `results` reads. `get_request` is the call as a value, for
-//! a `Vat` or an object that asks (`CallTarget::ask`).
+//! A `StoreClient` calls. Its method `get` takes a `Caller`, for example a `Client`, and a builder of the params, and returns a promise.
+//! Fields of the promise that are structs or capabilities are promises and clients too: call them before anything has arrived (pipelining).
+//! `payload_of` turns the outcome into what the promise's `results` reads. `get_request` is the call as a value, for a `Vat` or for an
+//! object that calls (`CallTarget::ask`).
 
 pub use cp_builder::DraftFault;
 pub use cp_refs::failed;

@@ -208,17 +208,17 @@
 //!
 //! # Be called back
 //!
-//! To be called back, put your objects into an `ExportedObjects` (of one type, or `Box<dyn Servant>`), and wait with its `wait` instead of
-//! `Client::wait`:
+//! To be called back, make the client with `Client::with_objects` and `export` your objects (of one type, or `Box<dyn Servant>`). They answer
+//! while the client waits:
 //!
 //! ```rust crates/examples/src/board_client.rt
-//! let mut readers = ExportedObjects::new(alloc);
+//! let reader = client.export(ReaderServant { alloc, object })?;
 //! ..
 //! read.set_reader_client(&mut table, ReaderClient::new(alloc, reader))?;
 //! board.read(client, read, table)?;
 //! ```
 //!
-//! An object calls back by `ServerObject::ask`, at a `Host` or in an `ExportedObjects`.
+//! An object calls back by `ServerObject::ask`, at a `Host` or at a client.
 //!
 //! # Without a schema
 //!
@@ -247,8 +247,8 @@
 //!
 //! # Filter a connection
 //!
-//! A `Relay` filters one direction of a connection (use two). Feed it bytes as they arrive, by `feed`. It outputs each complete
-//! message that is valid, and a `Visitor` of yours may reject some.
+//! A `Relay` filters one direction of a connection (use two). `feed` it bytes as they arrive. It outputs each complete message that is
+//! valid, and your `Visitor` may reject some.
 //!
 //! # Your own event loop
 //!
@@ -305,8 +305,8 @@
 //!
 //! Each fault is an `Error`, whose text names it, and its place if it has one; `docs/PROFILE.md` lists them all, with the limits.
 //!
-//! A program lists no other of these crates in crates.txt. A contract that cites a definition of one, for example
-//! `Rattle.cp_stream.specs.Stream`, needs that crate listed as well.
+//! Your program need not list these crates in crates.txt. A contract that cites a definition of one, for example
+//! `Rattle.cp_stream.specs.Stream`, needs that crate listed too.
 #![tactic(auto)]
 
 pub mod client;

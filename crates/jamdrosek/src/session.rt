@@ -1,12 +1,11 @@
 //! One end of a connection with its objects, without a device and without a clock (cp_session).
 //!
-//! A `Session` is a `Connection` with the objects that answer its peer, its limits, and how far it is: bytes, time and calls of
-//! yours come in; bytes, events and the next deadline go out. So an event loop of yours over sockets, pipes or threads needs only
-//! to read, to write and to wait. `SessionLimits` say how long a message, a silent peer and a peer's close may take, how many bytes
-//! may wait before more is taken, and how many are kept.
+//! A `Session` is a `Connection` with its objects and limits. Bytes, times and your calls go in. Bytes, events and the next deadline come
+//! out. An event loop over sockets, pipes or threads only has to read, write and wait. `SessionLimits` say how long a message, a silent
+//! peer and a peer's close may take, how many bytes may wait before more is taken, and how many are kept.
 //!
-//! `receive` takes bytes up to the end of a message, hands the calls that come to their objects, and polls each of them. A `SessionEvent` is
-//! an outcome of a question of yours, or says why the session ended: that one comes once, and last.
+//! `receive` takes bytes up to the end of a message, hands calls to their objects, and polls each object. A `SessionEvent` is the outcome of
+//! a question of yours, or says why the session ended: that one comes once, and last.
 
 pub use cp_connection::{ConnectionFault, Tally};
 pub use cp_refs::{Cap, Caps, Outcome, Path, PromiseId, Request};

@@ -11,16 +11,15 @@
 //!   outcome named stay until you release them.
 //! - `Closed`: the connection is over. Every later call of the vat is refused (V9).
 //!
-//! `receive_lending` lends a call that goes to an object at once: it gives it as a `Lent`, with its content in place, in the stead
-//! of its `Deliver`. It comes before the other effects.
+//! `receive_lending` lends a call that goes to an object at once: it returns a `Lent`, with the content in place, instead of its
+//! `Deliver`. Handle it before the other effects.
 //!
 //! A call that is refused (`VatFault`) changes nothing, and has no effects. At V10 memory ran out: the vat is closed
 //! then, and sends no Abort.
 //!
-//! `bootstrap` and `call` give a question's number. `Cap::Pipelined` with it is what it will give at a path
-//! of pointer fields, and may be called, or sent in a table, before it came. `promise` makes a promise of
-//! yours, and `resolve` settles it. `release` gives an import back, and `forget` drops a settled promise;
-//! `idle` says which of these nothing uses any more.
+//! `bootstrap` and `call` return a question's number. `Cap::Pipelined` with it and a path of pointer fields is a capability of the
+//! results: call it, or send it in a table, before they arrive. `promise` makes a promise of yours, and `resolve` settles it.
+//! `release` gives an import back, and `forget` drops a settled promise; `idle` says which of these nothing uses any more.
 
 pub use cp_refs::{Cap, Caps, Origin, Outcome, Path, PromiseId, Request};
 pub use cp_vat::{Lent, Vat};

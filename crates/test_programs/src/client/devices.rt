@@ -7,7 +7,7 @@ use cp_client::{Client, ClientFault, Question, word_at};
 use cp_frame::Mode;
 use cp_words::Limits;
 use std::alloc::Global;
-use std::io::{Read, Write};
+use std::io::{self, Read, Write};
 use std::process::Abort;
 
 /// Waits until a question's outcome comes, whatever the devices do, and gives its word and how often one failed.
@@ -50,4 +50,34 @@ fn call_over(rt: &impl Abort, alloc: Global, fails: Fails) -> u64 {
 fn nothing_is_lost_where_devices_fail(rt: HostRuntime) {
     check!(&rt; call_over(&rt, rt.alloc(), Fails::ButEachThird) > 10);
     check!(&rt; call_over(&rt, rt.alloc(), Fails::InterruptedButEachThird) == 0);
+}
+
+/// A writer that notes whether all that was written was flushed.
+#[derive(Drop)]
+struct Flushed {
+    is_flushed: bool,
+}
+
+impl Write for Flushed {
+    fn write(&mut self, buf: &[u8]) -> io::Result<usize> {
+        self.is_flushed = false;
+        Ok(buf.len())
+    }
+
+    fn flush(&mut self) -> io::Result<()> {
+        self.is_flushed = true;
+        Ok(())
+    }
+}
+
+// No contract of a writer shows it.
+#[test]
+fn a_flush_reaches_the_writer(rt: HostRuntime) {
+    let from: &[u8] = &[];
+    let to = Flushed { is_flushed: false };
+    let mut client = Client::new(rt.alloc(), from, to, Mode::Plain, Limits::standard());
+    check!(&rt; client.bootstrap().is_ok());
+    check!(&rt; client.flush().is_ok());
+    let (_, to) = client.into_devices();
+    check!(&rt; to.is_flushed);
 }

@@ -1,8 +1,7 @@
 //! Objects that answer while a client waits.
 
-use crate::client::peer::client_of;
 use crate::frames::{DESK, NEXT_SUM, SUM, bytes_of};
-use cp_client::{Client, ClientFault, ExportedObjects, word_at};
+use cp_client::{Client, ClientFault, word_at};
 use cp_frame::Mode;
 use cp_refs::{Cap, Outcome, Request};
 use cp_servants::{Ask, Cell, Content, Reply, Servant, Settled};
@@ -70,15 +69,14 @@ impl Servant for Through {
 /// Calls the peer's object with an object of the client's, and waits for the outcome while that answers.
 fn call_with<O: Servant>(
     alloc: Global,
-    client: &mut Client<&[u8], Vec<u8>>,
-    exports: &mut ExportedObjects<O>,
+    client: &mut Client<&[u8], Vec<u8>, O>,
     object: O,
 ) -> Result<Option<u64>, ClientFault> {
     let desk = client.bootstrap()?;
-    let cap = exports.export(object)?;
+    let cap = client.export(object)?;
     let request = Content::new(alloc).cap(cap)?.request(1, 0);
     let question = client.call(desk.cap(alloc), request)?;
-    let outcome = exports.wait(client, question)?;
+    let outcome = client.wait(question)?;
     let word = word_at(&outcome, 0);
     drop(outcome);
     client.flush()?;
@@ -89,12 +87,10 @@ fn call_with<O: Servant>(
 fn objects_answer_while_a_client_waits(rt: HostRuntime) {
     let alloc = rt.alloc();
     let bytes = bytes_of(&rt, alloc, &[DESK, GET, SUM]);
-    let mut client = client_of(alloc, &bytes);
-    let mut exports = ExportedObjects::new(alloc);
-    let given = call_with(alloc, &mut client, &mut exports, Cell::new(alloc));
+    let mut client = exporting_client(alloc, &bytes, None);
+    let given = call_with(alloc, &mut client, Cell::new(alloc));
     check!(&rt; given == Ok(Some(41)));
-    check!(&rt; exports.objects().len() == 1);
-    drop(exports);
+    check!(&rt; client.objects().len() == 1);
     check!(&rt; client.tally().sent == 3);
     let (left, written) = client.into_devices();
     check!(&rt; left.is_empty());
@@ -106,15 +102,13 @@ fn objects_answer_while_a_client_waits(rt: HostRuntime) {
 fn objects_ask_what_they_were_given(rt: HostRuntime) {
     let alloc = rt.alloc();
     let bytes = bytes_of(&rt, alloc, &[DESK, GET, NEXT_SUM, SUM]);
-    let mut client = client_of(alloc, &bytes);
-    let mut exports = ExportedObjects::new(alloc);
+    let mut client = exporting_client(alloc, &bytes, None);
     let through = Through {
         alloc,
         ask: None,
         answer: None,
     };
-    let given = call_with(alloc, &mut client, &mut exports, through);
-    drop(exports);
+    let given = call_with(alloc, &mut client, through);
     check!(&rt; given == Ok(Some(41)));
     // A Bootstrap, the call, the object's own call and its Finish, and the Return.
     check!(&rt; client.tally().sent == 5);
@@ -122,27 +116,46 @@ fn objects_ask_what_they_were_given(rt: HostRuntime) {
     check!(&rt; left.is_empty());
 }
 
-/// A client that offers its first object to such a peer, which it serves until that ends.
-fn serve(
+/// A client of such a peer, which may have objects.
+fn exporting_client<'a, O: Servant>(
     alloc: Global,
-    bytes: &[u8],
-    exports: &mut ExportedObjects<Cell>,
-) -> (Option<ClientFault>, u64) {
+    bytes: &'a [u8],
+    bootstrap: Option<u32>,
+) -> Client<&'a [u8], Vec<u8>, O> {
     let (to, limits) = (Vec::new(alloc), Limits::standard());
-    let mut client = Client::with_bootstrap(alloc, bytes, to, Mode::Plain, limits, 0);
-    let ended = exports.serve(&mut client).err();
-    let sent = client.tally().sent;
-    let _ = client.into_devices();
-    (ended, sent)
+    Client::with_objects(alloc, bytes, to, Mode::Plain, limits, bootstrap)
 }
 
 #[test]
 fn a_client_has_a_bootstrap_object(rt: HostRuntime) {
     let alloc = rt.alloc();
     let bytes = bytes_of(&rt, alloc, &[BOOTSTRAP, GET_BEFORE]);
-    let mut exports = ExportedObjects::new(alloc);
-    let cap = exports.export(Cell::new(alloc)).expect(&rt, "memory");
+    let mut client = exporting_client(alloc, &bytes, Some(0));
+    let cap = client.export(Cell::new(alloc)).expect(&rt, "memory");
     check!(&rt; matches!(cap, Cap::Object(0)));
-    check!(&rt; serve(alloc, &bytes, &mut exports) == (None, 2));
-    drop(exports);
+    check!(&rt; client.serve().is_ok());
+    check!(&rt; client.tally().sent == 2);
+    drop(client);
+}
+
+/// Whether such bytes are among others.
+fn holds(bytes: &[u8], part: &[u8]) -> bool {
+    for start in 0..bytes.len() {
+        if bytes[start..].starts_with(part) {
+            return true;
+        }
+    }
+    false
+}
+
+// Each call is answered, also where there is no such object, and that is written before more is read.
+#[test]
+fn calls_of_nobody_fail(rt: HostRuntime) {
+    let alloc = rt.alloc();
+    let bytes = bytes_of(&rt, alloc, &[BOOTSTRAP, GET_BEFORE]);
+    let mut client = exporting_client::<Cell>(alloc, &bytes, Some(0));
+    check!(&rt; client.serve().is_ok());
+    check!(&rt; client.tally().sent == 2);
+    let (_, written) = client.into_devices();
+    check!(&rt; holds(&written, b"no such object"));
 }

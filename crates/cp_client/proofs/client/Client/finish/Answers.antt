@@ -1,14 +1,17 @@
-use Rattle.cp_client.specs.Seat.{device}
+use Rattle.std.proofs.Common.{refl, ap}
+use Rattle.std.proofs.lemmas.Result.{err_from_is_err_and}
+use Rattle.cp_session.specs.State.{state_of}
+use Rattle.cp_client.specs.Conversation.{Asked}
+use Rattle.cp_client.specs.ConversationOf.{seen}
 use Rattle.cp_client.proofs.client.Client.finish.Goals as goal
 
-pub returns-clause-finishes : goal.returns-clause-finishes
-returns-clause-finishes g c =
-    let from = device g.R.Read.remaining c.args.self.now.from in
-    let to = device g.W.Write.contents c.args.self.now.to in
-    c.finish.ensures.finishes from to
+pub returns-in_err-finish-clause-undone : goal.returns-in_err-finish-clause-undone
+returns-in_err-finish-clause-undone g c =
+    let p = err_from_is_err_and c.from_residual.result c.from_residual.ensures.1 in
+    rw (p.1, p.2) (_, refl, record { did = c.in_err-finish.ensures; same = refl })
 
-pub returns-clause-undone : goal.returns-clause-undone
-returns-clause-undone g c =
-    let from = device g.R.Read.remaining c.args.self.now.from in
-    let to = device g.W.Write.contents c.args.self.now.to in
-    c.finish.ensures.undone from to
+pub returns-clause-finishes : goal.returns-clause-finishes
+returns-clause-finishes g c = record {
+  did = c.in_ok-finish.ensures;
+  same = ap (λ (t : Asked). record (seen g.R.Read.remaining g.W.Write.contents c.args.self.now) { session = state_of c.finish.new.self; asked = t }) c.forget.ensures;
+}

@@ -1,33 +1,34 @@
-use Rattle.std.proofs.Common.{refl}
+use Rattle.std.proofs.Common.{◌∙◌, List, ℕ, refl, sym, ap, length}
+use Rattle.std.proofs.lemmas.Bool.{false≢true}
 use Rattle.std.proofs.lemmas.List.{nil_from_length}
-use Rattle.cp_connection.specs.Lives.{ends, ends_inside}
-use Rattle.cp_client.proofs.Living.{lives_one}
-use Rattle.cp_client.proofs.Going.{exchanges_none, exchanges_both, exchanges_read, exchanges_unread, exchanges_lived}
+use Rattle.cp_session.proofs.Deciding.{if_err}
+use Rattle.cp_client.specs.ConversationOf.{seen}
+use Rattle.cp_client.specs.Reading.{has_some}
+use Rattle.cp_client.proofs.Deciding.{all_ok}
+use Rattle.cp_client.proofs.Reading.{reads_by}
 use Rattle.cp_client.proofs.client.Client.read.Goals as goal
 
 pub fill-requires : goal.fill-requires
-fill-requires g c = nil_from_length c.args.self.now.session.piece (c.is_empty.ensures.0 c.if-not-is_empty.false)
+fill-requires g c = nil_from_length c.args.self.now.piece (c.is_empty.ensures.0 c.if-not-is_empty.false)
 
-pub returns-then-not-is_empty-clause-exchanges : goal.returns-then-not-is_empty-clause-exchanges
-returns-then-not-is_empty-clause-exchanges g c = exchanges_none _
+pub returns-then-not-is_empty-clause-reads : goal.returns-then-not-is_empty-clause-reads
+returns-then-not-is_empty-clause-reads g c = has_some (λ none. false≢true (c.if-not-is_empty.ensures.1 (ap (λ (l : List ℕ). length l) none))) refl refl
 
-pub returns-in_err-came-clause-exchanges : goal.returns-in_err-came-clause-exchanges
-returns-in_err-came-clause-exchanges g c =
-    let none = nil_from_length c.args.self.now.session.piece (c.is_empty.ensures.0 c.if-not-is_empty.false) in
-    let k = c.in_err-came.ensures.unread in
-    exchanges_unread _ _ _ none k.0 k.1 refl
+pub returns-clause-reads : goal.returns-clause-reads
+returns-clause-reads g c =
+    let none = nil_from_length c.args.self.now.piece (c.is_empty.ensures.0 c.if-not-is_empty.false) in
+    all_ok c.fill.result c.fill.ensures.read c.fill.ensures.none_failed c.fill.ensures.some c.fill.ensures.ended
+    (λ has consumed failed some ended.
+    reads_by (seen g.R.Read.remaining g.W.Write.contents c.args.self.now)
+    (seen g.R.Read.remaining g.W.Write.contents (record c.args.self.now { piece = c.fill.new.self; from = c.fill.new.from })) has
+    (record { none_left = none; consumed = consumed; none_failed = failed; same = refl }) some ended)
 
-pub returns-then-came-clause-exchanges : goal.returns-then-came-clause-exchanges
-returns-then-came-clause-exchanges g c =
-    let none = nil_from_length c.args.self.now.session.piece (c.is_empty.ensures.0 c.if-not-is_empty.false) in
-    exchanges_read _ _ none c.in_ok-came.ensures.read refl
-
-pub returns-in_err-end-clause-exchanges : goal.returns-in_err-end-clause-exchanges
-returns-in_err-end-clause-exchanges g c =
-    let none = nil_from_length c.args.self.now.session.piece (c.is_empty.ensures.0 c.if-not-is_empty.false) in
-    exchanges_both (exchanges_read _ _ none c.in_ok-came.ensures.read refl) (exchanges_lived _ _ (lives_one (ends_inside _ c.in_err-end.ensures.cut)) refl)
-
-pub returns-clause-exchanges : goal.returns-clause-exchanges
-returns-clause-exchanges g c =
-    let none = nil_from_length c.args.self.now.session.piece (c.is_empty.ensures.0 c.if-not-is_empty.false) in
-    exchanges_both (exchanges_read _ _ none c.in_ok-came.ensures.read refl) (exchanges_lived _ _ (lives_one (ends c.in_ok-end.ensures.ended)) refl)
+pub returns-clause-failed : goal.returns-clause-failed
+returns-clause-failed g c =
+    let none = nil_from_length c.args.self.now.piece (c.is_empty.ensures.0 c.if-not-is_empty.false) in
+    if_err c.fill.result c.fill.ensures.unread
+    (λ fault k. record {
+      none_left = none;
+      unread = k.1;
+      same = ap (λ (l : List ℕ). record (seen g.R.Read.remaining g.W.Write.contents (record c.args.self.now { from = c.fill.new.from })) { left = l }) (k.0 ∙ sym none);
+    })

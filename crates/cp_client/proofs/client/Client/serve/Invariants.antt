@@ -1,9 +1,7 @@
-use Rattle.cp_client.specs.Goes.{Goes, NoneFailed}
-use Rattle.cp_client.specs.SeatOf.{seat}
+use Rattle.cp_client.specs.ConversationOf.{seen}
+use Rattle.cp_client.specs.Waits.{Serves}
 use Rattle.cp_client.proofs.client.Client.serve.Given as goal
 
--- the client went on, and no call of a device failed
+-- the client went on
 abbrev pub invariant-loop : goal.invariant-loop
-invariant-loop g l =
-    Goes (seat g.R.Read.remaining g.W.Write.contents l.fn.self) (seat g.R.Read.remaining g.W.Write.contents l.self)
-    × NoneFailed (seat g.R.Read.remaining g.W.Write.contents l.fn.self) (seat g.R.Read.remaining g.W.Write.contents l.self)
+invariant-loop g l = Serves g.O.Servant.kind (seen g.R.Read.remaining g.W.Write.contents l.fn.self) (seen g.R.Read.remaining g.W.Write.contents l.self)

@@ -1,6 +1,6 @@
 use Rattle.std.proofs.Common.{[], ◌∷◌, ◌++◌, refl, sym, ap, ◌∙◌, subst, append-nil, drop}
 use Rattle.std.proofs.lemmas.Result.{err_from_is_err_and}
-use Rattle.cp_client.specs.SeatOf.{seat}
+use Rattle.cp_client.specs.ConversationOf.{seen}
 use Rattle.cp_client.specs.Streams.{EndsEach}
 use Rattle.cp_client.proofs.Streaming.{oldest_first, none_oldest, fewer, moved, ends_last}
 use Rattle.cp_client.proofs.stream.Stream.end.Goals as goal
@@ -31,7 +31,7 @@ returns-in_err-end_oldest-clause-breaks g c =
       q = c.in-Some.question;
       rest = drop 1 c.ending.self.under_way;
       in_order = h.1 ∙ ap (λ z. h.0 ++ z) first;
-      mid = seat g.R.Read.remaining g.W.Write.contents c.ending.client;
+      mid = seen g.R.Read.remaining g.W.Write.contents c.ending.client;
       ends = h.2;
       unended = rw first at c.in_err-end_oldest.ensures.unended;
     })
@@ -43,7 +43,7 @@ pub returns-clause-ends : goal.returns-clause-ends
 returns-clause-ends g c =
     let h = c.ending.invariant in
     let none = none_oldest c.ending.self.under_way (sym c.in_default.ensures) in
-    subst (λ qs. EndsEach (seat g.R.Read.remaining g.W.Write.contents c.args.client.now) qs (seat g.R.Read.remaining g.W.Write.contents c.ending.client))
+    subst (λ qs. EndsEach g.O.Servant.kind (seen g.R.Read.remaining g.W.Write.contents c.args.client.now) qs (seen g.R.Read.remaining g.W.Write.contents c.ending.client))
     (sym (h.1 ∙ ap (λ z. h.0 ++ z) none ∙ append-nil h.0)) h.2
 
 pub returns-clause-same_window : goal.returns-clause-same_window

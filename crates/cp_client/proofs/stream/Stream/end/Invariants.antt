@@ -1,5 +1,5 @@
 use Rattle.std.proofs.Common.{◌≡◌, ℕ, List, ◌++◌, length}
-use Rattle.cp_client.specs.SeatOf.{seat}
+use Rattle.cp_client.specs.ConversationOf.{seen}
 use Rattle.cp_client.specs.Streams.{EndsEach}
 use Rattle.cp_client.proofs.stream.Stream.end.Given as goal
 
@@ -8,7 +8,7 @@ abbrev pub invariant-ending : goal.invariant-ending
 invariant-ending g l =
     (ended : List ℕ)
     × (l.fn.self.under_way ≡ ended ++ l.self.under_way)
-    × EndsEach (seat g.R.Read.remaining g.W.Write.contents l.fn.client) ended (seat g.R.Read.remaining g.W.Write.contents l.client)
+    × EndsEach g.O.Servant.kind (seen g.R.Read.remaining g.W.Write.contents l.fn.client) ended (seen g.R.Read.remaining g.W.Write.contents l.client)
     × (l.self.window ≡ l.fn.self.window)
 
 abbrev pub decreases-ending : goal.decreases-ending

@@ -1,6 +1,6 @@
 use Rattle.std.proofs.Common.{refl}
 use Rattle.std.proofs.lemmas.Result.{err_from_is_err_and}
-use Rattle.cp_client.specs.SeatOf.{seat}
+use Rattle.cp_client.specs.ConversationOf.{seen}
 use Rattle.cp_client.specs.Streams.{failed, unfinished, untold}
 use Rattle.cp_client.proofs.Streaming.{popped}
 use Rattle.cp_client.proofs.stream.Stream.end_oldest.Goals as goal
@@ -24,7 +24,7 @@ pub returns-clause-ends : goal.returns-clause-ends
 returns-clause-ends g c = record {
   outcome = c.in_ok-wait.field-0;
   results = c.in_default.ensures;
-  told = seat g.R.Read.remaining g.W.Write.contents c.wait.new.self;
+  told = seen g.R.Read.remaining g.W.Write.contents c.wait.new.self;
   waits = c.in_ok-wait.ensures.waits;
   finishes = c.in_ok-finish.ensures.finishes;
 }

@@ -1,0 +1,14 @@
+-- How a client begins.
+use Rattle.std.proofs.Common.{◌≡◌, ℕ, List, [], None, refl}
+use Rattle.std.specs.FinMap.{empty}
+use Rattle.cp_session.specs.State.{State}
+use Rattle.cp_client.specs.Conversation.{Asked, Conversation}
+use Rattle.cp_client.specs.Devices.{Device}
+
+abbrev made : {A : Type 0} → State A → List ℕ → Asked → Device → Device → Conversation A
+made session left asked from to = record { session = session; left = left; asked = asked; closed = None; from = from; to = to }
+
+-- a client by its parts
+pub begun_by : {A : Type 0} (session first : State A) (left : List ℕ) (asked : Asked) (from reader to writer : Device) → session ≡ first → left ≡ [] → asked ≡ empty
+    → from ≡ reader → to ≡ writer → made session left asked from to ≡ made first [] empty reader writer
+begun_by session first left asked from reader to writer s l a f t = rw (s, l, a, f, t) refl

@@ -1,0 +1,57 @@
+-- What a client's program has it do.
+use Rattle.std.specs.Prelude.{◌≡◌, ◌⊎◌, ℕ, Some, None, Result, Ok, Err, length}
+use Rattle.std.specs.FinMap.{insert, remove}
+use Rattle.cp_refs.specs.declared.call.Request.{Request}
+use Rattle.cp_refs.specs.declared.cap.Cap.{Cap}
+use Rattle.cp_vat_machine.specs.declared.event.Event.{Event}
+use Rattle.cp_vat_machine.specs.declared.event.Event.TheVariants as events
+use Rattle.cp_vat_machine.specs.declared.event.Value.{Value}
+use Rattle.cp_vat_machine.specs.declared.event.Value.TheVariants as values
+use Rattle.cp_connection.specs.declared.fault.ConnectionFault.{ConnectionFault}
+use Rattle.cp_connection.specs.declared.fault.ConnectionFault.TheVariants as faults
+use Rattle.cp_session.specs.Doing as sessions
+use Rattle.cp_client.specs.declared.fault.ClientFault.{ClientFault}
+use Rattle.cp_client.specs.declared.fault.ClientFault.TheVariants as client_faults
+use Rattle.cp_client.specs.Conversation.{Asked, Conversation}
+
+module _ {A : Type 0} where
+  -- A call of the program's was made, and nothing else was done, but that these are the questions then.
+  pub record Did (old : Conversation A) (event : Event) (result : Result Value ConnectionFault) (asked : Asked) (new : Conversation A) : Type 0 where
+    pub did : sessions.Did old.session event result new.session
+    pub same : new ≡ record old { session = new.session; asked = asked }
+
+  -- a question was asked, and its outcome hasn't come
+  abbrev pub Asks : Conversation A → Event → ℕ → Conversation A → Type 0
+  Asks old event q new = Did old event (Ok (values.Question q)) (insert old.asked q None) new
+
+  -- Why no question is asked: the connection refuses it; or memory ran out, and it may have been asked, but its outcome isn't waited for.
+  pub data IsUnasked (old : Conversation A) (event : Event) (fault : ClientFault) (new : Conversation A) : Type 0 where
+    refuses : (f : ConnectionFault) → fault ≡ client_faults.Connection f → Did old event (Err f) old.asked new → IsUnasked old event fault new
+    forgets : (q : ℕ) → fault ≡ client_faults.Connection faults.OutOfMemory → Did old event (Ok (values.Question q)) old.asked new → IsUnasked old event fault new
+
+  -- why a call of the program's isn't made: the connection refuses it
+  abbrev pub IsUndone : Conversation A → Event → ClientFault → Conversation A → Type 0
+  IsUndone old event fault new = (f : ConnectionFault) × (fault ≡ client_faults.Connection f) × Did old event (Err f) old.asked new
+
+  -- a question was given up, and its outcome isn't waited for
+  abbrev pub Finishes : Conversation A → ℕ → Conversation A → Type 0
+  Finishes old q new = Did old (events.Finish q) (Ok values.Nothing) (remove old.asked q) new
+
+  -- an import was given back
+  abbrev pub Releases : Conversation A → ℕ → Conversation A → Type 0
+  Releases old import new = Did old (events.Release import) (Ok values.Nothing) old.asked new
+
+  -- A capability was called, and a question was asked by it; or none was: the client refuses it, or memory ran out before.
+  abbrev pub AsksOrNot : Conversation A → Cap → Request → Result ℕ ClientFault → Conversation A → Type 0
+  AsksOrNot old cap request (Ok q) new = Asks old (events.Call cap request) q new
+  AsksOrNot old cap request (Err fault) new = IsUnasked old (events.Call cap request) fault new ⊎ ((fault ≡ client_faults.Connection faults.OutOfMemory) × (new ≡ old))
+
+  -- an object more is there, which this capability names
+  pub record Exports (old : Conversation A) (object : A) (cap : Cap) (new : Conversation A) : Type 0 where
+    pub named : sessions.next_cap (length old.session.objects) ≡ Some cap
+    pub same : new ≡ record old { session = sessions.exporting (Some cap) object old.session }
+
+  -- why no object more is there: no number is left for one, or memory ran out
+  abbrev pub IsUnexported : Conversation A → ClientFault → Type 0
+  IsUnexported old fault =
+      ((fault ≡ client_faults.TooManyObjects) × (sessions.next_cap (length old.session.objects) ≡ None)) ⊎ (fault ≡ client_faults.Connection faults.OutOfMemory)
