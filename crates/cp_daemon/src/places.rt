@@ -3,9 +3,10 @@
 use cp_commands::{ACCEPTED, BROKEN, REFUSED};
 use cp_frame::Mode;
 use cp_servants::{Cell, Desk, Sample};
+use cp_session::SessionLimits;
 use cp_words::Limits;
-use net_host::{End, Host, HostPlan, News};
-use net_sockets::{Crowd, HostLimits, Listener, Peer};
+use net_host::{Crowd, End, Host, HostLimits, HostPlan, News};
+use net_sockets::{Listener, Peer};
 use std::alloc::{AllocGlobal, Global};
 use std::fmt;
 use std::fs::Files;
@@ -65,7 +66,7 @@ impl fmt::Display for ListenAddress<'_> {
 impl Service {
     /// The plan of its host.
     fn plan(&self) -> HostPlan {
-        let standard = HostLimits::standard();
+        let standard = SessionLimits::standard();
         let idle = match self.idle {
             Some(seconds) => seconds as u64 * 1_000,
             None => standard.idle,
@@ -77,8 +78,8 @@ impl Service {
                 connections: self.at_once as usize,
                 // Further connections wait, as they do at `serve`.
                 crowd: Crowd::Wait,
-                idle,
-                ..standard
+                session: SessionLimits { idle, ..standard },
+                ..HostLimits::standard()
             },
             count: self.count.map(|count| count as u64),
         }

@@ -7,8 +7,8 @@ use board::{
 use jamdrosek::interfaces::{Answer, MethodCall, MethodFault, ServerObject, failed};
 use jamdrosek::server::Ask;
 use jamdrosek::{Limits, Mode};
-use net_host::{Host, HostPlan, News};
-use net_sockets::{HostLimits, Listener};
+use net_host::{Host, HostLimits, HostPlan, News};
+use net_sockets::Listener;
 use std::alloc::{AllocError, Global};
 use std::cell::RefCell;
 use std::collections::VecDeque;

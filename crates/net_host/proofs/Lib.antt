@@ -1,1 +1,6 @@
+pub mod Deciding
 pub mod Fed
+pub mod Floors
+pub mod Once
+pub mod Rosters
+pub mod Serving

@@ -1,4 +1,7 @@
-pub mod Feeding
+pub mod Limits
 pub mod Roster
 pub mod RosterOf
-pub mod Search
+pub mod Feeding
+pub mod Guests
+pub mod Floor
+pub mod Once

@@ -1,9 +1,11 @@
 -- What a host knows of the number of its connections.
 use Rattle.std.specs.Prelude.{◌≡◌, ℕ, ◌+◌, ◌≤◌, Option, Some, None}
-use Rattle.net_sockets.specs.Limits.{HasRoom}
+use Rattle.net_host.specs.Limits.{HasRoom}
 use Rattle.net_sockets.specs.Incoming.{most}
 use Rattle.net_host.specs.declared.host.News.{News}
 use Rattle.net_host.specs.declared.host.News.TheVariants as all_news
+use Rattle.net_host.specs.declared.host.Look.{Look}
+use Rattle.net_host.specs.declared.host.Look.TheVariants as looks
 use Rattle.net_host.specs.declared.plan.HostPlan.{HostPlan}
 
 -- The plan, how many are to come, how many came, how many are served, and the number of the one that waits for its objects.
@@ -66,3 +68,9 @@ Accepts old (Some (all_news.Ended number peer end)) new = ⊥
 -- a round of turns, by which some may have ended
 abbrev pub Rounds : Roster → Roster → Type 0
 Rounds old new = (new ≡ record old { served = new.served }) × (new.served ≤ old.served)
+
+-- what is so once a host looked for news
+abbrev pub Looks : Roster → Look → Roster → Type 0
+Looks old looks.Nothing new = GoesOn old new
+Looks old (looks.News news) new = Hears old (Some news) new
+Looks old looks.Over new = Hears old None new

@@ -1,8 +1,12 @@
 //! How a connection ended.
 
+ghost use Rattle.std.specs.Prelude.{◌≡◌};
+ghost use Rattle.net_host.specs.Guests.{end_of};
+
 use cp_connection::ConnectionFault;
+use cp_session::{Limit, SessionEvent};
 use cp_vat_machine::Reason;
-use net_sockets::{Limit, Peer};
+use net_sockets::Peer;
 use std::{fmt, io};
 
 /// How a connection ended.
@@ -29,6 +33,22 @@ pub(crate) struct Ended {
 }
 
 impl End {
+    /// How the connection ended, if an event says so. A host asks its peers nothing.
+    pub(crate) fn of_event(event: SessionEvent) -> Option<End>
+        ensures { result ≡ end_of event }
+    {
+        match event {
+            SessionEvent::Outcome { outcome, .. } => {
+                drop(outcome);
+                None
+            }
+            SessionEvent::Closed(reason) => Some(End::Closed(reason)),
+            SessionEvent::Fault(fault) => Some(End::Fault(fault)),
+            SessionEvent::Limit(limit) => Some(End::Limit(limit)),
+            SessionEvent::Ended => Some(End::Ended),
+        }
+    }
+
     /// Whether the peer closed the connection, or is about to: nothing is to be told to it.
     pub(crate) fn is_peers(&self) -> bool {
         matches!(self, End::Ended | End::Closed(Reason::Peer(_)))

@@ -1,18 +1,21 @@
 //! The connections that a host serves, and their turns.
 
-ghost use Rattle.std.specs.Prelude.{◌≡◌, ◌≤◌, ◌+◌, IfOk, OnOk, OnErr};
-ghost use Rattle.slab.specs.Slab.{slab_len};
+ghost use Rattle.std.specs.Prelude.{◌≡◌, ◌≤◌, ◌+◌, ℕ, [], ◌++◌, Some, IfOk, OnOk, OnErr, option_to_list};
+ghost use Rattle.slab.specs.Slab.{HasRoomFor, slab_len};
 ghost use Rattle.net_sockets.specs.Incoming.{Keeps};
+ghost use Rattle.net_host.specs.Floor.{Rests, Rounds, Seats, Turns, floor_of, nobody, seen};
 
-use crate::crew::Crew;
 use crate::end::Ended;
 use crate::guest::{Guest, Turn};
+use crate::limits::HostLimits;
 use crate::pending::PendingConnection;
 use crate::plan::HostPlan;
 use crate::time::Time;
 use cp_servants::Servant;
+use cp_session::Session;
+use mio::event::Event;
 use mio::{Events, Poll, Token};
-use net_sockets::{HostLimits, Incoming};
+use net_sockets::{Incoming, NonblockingStream};
 use slab::Slab;
 use std::alloc::{AllocGlobal, Global};
 use std::collections::VecDeque;
@@ -51,6 +54,7 @@ impl<O: Servant> EventLoop<O> {
         incoming: &mut Incoming,
     ) -> io::Result<EventLoop<O>>
         ensures nobody { IfOk result (λ it. slab_len it.guests ≡ 0) }
+        ensures empty { IfOk result (λ it. Rests nobody (floor_of it)) }
         ensures same { Keeps incoming.old incoming.new }
     {
         let poll = Poll::new(rt)?;
@@ -85,7 +89,8 @@ impl<O: Servant> EventLoop<O> {
 
     /// The first of those that ended of which there was no news.
     pub(crate) fn next_end(&mut self) -> Option<Ended>
-        ensures { self.new.guests ≡ self.old.guests }
+        ensures same { self.new.guests ≡ self.old.guests }
+        ensures first { self.old.ended.items ≡ option_to_list result ++ self.new.ended.items }
     {
         self.ended.pop_front()
     }
@@ -99,16 +104,35 @@ impl<O: Servant> EventLoop<O> {
     ) -> io::Result<()>
         ensures served { OnOk result (slab_len self.new.guests ≡ slab_len self.old.guests + 1) }
         ensures lost { OnErr result (slab_len self.new.guests ≡ slab_len self.old.guests) }
+        ensures seats { OnOk result (Seats plan.now (Some pending) objects.items (floor_of self.old) (floor_of self.new)) }
+        ensures unseated { OnErr result (Rests (floor_of self.old) (floor_of self.new)) }
+    {
+        match self.make_room(&mut pending.stream) {
+            Ok(()) => {
+                let session = Session::new(self.alloc, &plan.session(), objects, self.time.now());
+                let guest = Guest::new(self.alloc, pending, session);
+                let _ = self.guests.insert_reserved(guest);
+                Ok(())
+            }
+            Err(error) => {
+                drop(pending);
+                drop(objects);
+                Err(error)
+            }
+        }
+    }
+
+    /// Has a stream reported, and makes room for its connection. After this nothing fails, so a guest that is made is served.
+    fn make_room(&mut self, stream: &mut NonblockingStream) -> io::Result<()>
+        ensures room { OnOk result (HasRoomFor self.new.guests 1) }
+        ensures same { self.new.guests ≡ record self.old.guests { capacity = self.new.guests.capacity } }
+        ensures ended { self.new.ended ≡ self.old.ended }
     {
         let key = self.guests.vacant_key();
         // A key in the queue that names no connection is passed over.
         self.queue.push_back(key)?;
-        pending.stream.register(self.poll.registry(), Token(key))?;
-        // After this nothing fails, so a guest that is made is served.
+        stream.register(self.poll.registry(), Token(key))?;
         self.guests.reserve(1)?;
-        let crew = Crew::new(self.alloc, plan, objects);
-        let guest = Guest::new(pending, crew, self.time.now());
-        let _ = self.guests.insert_reserved(guest);
         Ok(())
     }
 
@@ -119,7 +143,8 @@ impl<O: Servant> EventLoop<O> {
         rt: &N,
         wait: Option<Duration>,
     ) -> io::Result<bool>
-        ensures { slab_len self.new.guests ≡ slab_len self.old.guests }
+        ensures len { slab_len self.new.guests ≡ slab_len self.old.guests }
+        ensures rests { Rests (floor_of self.old) (floor_of self.new) }
     {
         self.poll.poll(&mut self.events, wait)?;
         self.time.look(rt)?;
@@ -128,46 +153,53 @@ impl<O: Servant> EventLoop<O> {
 
     /// Gives each connection that can go on a turn.
     pub(crate) fn round(&mut self, limits: &HostLimits) -> io::Result<()>
-        ensures { slab_len self.new.guests ≤ slab_len self.old.guests }
+        ensures len { slab_len self.new.guests ≤ slab_len self.old.guests }
+        ensures turns { OnOk result (Rounds O.kind (floor_of self.old) (floor_of self.new)) }
     {
         // One piece or one round of polls each, so that a fast peer delays the others by a piece.
         for _ in 0..self.queue.len() {
-            if let Some(key) = self.queue.pop_front() {
-                self.turn(key, limits)?;
-            }
+            self.turn(limits)?;
         }
         self.sweep(limits)
     }
 
-    /// Gives a connection a turn.
-    fn turn(&mut self, key: usize, limits: &HostLimits) -> io::Result<()>
-        ensures { slab_len self.new.guests ≤ slab_len self.old.guests }
+    /// Gives the first connection in the queue a turn.
+    fn turn(&mut self, limits: &HostLimits) -> io::Result<()>
+        ensures len { slab_len self.new.guests ≤ slab_len self.old.guests }
+        ensures turns { OnOk result (Turns O.kind (floor_of self.old) (floor_of self.new)) }
     {
+        let Some(key) = self.queue.pop_front() else {
+            return Ok(());
+        };
         let Some(guest) = self.guests.get_mut(key) else {
             return Ok(());
         };
         match guest.turn(&mut self.piece, limits, self.time.now()) {
-            Turn::More => self.queue.push_back(key)?,
-            Turn::Waits => (),
+            Turn::More => {
+                self.queue.push_back(key)?;
+                Ok(())
+            }
+            Turn::Waits => Ok(()),
             Turn::Over(end) => {
                 self.ended.push_back(guest.ended(end))?;
                 // This closes its stream.
                 drop(self.guests.try_remove(key));
+                Ok(())
             }
         }
-        Ok(())
     }
 
     /// Gives those that meet a limit a turn, which closes them.
     fn sweep(&mut self, limits: &HostLimits) -> io::Result<()>
-        ensures { self.new.guests ≡ self.old.guests }
+        ensures guests { self.new.guests ≡ self.old.guests }
+        ensures ended { self.new.ended ≡ self.old.ended }
     {
-        if !self.time.is_due(limits.tick()) {
+        if !self.time.is_due(limits.session.tick()) {
             return Ok(());
         }
         let now = self.time.now();
         for (key, guest) in &self.guests {
-            if guest.is_overdue(limits, now) {
+            if guest.is_overdue(now) {
                 self.queue.push_back(key)?;
             }
         }
@@ -181,19 +213,36 @@ fn note_events<O: Servant>(
     guests: &mut Slab<Guest<O>>,
     queue: &mut VecDeque<usize>,
 ) -> io::Result<bool>
-    ensures { slab_len guests.new ≡ slab_len guests.old }
+    ensures len { slab_len guests.new ≡ slab_len guests.old }
+    ensures same { (key : ℕ) → seen guests.new key ≡ seen guests.old key }
 {
     let mut has_event = false;
     for event in events {
-        let token = event.token();
-        if token == LISTENER {
-            has_event = true;
-        } else if let Some(guest) = guests.get_mut(token.0) {
-            let enters = guest.mark(event);
-            if enters {
-                queue.push_back(token.0)?;
-            }
-        }
+        let is_listener = note_event(event, guests, queue)?;
+        has_event = has_event || is_listener;
     }
     Ok(has_event)
+}
+
+/// Notes what an event says. Says whether it is one of the listener.
+fn note_event<O: Servant>(
+    event: &Event,
+    guests: &mut Slab<Guest<O>>,
+    queue: &mut VecDeque<usize>,
+) -> io::Result<bool>
+    ensures len { slab_len guests.new ≡ slab_len guests.old }
+    ensures same { (key : ℕ) → seen guests.new key ≡ seen guests.old key }
+{
+    let token = event.token();
+    if token == LISTENER {
+        return Ok(true);
+    }
+    let Some(guest) = guests.get_mut(token.0) else {
+        return Ok(false);
+    };
+    let enters = guest.mark(event);
+    if enters {
+        queue.push_back(token.0)?;
+    }
+    Ok(false)
 }

@@ -2,17 +2,20 @@
 
 ghost use Rattle.std.specs.Prelude.{◌≡◌, ◌<◌, ◌↔◌, None, IsTrue, IfOk, OnOk, OnErr};
 ghost use Rattle.net_sockets.specs.Incoming.{came_of, count_of};
-ghost use Rattle.net_sockets.specs.Limits.{HasRoom};
-ghost use Rattle.net_host.specs.Roster.{begun, Accepts, Admits, GoesOn, Hears, IsOver, Rounds};
+ghost use Rattle.net_host.specs.Floor as floor;
+ghost use Rattle.net_host.specs.Floor.{LooksOn, Reports, Rests, Seats, connections_of, nobody};
+ghost use Rattle.net_host.specs.Limits.{HasRoom};
+ghost use Rattle.net_host.specs.Roster.{begun, Accepts, Admits, GoesOn, Hears, IsOver, Looks, Rounds};
 ghost use Rattle.net_host.specs.RosterOf.{roster};
 ghost use Rattle.net_host.specs.declared.host.News.TheVariants as all_news;
 
 use crate::end::{End, Ended};
 use crate::event_loop::EventLoop;
+use crate::limits::Crowd;
 use crate::pending::PendingConnection;
 use crate::plan::HostPlan;
 use cp_servants::Servant;
-use net_sockets::{Crowd, Incoming, Listener, Peer};
+use net_sockets::{Incoming, Listener, Peer};
 use std::alloc::AllocGlobal;
 use std::io::{self, ErrorKind};
 use std::net::Net;
@@ -31,6 +34,16 @@ pub enum News {
     Refused { peer: Peer },
     /// One ended, and its objects were dropped.
     Ended { number: u64, peer: Peer, end: End },
+}
+
+/// What came of a look for news.
+#[derive(Drop)]
+enum Look {
+    /// There is none yet.
+    Nothing,
+    News(News),
+    /// All that were to come have come and ended.
+    Over,
 }
 
 /// Serves many connections in one process, each with objects of its own, all in one thread: it waits for none of them.
@@ -92,7 +105,8 @@ impl<O: Servant> Host<O> {
         plan: HostPlan,
         listener: Listener,
     ) -> io::Result<Host<O>>
-        ensures { IfOk result (λ host. roster host ≡ begun plan) }
+        ensures begun { IfOk result (λ host. roster host ≡ begun plan) }
+        ensures empty { IfOk result (λ host. Rests nobody (connections_of host)) }
     {
         let mut incoming = Incoming::new(listener, plan.count);
         let event_loop = EventLoop::new(rt, &mut incoming)?;
@@ -110,22 +124,15 @@ impl<O: Servant> Host<O> {
     pub fn next<N: Net + Clock>(&mut self, rt: &N) -> io::Result<Option<News>>
         ensures hears { IfOk result (λ news. Hears (roster self.old) news (roster self.new)) }
         ensures unheard { OnErr result (GoesOn (roster self.old) (roster self.new)) }
+        ensures reports { IfOk result (λ news. Reports O.kind (connections_of self.old) news (connections_of self.new)) }
     {
         // A connection that got no objects is closed by this.
         self.pending = None;
         for _ in 0..u64::MAX {
-            if let Some(ended) = self.event_loop.next_end() {
-                return Ok(Some(News::ended(ended)));
-            }
-            if self.can_accept() {
-                let news = self.accept();
-                if news.is_some() {
-                    return Ok(news);
-                }
-            } else if self.is_over() {
-                return Ok(None);
-            } else {
-                self.round(rt)?;
+            match self.look(rt)? {
+                Look::Nothing => (),
+                Look::News(news) => return Ok(Some(news)),
+                Look::Over => return Ok(None),
             }
         }
         Err(io::Error::from(ErrorKind::TimedOut))
@@ -135,11 +142,37 @@ impl<O: Servant> Host<O> {
     pub fn admit(&mut self, objects: Vec<O>) -> io::Result<()>
         ensures admits { OnOk result (Admits (roster self.old) (roster self.new)) }
         ensures lost { OnErr result (roster self.new ≡ record (roster self.old) { awaits = None }) }
+        ensures seats { OnOk result (Seats self.old.plan self.old.pending objects.items (connections_of self.old) (connections_of self.new)) }
+        ensures unseated { OnErr result (Rests (connections_of self.old) (connections_of self.new)) }
     {
         match self.pending.take() {
             Some(pending) => self.event_loop.admit(&self.plan, pending, objects),
             None => Ok(()),
         }
+    }
+
+    /// Looks for news: an end of which there was none, or a connection that waits. Where there is neither, each connection that can go
+    /// on has a turn.
+    fn look<N: Net + Clock>(&mut self, rt: &N) -> io::Result<Look>
+        requires { self.old.pending ≡ None }
+        ensures looks { IfOk result (λ it. Looks (roster self.old) it (roster self.new)) }
+        ensures unheard { OnErr result (GoesOn (roster self.old) (roster self.new)) }
+        ensures reports { IfOk result (λ it. LooksOn O.kind (connections_of self.old) it (connections_of self.new)) }
+    {
+        if let Some(ended) = self.event_loop.next_end() {
+            return Ok(Look::News(News::ended(ended)));
+        }
+        if self.can_accept() {
+            return match self.accept() {
+                Some(news) => Ok(Look::News(news)),
+                None => Ok(Look::Nothing),
+            };
+        }
+        if self.is_over() {
+            return Ok(Look::Over);
+        }
+        self.round(rt)?;
+        Ok(Look::Nothing)
     }
 
     /// Whether a connection may be waiting, and is wanted.
@@ -166,11 +199,13 @@ impl<O: Servant> Host<O> {
     /// Takes the next connection that waits, if one does, or closes it where there are as many as are allowed.
     fn accept(&mut self) -> Option<News>
         requires { came_of self.old.incoming < count_of self.old.incoming }
-        ensures { Accepts (roster self.old) result (roster self.new) }
+        ensures accepts { Accepts (roster self.old) result (roster self.new) }
+        ensures same { self.new.event_loop ≡ self.old.event_loop }
     {
         let (stream, peer) = self.incoming.accept()?;
-        // It is closed by its drop.
         if !self.has_room() {
+            // This closes it.
+            drop(stream);
             return Some(News::Refused { peer });
         }
         let number = self.incoming.admit();
@@ -184,7 +219,8 @@ impl<O: Servant> Host<O> {
 
     /// Waits for events, and gives each connection that can go on a turn.
     fn round<N: Net + Clock>(&mut self, rt: &N) -> io::Result<()>
-        ensures { Rounds (roster self.old) (roster self.new) }
+        ensures rounds { Rounds (roster self.old) (roster self.new) }
+        ensures turns { OnOk result (floor.Rounds O.kind (connections_of self.old) (connections_of self.new)) }
     {
         let wait = self.wait();
         let has_event = self.event_loop.wait(rt, wait)?;
@@ -197,7 +233,7 @@ impl<O: Servant> Host<O> {
         if self.event_loop.has_turns() || self.incoming.has_burst() {
             return Some(Duration::from_millis(0));
         }
-        let tick = self.plan.limits.tick();
+        let tick = self.plan.limits.session.tick();
         if self.incoming.has_failed() {
             return Some(Duration::from_millis(tick.min(AGAIN)));
         }

@@ -1,17 +1,18 @@
 //! Many connections in one process, each with objects of its own.
 #![tactic(auto)]
 
-mod crew;
 mod end;
 mod event_loop;
-mod feeding;
 mod guest;
 mod host;
+mod laws;
+mod limits;
 mod pending;
 mod plan;
-mod search;
 mod time;
 
 pub use end::End;
 pub use host::{Host, News};
+pub use laws::reported_once;
+pub use limits::{Crowd, HostLimits};
 pub use plan::HostPlan;

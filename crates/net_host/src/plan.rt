@@ -1,8 +1,12 @@
 //! How connections are served.
 
+ghost use Rattle.std.specs.Prelude.{◌≡◌};
+ghost use Rattle.net_host.specs.Floor.{options_of};
+
+use crate::limits::HostLimits;
 use cp_frame::Mode;
+use cp_session::SessionOptions;
 use cp_words::Limits;
-use net_sockets::HostLimits;
 
 /// How a host serves its connections.
 #[derive(Clone, Copy)]
@@ -14,4 +18,20 @@ pub struct HostPlan {
     pub limits: HostLimits,
     /// How many connections come, in all. `None`: no end.
     pub count: Option<u64>,
+}
+
+impl HostPlan {
+    /// How the session of a connection goes. Nobody but its objects holds its imports.
+    pub(crate) fn session(&self) -> SessionOptions
+        ensures { result ≡ options_of self.now }
+    {
+        SessionOptions {
+            mode: self.mode,
+            messages: self.messages,
+            bootstrap: Some(0),
+            may_call: true,
+            releases_idle: true,
+            limits: self.limits.session,
+        }
+    }
 }

@@ -1,4 +1,2 @@
 pub mod Incoming
 pub mod Reading
-pub mod Limits
-pub mod Seats

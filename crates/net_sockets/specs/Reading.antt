@@ -1,5 +1,6 @@
--- What is read of a stream.
-use Rattle.std.specs.Prelude.{ℕ, ◌≤◌}
+-- What is read of a stream, and what is known of it.
+use Rattle.std.specs.Prelude.{ℕ, ◌≤◌, Bool}
+use Rattle.net_sockets.specs.declared.nonblocking_stream.NonblockingStream.{NonblockingStream}
 use Rattle.net_sockets.specs.declared.nonblocking_stream.Got.{Got}
 use Rattle.net_sockets.specs.declared.nonblocking_stream.Got.TheVariants as gots
 
@@ -8,3 +9,11 @@ abbrev pub Fits : Got → ℕ → Type 0
 Fits (gots.Bytes count) length = count ≤ length
 Fits gots.Nothing length = Unit {0}
 Fits gots.End length = Unit {0}
+
+-- it may have bytes, or its end
+abbrev pub may_read : NonblockingStream → Bool
+may_read stream = stream.readable
+
+-- it may take bytes
+abbrev pub may_write : NonblockingStream → Bool
+may_write stream = stream.writable

@@ -1,7 +1,7 @@
 //! A stream, and what is known of it.
 
-ghost use Rattle.std.specs.Prelude.{◌≤◌, IfOk, length};
-ghost use Rattle.net_sockets.specs.Reading.{Fits};
+ghost use Rattle.std.specs.Prelude.{◌≡◌, ◌≤◌, IfOk, length};
+ghost use Rattle.net_sockets.specs.Reading.{Fits, may_read, may_write};
 
 use crate::stream::StreamSocket;
 use mio::event::Event;
@@ -84,12 +84,16 @@ impl NonblockingStream {
     }
 
     /// Whether it may have bytes, or its end.
-    pub fn is_readable(&self) -> bool {
+    pub fn is_readable(&self) -> bool
+        ensures { result ≡ may_read self.now }
+    {
         self.readable
     }
 
     /// Whether it may take bytes.
-    pub fn is_writable(&self) -> bool {
+    pub fn is_writable(&self) -> bool
+        ensures { result ≡ may_write self.now }
+    {
         self.writable
     }
 

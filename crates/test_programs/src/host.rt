@@ -1,5 +1,3 @@
-//! A host: what it decides of its connections, and one that is served.
+//! A host: how many it serves, and one connection that is served.
 
 mod hosts;
-mod limits;
-mod turns;

@@ -3,8 +3,8 @@
 use cp_frame::Mode;
 use cp_servants::Desk;
 use cp_words::Limits;
-use net_host::{End, Host, HostPlan, News};
-use net_sockets::{HostLimits, Listener};
+use net_host::{End, Host, HostLimits, HostPlan, News};
+use net_sockets::Listener;
 use std::alloc::Global;
 use std::io::{Read, Write};
 use std::net::{Ipv4Addr, Net, Shutdown, SocketAddr, TcpListener, TcpStream};
@@ -90,4 +90,15 @@ fn two_turns_of_one_connection(rt: HostRuntime) {
     expect_ended(&rt, &mut host);
     drop(host);
     expect_returns(&rt, rt.alloc(), client);
+}
+
+#[test]
+fn connections_at_once(rt: HostRuntime) {
+    let limits = HostLimits {
+        connections: 2,
+        ..HostLimits::standard()
+    };
+    check!(&rt; limits.has_room(1) && !limits.has_room(2));
+    let standard = HostLimits::standard();
+    check!(&rt; standard.has_room(999) && !standard.has_room(1_000));
 }

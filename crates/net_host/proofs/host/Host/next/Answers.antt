@@ -1,0 +1,35 @@
+use Rattle.std.proofs.Common.{Some, None, refl, arith}
+use Rattle.net_host.proofs.Deciding.{err_so}
+use Rattle.net_host.proofs.Floors.{reports_after, rounds_both}
+use Rattle.net_host.proofs.Rosters.{goes_both, hears_after}
+use Rattle.net_host.specs.Floor.{begins, connections_of}
+use Rattle.net_host.specs.RosterOf.{roster}
+use Rattle.net_host.proofs.host.Host.next.Goals as goal
+
+pub loop-init : goal.loop-init
+loop-init g c = record { goes_on = record { rest = refl; no_more = omega arith }; turns = begins }
+
+pub loop-preserved : goal.loop-preserved
+loop-preserved g c = record {
+  goes_on = goes_both c.loop.invariant.goes_on (rw c.in-Nothing.is at c.in_ok-look.ensures.looks);
+  turns = rounds_both c.loop.invariant.turns (rw c.in-Nothing.is at c.in_ok-look.ensures.reports);
+}
+
+pub returns-in_err-look-clause-unheard : goal.returns-in_err-look-clause-unheard
+returns-in_err-look-clause-unheard g c = err_so _ (goes_both c.loop.invariant.goes_on c.in_err-look.ensures.unheard)
+
+pub returns-in-News-clause-hears : goal.returns-in-News-clause-hears
+returns-in-News-clause-hears g c =
+    hears_after (Some c.in-News.news) (roster c.look.new.self) c.loop.invariant.goes_on (rw c.in-News.is at c.in_ok-look.ensures.looks)
+
+pub returns-in-News-clause-reports : goal.returns-in-News-clause-reports
+returns-in-News-clause-reports g c =
+    reports_after (Some c.in-News.news) (connections_of c.look.new.self) c.loop.invariant.turns (rw c.in-News.is at c.in_ok-look.ensures.reports)
+
+pub returns-in-Over-clause-hears : goal.returns-in-Over-clause-hears
+returns-in-Over-clause-hears g c =
+    hears_after None (roster c.look.new.self) c.loop.invariant.goes_on (rw c.in-Over.is at c.in_ok-look.ensures.looks)
+
+pub returns-in-Over-clause-reports : goal.returns-in-Over-clause-reports
+returns-in-Over-clause-reports g c =
+    reports_after None (connections_of c.look.new.self) c.loop.invariant.turns (rw c.in-Over.is at c.in_ok-look.ensures.reports)
