@@ -1,15 +1,14 @@
-//! Messages of a connection, read and written back, and devices that fail on the way.
+//! Messages of a connection, read and written by devices that fail on the way. What messages are written as are rows of test_interop's
+//! `messages.txt`.
 
 use crate::checks::expect_bytes;
 use crate::samples::{FINISH, PACKED, TWO_SEGMENTS};
 use crate::streams::{
-    Failure, RESET, Source, at, expect_cut_short, expect_fed_all, expect_read, is_memory, read,
-    tap_failing, tap_of,
+    Failure, RESET, Source, expect_cut_short, expect_fed_all, is_memory, read, tap_failing, tap_of,
 };
 use cp_frame::Mode;
-use cp_rpc::{Message, Op, Returned, Target};
+use cp_rpc::Message;
 use cp_stream::*;
-use cp_tree::WriteFault;
 use cp_words::Limits;
 use std::alloc::Global;
 use std::io::Write;
@@ -99,17 +98,6 @@ const SECOND_CALL: [u64; 19] = [
     0x0500000000000000,
 ];
 
-/// `FINISH` in segments of at most 3 words.
-const THREE_WORDS: [u64; 7] = [
-    0x0100000003000000,
-    0x0200000000000000,
-    0x0000000001000100,
-    0x0400000000000000,
-    0x0200000001000000,
-    0x0000000001000000,
-    0x0700000000000000,
-];
-
 /// The plain frames of a finish, a bootstrap's Return, a bootstrap and two calls.
 const FRAMES: &[&[u64]] = &[
     &FINISH_WORDS,
@@ -119,242 +107,43 @@ const FRAMES: &[&[u64]] = &[
     &SECOND_CALL,
 ];
 
-/// Appends the words' bytes.
-fn push_words(rt: &impl Abort, bytes: &mut Vec<u8>, words: &[u64]) {
+/// The words' bytes.
+fn bytes_of(rt: &impl Abort, alloc: Global, words: &[u64]) -> Vec<u8> {
+    let mut bytes = Vec::new(alloc);
     for word in words {
         bytes
             .extend_from_slice(&word.to_be_bytes())
             .expect(rt, "memory");
     }
-}
-
-/// The words' bytes.
-fn bytes_of(rt: &impl Abort, alloc: Global, words: &[u64]) -> Vec<u8> {
-    let mut bytes = Vec::new(alloc);
-    push_words(rt, &mut bytes, words);
     bytes
 }
 
-/// The next message of a device.
-fn next_message(rt: &impl Abort, alloc: Global, from: &mut Tap<Source>, mode: Mode) -> Message {
-    let found = read_message(alloc, from, mode, Limits::standard()).expect(rt, "read");
-    found.expect(rt, "message")
+/// The message of a plain frame.
+fn message_of(rt: &impl Abort, alloc: Global, frame: &[u8]) -> Message {
+    let mut from = tap_of(frame, 0);
+    let found = read_message(alloc, &mut from, Mode::Plain, Limits::standard());
+    drop(from);
+    found.expect(rt, "read").expect(rt, "message")
 }
 
-/// Writes the message of a plain frame, in one segment.
+/// Writes the message of a plain frame in a form, in one segment.
 fn forward<W: Write>(
     rt: &impl Abort,
     alloc: Global,
-    frame: &[u8],
+    (frame, mode): (&[u8], Mode),
     to: &mut Tap<W>,
 ) -> Result<(), StreamFault> {
-    let message = next_message(rt, alloc, &mut tap_of(frame, 0), Mode::Plain);
-    let done = write_message(alloc, to, &message, Mode::Plain, Limits::standard());
+    let message = message_of(rt, alloc, frame);
+    let done = write_message(alloc, to, &message, mode, Limits::standard());
     drop(message);
     done
-}
-
-/// What is written of a message, in one segment.
-fn written(rt: &impl Abort, alloc: Global, message: &Message, mode: Mode) -> Vec<u8> {
-    let mut to = Tap::new(Vec::new(alloc));
-    write_message(alloc, &mut to, message, mode, Limits::standard()).expect(rt, "written");
-    to.into_inner()
-}
-
-/// What is written of a device's next message, in this form and one segment.
-fn rewritten(
-    rt: &impl Abort,
-    alloc: Global,
-    (from, mode): (&mut Tap<Source>, Mode),
-    into: Mode,
-) -> Vec<u8> {
-    let message = next_message(rt, alloc, from, mode);
-    let written = written(rt, alloc, &message, into);
-    drop(message);
-    written
-}
-
-/// What a message is to be.
-#[derive(Clone, Copy)]
-enum Expected<'a> {
-    /// The Return of a question, with results, that keeps what the parameters named.
-    Results(u32),
-    /// The bootstrap of a question.
-    Bootstrap(u32),
-    /// The call of a question on what another gives, at these pointers.
-    Call(u32, u32, &'a [Op]),
-}
-
-/// Whether it is a promise of what that question gives, at these pointers.
-fn is_promised(target: &Target, on: u32, path: &[Op]) -> bool {
-    match target {
-        Target::PromisedAnswer(answer) => {
-            answer.question_id == on && answer.transform.ops() == path
-        }
-        _ => false,
-    }
-}
-
-/// Whether a message is as it is to be.
-fn is_as(message: &Message, expected: Expected) -> bool {
-    match (message, expected) {
-        (Message::Return(answer), Expected::Results(question)) => {
-            answer.answer_id == question
-                && !answer.release_param_caps
-                && matches!(&answer.returned, Returned::Results(_))
-        }
-        (Message::Bootstrap(bootstrap), Expected::Bootstrap(question)) => {
-            bootstrap.question_id == question
-        }
-        (Message::Call(call), Expected::Call(question, on, path)) => {
-            call.question_id == question && is_promised(&call.target, on, path)
-        }
-        _ => false,
-    }
-}
-
-/// The next message of a device of plain frames is as it is to be.
-fn expect_next(rt: &impl Abort, alloc: Global, from: &mut Tap<Source>, expected: Expected) {
-    let message = next_message(rt, alloc, from, Mode::Plain);
-    check!(rt; is_as(&message, expected));
-    drop(message);
-}
-
-#[test]
-fn messages_of_a_connection_are_read(rt: HostRuntime) {
-    let alloc = rt.alloc();
-    let mut stream = Vec::new(alloc);
-    for words in FRAMES.iter().skip(1) {
-        push_words(&rt, &mut stream, words);
-    }
-    expect_messages(&rt, alloc, &stream);
-    drop(stream);
-}
-
-/// A stream has these messages, and no other.
-fn expect_messages(rt: &impl Abort, alloc: Global, stream: &[u8]) {
-    let mut from = tap_of(stream, 0);
-    expect_next(rt, alloc, &mut from, Expected::Results(0));
-    expect_next(rt, alloc, &mut from, Expected::Bootstrap(0));
-    expect_next(rt, alloc, &mut from, Expected::Call(1, 0, &[]));
-    let transform = &[Op::GetPointerField(0)];
-    expect_next(rt, alloc, &mut from, Expected::Call(2, 1, transform));
-    expect_read(rt, alloc, (&mut from, Mode::Plain), Ok(false));
-    check!(rt; from.bytes() == stream.len() as u64);
-    drop(from);
 }
 
 /// A plain frame's bytes in a form.
 fn formed(rt: &impl Abort, alloc: Global, plain: &[u8], mode: Mode) -> Vec<u8> {
-    rewritten(rt, alloc, (&mut tap_of(plain, 0), Mode::Plain), mode)
-}
-
-/// What is written of a plain frame's message is the frame, and read back from the packed form it is
-/// again.
-fn expect_written(rt: &impl Abort, alloc: Global, frame: &[u8]) {
-    expect_formed(rt, alloc, frame, Mode::Plain, frame);
-    let packed = formed(rt, alloc, frame, Mode::Packed);
-    let mut from = tap_of(&packed, 0);
-    let again = rewritten(rt, alloc, (&mut from, Mode::Packed), Mode::Plain);
-    expect_bytes(rt, &again, frame);
-    drop(again);
-    expect_read(rt, alloc, (&mut from, Mode::Packed), Ok(false));
-    drop(from);
-    drop(packed);
-}
-
-/// A plain frame's bytes in a form are these.
-fn expect_formed(rt: &impl Abort, alloc: Global, plain: &[u8], mode: Mode, wanted: &[u8]) {
-    let formed = formed(rt, alloc, plain, mode);
-    expect_bytes(rt, &formed, wanted);
-    drop(formed);
-}
-
-#[test]
-fn messages_are_written_in_each_form(rt: HostRuntime) {
-    let alloc = rt.alloc();
-    expect_formed(&rt, alloc, &FINISH, Mode::Packed, &PACKED);
-    let frame = bytes_of(&rt, alloc, &RETURN);
-    expect_formed(&rt, alloc, &frame, Mode::Packed, &PACKED_RETURN);
-    drop(frame);
-}
-
-/// Writes a finish in segments of at most this many words.
-fn write_finish(
-    rt: &impl Abort,
-    alloc: Global,
-    to: &mut Tap<Vec<u8>>,
-    words: u32,
-    limits: Limits,
-) -> Result<(), StreamFault> {
-    let message = next_message(rt, alloc, &mut tap_of(&FINISH, 0), Mode::Plain);
-    let done = write_message_in(alloc, to, &message, Mode::Plain, words, limits);
-    drop(message);
-    done
-}
-
-/// The bytes of a finish in segments of at most this many words.
-fn cut_finish(rt: &impl Abort, alloc: Global, words: u32) -> Vec<u8> {
     let mut to = Tap::new(Vec::new(alloc));
-    write_finish(rt, alloc, &mut to, words, Limits::standard()).expect(rt, "written");
+    forward(rt, alloc, (plain, mode), &mut to).expect(rt, "written");
     to.into_inner()
-}
-
-/// The bytes of a finish in segments of at most this many words are these.
-fn expect_cut(rt: &impl Abort, alloc: Global, words: u32, wanted: &[u8]) {
-    let bytes = cut_finish(rt, alloc, words);
-    expect_bytes(rt, &bytes, wanted);
-    drop(bytes);
-}
-
-#[test]
-fn segments_may_be_small(rt: HostRuntime) {
-    let alloc = rt.alloc();
-    let three = bytes_of(&rt, alloc, &THREE_WORDS);
-    expect_cut(&rt, alloc, 3, &three);
-    expect_cut(&rt, alloc, 4, &FINISH);
-    expect_formed(&rt, alloc, &three, Mode::Plain, &FINISH);
-    drop(three);
-    let one = cut_finish(&rt, alloc, 1);
-    expect_cut(&rt, alloc, 0, &one);
-    drop(one);
-}
-
-/// How writing a finish in segments of one word ends within limits for small messages, and how many
-/// bytes went out.
-fn fault_within(
-    rt: &impl Abort,
-    alloc: Global,
-    nesting: u32,
-    traversal: u32,
-) -> (Option<StreamFault>, u64) {
-    let limits = Limits::new(nesting, traversal, 512, traversal).expect(rt, "limits");
-    let mut to = Tap::new(Vec::new(alloc));
-    let done = write_finish(rt, alloc, &mut to, 1, limits);
-    let bytes = to.bytes();
-    drop(to);
-    (done.err(), bytes)
-}
-
-/// Writing it within such limits is refused for this, and nothing goes out.
-fn expect_unwritten(
-    rt: &impl Abort,
-    alloc: Global,
-    (nesting, traversal): (u32, u32),
-    fault: WriteFault,
-) {
-    let (reported, bytes) = fault_within(rt, alloc, nesting, traversal);
-    check!(rt; reported == Some(at(0, Refusal::Write(fault))));
-    check!(rt; bytes == 0);
-}
-
-// The finish nests 2 levels and costs 5 words. In segments of one word it takes 6.
-#[test]
-fn what_passes_the_limits_is_not_written(rt: HostRuntime) {
-    expect_unwritten(&rt, rt.alloc(), (1, 4), WriteFault::TooDeep);
-    expect_unwritten(&rt, rt.alloc(), (2, 4), WriteFault::TooCostly);
-    expect_unwritten(&rt, rt.alloc(), (2, 5), WriteFault::TooManyWords);
-    check!(&rt; fault_within(&rt, rt.alloc(), 2, 6).0.is_none());
 }
 
 /// The fault of a writer that takes no byte.
@@ -405,7 +194,7 @@ fn sink_of(alloc: Global, most: usize, fails_at: u64, failure: Option<Failure>) 
 /// bytes a call.
 fn expect_calls(rt: &impl Abort, alloc: Global, frame: &[u8], most: usize, calls: u64) {
     let mut to = sink_of(alloc, most, 0, None);
-    forward(rt, alloc, frame, &mut to).expect(rt, "written");
+    forward(rt, alloc, (frame, Mode::Plain), &mut to).expect(rt, "written");
     let sink = expect_taken(rt, to, 0, frame);
     check!(rt; sink.call == calls);
     drop(sink);
@@ -429,7 +218,7 @@ fn expect_front(
     (failure, fault): (Option<Failure>, StreamFault),
 ) {
     let mut to = sink_of(alloc, 1, front.len() as u64 + 1, failure);
-    check!(rt; forward(rt, alloc, frame, &mut to) == Err(fault));
+    check!(rt; forward(rt, alloc, (frame, Mode::Plain), &mut to) == Err(fault));
     let sink = expect_taken(rt, to, 1, front);
     drop(sink);
 }
@@ -437,7 +226,7 @@ fn expect_front(
 /// A writer that is interrupted once takes the whole frame, in one call more.
 fn expect_made_again(rt: &impl Abort, alloc: Global, frame: &[u8], call: u64) {
     let mut to = sink_of(alloc, 1, call, Some(Failure::Interrupted));
-    forward(rt, alloc, frame, &mut to).expect(rt, "written");
+    forward(rt, alloc, (frame, Mode::Plain), &mut to).expect(rt, "written");
     let sink = expect_taken(rt, to, 0, frame);
     check!(rt; sink.call == frame.len() as u64 + 1);
     drop(sink);
@@ -467,7 +256,6 @@ fn messages_are_written_as_they_were_read(rt: HostRuntime) {
     let alloc = rt.alloc();
     for words in FRAMES {
         let frame = bytes_of(&rt, alloc, words);
-        expect_written(&rt, alloc, &frame);
         expect_calls(&rt, alloc, &frame, 1, frame.len() as u64);
         expect_calls(&rt, alloc, &frame, 1024, 1);
         expect_fronts(&rt, alloc, &frame);

@@ -1,11 +1,8 @@
 //! Packed words read group by group, beside those read byte by byte.
 
-use crate::frames::segments_of;
-use crate::packed::{BOOTSTRAP, RELEASE, ROWS};
-use crate::samples::PACKED;
+use crate::packed::ROWS;
 use cp_frame::*;
 use cp_packed::decode;
-use cp_words::{Limits, Segments};
 use std::alloc::Global;
 use std::process::Abort;
 
@@ -75,56 +72,3 @@ fn short_bytes_are_read_alike(rt: HostRuntime) {
         expect_fronts(&rt, rt.alloc(), &bytes);
     }
 }
-
-/// The bytes of the words that packed bytes are.
-fn plain_of(rt: &impl Abort, alloc: Global, bytes: &[u8]) -> Vec<u8> {
-    let words = decode(alloc, bytes)
-        .expect(rt, "memory")
-        .expect(rt, "words");
-    let plain = bytes_of(rt, alloc, &words);
-    drop(words);
-    plain
-}
-
-/// The words' bytes.
-fn bytes_of(rt: &impl Abort, alloc: Global, words: &[u64]) -> Vec<u8> {
-    let mut bytes = Vec::new(alloc);
-    for word in words {
-        bytes
-            .extend_from_slice(&word.to_le_bytes())
-            .expect(rt, "memory");
-    }
-    bytes
-}
-
-/// The segments of the plain frame of those words.
-fn plain_segments(rt: &impl Abort, alloc: Global, bytes: &[u8]) -> Segments {
-    let reader = FrameReader::plain(alloc, Limits::standard());
-    let plain = plain_of(rt, alloc, bytes);
-    let segments = segments_of(rt, reader, &plain);
-    drop(plain);
-    segments
-}
-
-/// A packed frame has the segments of the plain frame of its words.
-fn expect_frame(rt: &impl Abort, alloc: Global, bytes: &[u8]) {
-    let plain = plain_segments(rt, alloc, bytes);
-    expect_packed(rt, alloc, bytes, plain.lists());
-    drop(plain);
-}
-
-/// A packed frame has these segments.
-fn expect_packed(rt: &impl Abort, alloc: Global, bytes: &[u8], lists: &[Vec<u64>]) {
-    let packed = segments_of(rt, FrameReader::packed(alloc, Limits::standard()), bytes);
-    check!(rt; packed.lists() == lists);
-    drop(packed);
-}
-
-#[test]
-fn frames_have_the_decoded_words(rt: HostRuntime) {
-    for bytes in FRAMES {
-        expect_frame(&rt, rt.alloc(), bytes);
-    }
-}
-
-const FRAMES: &[&[u8]] = &[&PACKED, &BOOTSTRAP, &RELEASE, &[0, 0], &[0x11, 1, 1, 0, 1]];

@@ -1,6 +1,5 @@
 //! Structs that are written by the places of their fields, and over readers and writers.
 
-use crate::trees::tree_of_constant;
 use cp_builder::*;
 use cp_fields::{Constant, Pointee, StructView};
 use cp_frame::Mode;
@@ -166,6 +165,13 @@ fn uneven(rt: &impl Abort, alloc: Global) -> Option<DraftFault> {
 #[test]
 fn no_draft_is_made_of_what_no_message_can_hold(rt: HostRuntime) {
     check!(&rt; uneven(&rt, rt.alloc()) == Some(DraftFault::TooLong));
+}
+
+/// A list that is a constant, owned.
+fn tree_of_constant(rt: &impl Abort, alloc: Global, constant: &Constant) -> Tree {
+    Pointee::of_constant(constant)
+        .tree(alloc)
+        .expect(rt, "memory")
 }
 
 /// A part is this list.

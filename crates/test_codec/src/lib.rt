@@ -1,5 +1,5 @@
 //! Tests of the codec, over its libraries: cp_words, cp_tree, cp_reading, cp_writing, cp_packed, cp_frame, cp_fields, cp_builder, cp_rpc,
-//! cp_stream, cp_relay and cp_guard. They are one crate, since what std and these libraries say is read anew for each. What holds a message, a
+//! cp_stream and cp_relay. They are one crate, since what std and these libraries say is read anew for each. What holds a message, a
 //! tree or a reader lets it go by `drop`: where one goes at the end of its scope, each function proves anew what that does.
 #![tactic(auto)]
 
@@ -36,8 +36,6 @@ mod full;
 #[cfg(test)]
 mod groups;
 #[cfg(test)]
-mod guards;
-#[cfg(test)]
 mod handles;
 #[cfg(test)]
 mod lists;
@@ -47,8 +45,6 @@ mod look;
 mod message_samples;
 #[cfg(test)]
 mod messages;
-#[cfg(test)]
-mod messages_written;
 #[cfg(test)]
 mod packed;
 #[cfg(test)]

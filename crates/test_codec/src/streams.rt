@@ -2,7 +2,7 @@
 
 use crate::checks::{expect_bytes, expect_number};
 use crate::samples::{FINISH, FINISH_LIST, KEEPING, PACKED, SHORT_ROOT, TWO_SEGMENTS, joined};
-use cp_frame::{FrameFault, FrameReader, Mode};
+use cp_frame::{FrameFault, Mode};
 use cp_reading::TreeFault;
 use cp_rpc::{Field, Message, SchemaFault};
 use cp_stream::*;
@@ -212,25 +212,6 @@ fn allocation_failure_is_reported_and_then_failed(rt: HostRuntime) {
     let mut reader = new_reader(rt.alloc());
     expect_fed_all(&rt, &mut reader, &[&FINISH, front, back]);
     drop(reader);
-}
-
-/// The bytes are one frame, of which a view and a check end in this way.
-fn expect_viewed(rt: &impl Abort, alloc: Global, bytes: &[u8], refusal: Option<Refusal>) {
-    let mut reader = FrameReader::plain(alloc, Limits::standard());
-    let frames = reader.feed(bytes).expect(rt, "frames");
-    drop(reader);
-    check!(rt; frames.len() == 1);
-    let fault = refusal.map(|refusal| at(0, refusal));
-    check!(rt; view_of(&frames[0].1, Limits::standard()).err() == fault);
-    check!(rt; view_in(&frames[0].1, Limits::standard()).err() == refusal);
-    check!(rt; check_in(&frames[0].1, Limits::standard()).err() == refusal);
-    drop(frames);
-}
-
-#[test]
-fn a_view_is_of_one_frame(rt: HostRuntime) {
-    expect_viewed(&rt, rt.alloc(), &TWO_SEGMENTS, None);
-    expect_viewed(&rt, rt.alloc(), &SHORT_ROOT, Some(OUT_OF_BOUNDS))
 }
 
 /// The fault of a device whose connection is reset.
@@ -467,28 +448,6 @@ const FRAMES: &[(Mode, &[u8])] = &[
     (Mode::Packed, &PACKED),
     (Mode::Plain, &TWO_SEGMENTS),
 ];
-
-/// A frame's message is read from a device that fails at that call, or the failure is reported.
-fn expect_read_or_device(rt: &impl Abort, alloc: Global, mode: Mode, frame: &[u8], call: u64) {
-    let mut from = tap_of(frame, call);
-    let found = read(alloc, &mut from, mode);
-    let failures = from.failures();
-    drop(from);
-    if failures == 0 {
-        check!(rt; found == Ok(true));
-    } else {
-        check!(rt; found == Err(RESET));
-        check!(rt; failures == 1);
-    }
-}
-
-#[test]
-fn a_device_may_fail_at_each_call(rt: HostRuntime) {
-    for call in 1..100 {
-        expect_read_or_device(&rt, rt.alloc(), Mode::Plain, &FINISH, call);
-        expect_read_or_device(&rt, rt.alloc(), Mode::Packed, &PACKED, call);
-    }
-}
 
 /// What is read of these bytes is refused.
 fn expect_refused(rt: &impl Abort, alloc: Global, bytes: &[u8], refusal: Refusal) {

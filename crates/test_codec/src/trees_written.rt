@@ -1,4 +1,4 @@
-//! Trees, written and read back.
+//! Trees, written: limits, lent parts, and where memory runs out. What segments trees are written as, are rows `recut` of test_interop.
 
 ghost use Rattle.std.specs.Prelude.{◌≡◌, ◌∷◌, [], map, IfOk};
 ghost use Rattle.cp_tree.specs.Node.{struct, node, no_nodes};
@@ -8,8 +8,7 @@ ghost use Rattle.cp_tree.specs.Shaped.{Shaped};
 ghost use Rattle.test_codec.specs.Drafted.{list_with, structs_with, struct_with};
 
 use crate::checks::expect_right_of;
-use crate::trees::{FINISH_TREE, are_words, body, object_of, segments, tree_of_constant};
-use cp_fields::{Constant, ConstantBody};
+use crate::trees::{FINISH, object_of, segments};
 use cp_packed::push_plain;
 use cp_reading::*;
 use cp_tree::*;
@@ -22,169 +21,7 @@ fn object(rt: &impl Abort, tree: Tree) -> Object {
     Object::new(tree).ok().expect(rt, "an object")
 }
 
-/// Whether the segments are these, each by its words.
-fn are(lists: &[Vec<u64>], wanted: &[&str]) -> bool {
-    for (list, text) in lists.iter().zip(wanted) {
-        if !are_words(list, text) {
-            return false;
-        }
-    }
-    lists.len() == wanted.len()
-}
-
-/// Whether the second tree is written in one segment, as `write_root` writes the first.
-fn is_written_in_one(rt: &impl Abort, alloc: Global, first: &Object, second: &Object) -> bool {
-    let limits = Limits::standard();
-    let words = write_root(alloc, first, limits).expect(rt, "words");
-    let one = write_segments(alloc, second, 8_388_608, limits).expect(rt, "segments");
-    let is_one = one.lists().len() == 1 && one.lists()[0] == words;
-    drop(one);
-    drop(words);
-    is_one
-}
-
-/// Whether these segments are read as the tree, and written back in one segment, as `write_root`
-/// writes it.
-fn are_read_back(rt: &impl Abort, alloc: Global, segments: &Segments, object: &Object) -> bool {
-    let back = read_root(alloc, segments, Limits::standard()).expect(rt, "a tree");
-    let is_read = *back.tree() == *object.tree();
-    let is_written = is_written_in_one(rt, alloc, object, &back);
-    drop(back);
-    is_read && is_written
-}
-
-/// Whether the tree is written so, with at most this many words in a segment, and its segments are
-/// read back.
-fn writes(rt: &impl Abort, alloc: Global, tree: Tree, max_words: u32, wanted: &[&str]) -> bool {
-    let object = object(rt, tree);
-    let limits = Limits::standard();
-    let segments = write_segments(alloc, &object, max_words, limits).expect(rt, "segments");
-    let are_wanted = are(segments.lists(), wanted);
-    let are_read = are_read_back(rt, alloc, &segments, &object);
-    drop(segments);
-    drop(object);
-    are_wanted && are_read
-}
-
-/// Trees that are constants, numbers of words in a segment, and as what segments they are written: bytes, `finish` in segments
-/// of three words, of four and of as few as can be, and two bodies after their pads in the last segment.
-const ROWS: &[(Constant, u32, &[&str])] = &[
-    (
-        Constant::Struct(ConstantBody {
-            words: &[],
-            ptrs: &[Constant::List(ListRef::Bytes(&[0xab]))],
-        }),
-        8_388_608,
-        &["0000000000000100 010000000a000000 ab00000000000000"],
-    ),
-    (
-        FINISH_TREE,
-        3,
-        &[
-            "0000000001000100 0400000000000000 0200000001000000",
-            "0000000001000000 0700000000000000",
-        ],
-    ),
-    (
-        FINISH_TREE,
-        4,
-        &["0000000001000100 0400000000000000 0000000001000000 0700000000000000"],
-    ),
-    (
-        FINISH_TREE,
-        0,
-        &[
-            "0200000001000000",
-            "0000000001000100 0400000000000000 0200000002000000",
-            "0000000001000000 0700000000000000",
-        ],
-    ),
-    (
-        Constant::Struct(ConstantBody {
-            words: &[9],
-            ptrs: &[
-                Constant::Struct(ConstantBody {
-                    words: &[1],
-                    ptrs: &[],
-                }),
-                Constant::Struct(ConstantBody {
-                    words: &[2],
-                    ptrs: &[],
-                }),
-            ],
-        }),
-        4,
-        &[
-            "0000000001000200 0900000000000000 0200000001000000 1200000001000000",
-            "0000000001000000 0100000000000000 0000000001000000 0200000000000000",
-        ],
-    ),
-];
-
-#[test]
-fn trees_are_written_in_segments(rt: HostRuntime) {
-    for (constant, max_words, wanted) in ROWS {
-        let tree = tree_of_constant(&rt, rt.alloc(), constant);
-        check!(&rt; writes(&rt, rt.alloc(), tree, *max_words, wanted));
-    }
-    let tree = all_kinds(&rt, rt.alloc());
-    check!(&rt; writes(&rt, rt.alloc(), tree, 8_388_608, &[ALL_KINDS]));
-}
-
-/// Trees of each kind that are constants.
-const KINDS: &[Constant] = &[
-    Constant::Struct(ConstantBody {
-        words: &[],
-        ptrs: &[],
-    }),
-    Constant::List(ListRef::Voids(5)),
-    Constant::List(ListRef::Bits(&[true, false, true])),
-    Constant::List(ListRef::Bytes(b"nine byte")),
-    Constant::List(ListRef::TwoBytes(&[1, 2, 3, 4, 5])),
-    Constant::List(ListRef::FourBytes(&[6, 7, 8])),
-    Constant::List(ListRef::Words(&[10])),
-    Constant::Ptrs(&[
-        Constant::Struct(ConstantBody {
-            words: &[13],
-            ptrs: &[],
-        }),
-        Constant::Null,
-    ]),
-];
-
-/// A struct of one data word.
-fn leaf(rt: &impl Abort, alloc: Global, word: u64) -> Tree {
-    Tree::Struct(body(rt, alloc, &[word], []))
-}
-
-/// A composite list of two structs of one data word and two pointers.
-fn structs(rt: &impl Abort, alloc: Global) -> Tree {
-    let first = body(rt, alloc, &[1], [Tree::Cap(9), leaf(rt, alloc, 11)]);
-    let second = body(rt, alloc, &[2], [leaf(rt, alloc, 12), Tree::Null]);
-    Tree::Structs {
-        words: 1,
-        ptrs: 2,
-        items: Vec::from_array(alloc, [first, second]).expect(rt, "memory"),
-    }
-}
-
-/// A struct with each kind of tree.
-fn all_kinds(rt: &impl Abort, alloc: Global) -> Tree {
-    let mut ptrs = Vec::new(alloc);
-    ptrs.push(Tree::Null).expect(rt, "memory");
-    ptrs.push(Tree::Cap(3)).expect(rt, "memory");
-    for constant in KINDS {
-        let tree = tree_of_constant(rt, alloc, constant);
-        ptrs.push(tree).expect(rt, "memory");
-    }
-    ptrs.push(structs(rt, alloc)).expect(rt, "memory");
-    Tree::Struct(Body {
-        words: Vec::from_slice(alloc, &[4]).expect(rt, "memory"),
-        ptrs,
-    })
-}
-
-/// The words of that struct.
+/// The words of a struct with each kind of tree.
 const ALL_KINDS: &str =
     "0000000001000b00 0400000000000000 0000000000000000 0300000003000000 fcffffff00000000 \
     1d00000028000000 1900000019000000 190000004a000000 1d0000002b000000 210000001c000000 \
@@ -365,8 +202,9 @@ const FAULTS: &[((u32, u32, u32), Option<WriteFault>)] = &[
 
 #[test]
 fn depth_is_reported_before_cost_and_cost_before_words(rt: HostRuntime) {
-    let tree = tree_of_constant(&rt, rt.alloc(), &FINISH_TREE);
-    let object = object(&rt, tree);
+    let segments = segments(&rt, rt.alloc(), &[FINISH]);
+    let object = object_of(&rt, rt.alloc(), &segments);
+    drop(segments);
     for (limits, wanted) in FAULTS {
         check!(&rt; limited(&rt, rt.alloc(), &object, *limits) == *wanted);
     }

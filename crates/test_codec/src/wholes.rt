@@ -85,21 +85,6 @@ fn what_is_no_struct_or_too_long_is_handed_back(rt: HostRuntime) {
 }
 
 #[test]
-fn copies_are_equal(rt: HostRuntime) {
-    let alloc = rt.alloc();
-    let first = object(&rt, alloc);
-    let copy = first.copy(alloc).expect(&rt, "memory");
-    drop(first);
-    expect_tree(&rt, copy.tree(), whole(&rt, alloc, &[8]));
-    drop(copy);
-    let first = list(&rt, alloc);
-    let copy = first.copy(alloc).expect(&rt, "memory");
-    drop(first);
-    expect_tree(&rt, copy.tree(), structs(&rt, alloc, &[8]));
-    drop(copy);
-}
-
-#[test]
 fn depth_and_cost_are_counted(rt: HostRuntime) {
     let tree = whole(&rt, rt.alloc(), &[8]);
     // A struct of 2 words, a list of 2 elements of 2 words, a list of 1 word.

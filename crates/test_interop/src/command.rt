@@ -1,7 +1,7 @@
 //! A row of the file of commands.
 
 use crate::fault::Fault;
-use crate::row::{decoded, expect};
+use crate::row::{decoded, expect, parts_of};
 use cp_commands::{Asked, Names, Plan, act};
 use cp_frame::Mode;
 use cp_schema::{Decoder, Schema};
@@ -9,7 +9,7 @@ use cp_words::Limits;
 use std::alloc::Global;
 
 /// The form that a word names.
-fn mode_of(word: &str) -> Option<Mode> {
+pub fn mode_of(word: &str) -> Option<Mode> {
     match word {
         "plain" => Some(Mode::Plain),
         "packed" => Some(Mode::Packed),
@@ -18,7 +18,7 @@ fn mode_of(word: &str) -> Option<Mode> {
 }
 
 /// A number of a row.
-fn number_of(word: Option<&str>) -> Option<u32> {
+pub fn number_of(word: Option<&str>) -> Option<u32> {
     u32::from_str_radix(word?, 10).ok()
 }
 
@@ -156,10 +156,7 @@ pub fn names_of(alloc: Global, request: &[u8], words: &str, file: &[u8]) -> Resu
 
 /// Does the command of a line with its file, in hexadecimal, and compares what comes of it with the rest of the line.
 pub fn try_line(alloc: Global, request: &[u8], line: &str) -> Result<u64, Fault> {
-    let mut parts = line.splitn(3, '\t');
-    let words = parts.next().ok_or(Fault::Row)?;
-    let file = parts.next().ok_or(Fault::Row)?;
-    let wanted = parts.next().ok_or(Fault::Row)?;
+    let (words, file, wanted) = parts_of(line).ok_or(Fault::Row)?;
     let file = decoded(alloc, file)?;
     let tried = try_file(alloc, request, words, &file, wanted);
     drop(file);

@@ -4,13 +4,13 @@ use crate::fault::Fault;
 use cp_frame::{FrameFault, FrameReader, Mode, write_frame};
 use cp_lines::push_line;
 use cp_rpc::Message;
-use cp_stream::{MessageReader, Tap, view_in, write_message_in};
+use cp_stream::{MessageReader, Tap, view_of, write_message_in};
 use cp_words::{Limits, Segments};
 use std::alloc::Global;
 
 /// Adds the line of a frame's message.
 fn push_frame(alloc: Global, segments: &Segments, lines: &mut String) -> Result<(), Fault> {
-    Ok(push_line(alloc, lines, &view_in(segments, Limits::standard())?)?)
+    Ok(push_line(alloc, lines, &view_of(segments, Limits::standard())?)?)
 }
 
 /// Adds the lines of the messages of frames.

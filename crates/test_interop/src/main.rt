@@ -7,6 +7,8 @@ mod call;
 mod command;
 mod fault;
 mod frame;
+mod guard;
+mod message;
 mod row;
 mod stream;
 mod text;
@@ -23,13 +25,15 @@ const STREAMS: [(&str, &str); 3] = [
     ("rust.1.c2s", "rust.1.c2s.show"),
 ];
 
-/// The files of rows: `frames.txt`, `commands.txt`, `texts.txt` and `calls.txt`.
+/// The files of rows.
 #[derive(Clone, Copy)]
 enum Rows {
     Frames,
     Commands,
     Texts,
     Calls,
+    Messages,
+    Guards,
 }
 
 impl Rows {
@@ -39,15 +43,18 @@ impl Rows {
             Rows::Commands => "commands.txt",
             Rows::Texts => "texts.txt",
             Rows::Calls => "calls.txt",
+            Rows::Messages => "messages.txt",
+            Rows::Guards => "guards.txt",
         }
     }
 
     /// The schema of its structs: what `capnp compile -o-` printed of the file of the same name.
     fn request(self) -> &'static str {
         match self {
-            Rows::Frames | Rows::Commands => "shown.request",
+            Rows::Frames | Rows::Commands | Rows::Messages => "shown.request",
             Rows::Texts => "texts.request",
             Rows::Calls => "calls.request",
+            Rows::Guards => "guards.request",
         }
     }
 
@@ -58,6 +65,8 @@ impl Rows {
             Rows::Commands => command::try_line(alloc, request, line),
             Rows::Texts => text::try_line(alloc, request, line),
             Rows::Calls => call::try_line(alloc, request, line),
+            Rows::Messages => message::try_line(alloc, line),
+            Rows::Guards => guard::try_line(alloc, request, line),
         }
     }
 
@@ -108,6 +117,8 @@ fn main(rt: HostRuntime) -> anyhow::Result<ExitCode> {
         & Rows::Commands.try_all(&rt, alloc)?
         & Rows::Texts.try_all(&rt, alloc)?
         & Rows::Calls.try_all(&rt, alloc)?
+        & Rows::Messages.try_all(&rt, alloc)?
+        & Rows::Guards.try_all(&rt, alloc)?
         & streams(&rt, alloc)?;
     Ok(if good {
         ExitCode::SUCCESS

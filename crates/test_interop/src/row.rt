@@ -6,6 +6,15 @@ use cp_frame::Mode;
 use cp_rpc::Message;
 use std::alloc::Global;
 
+/// The three parts of a line, between tabs.
+pub fn parts_of(line: &str) -> Option<(&str, &str, &str)> {
+    let mut parts = line.splitn(3, '\t');
+    let first = parts.next()?;
+    let second = parts.next()?;
+    let third = parts.next()?;
+    Some((first, second, third))
+}
+
 /// The bytes of hexadecimal digits.
 pub fn decoded(alloc: Global, digits: &str) -> Result<Vec<u8>, Fault> {
     hex::decode(alloc, digits).map_err(|_| Fault::Row)

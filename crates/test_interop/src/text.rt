@@ -2,7 +2,7 @@
 
 use crate::command::{names_of, plan_of};
 use crate::fault::Fault;
-use crate::row::expect;
+use crate::row::{expect, parts_of};
 use cp_commands::{ACCEPTED, Encoding, Names, Plan, act, encode};
 use cp_encoder::Encoder;
 use cp_frame::Mode;
@@ -54,10 +54,7 @@ fn is_shown(alloc: Global, plan: &Plan<'_>, mut frames: &[u8], said: &mut Vec<u8
 /// Makes frames of the texts of a line, shows them, and compares that, or what is said of a fault, with the rest of the line.
 /// What is shown is read again, and is the same.
 pub fn try_line(alloc: Global, request: &[u8], line: &str) -> Result<u64, Fault> {
-    let mut parts = line.splitn(3, '\t');
-    let name = parts.next().ok_or(Fault::Row)?;
-    let texts = parts.next().ok_or(Fault::Row)?;
-    let wanted = parts.next().ok_or(Fault::Row)?;
+    let (name, texts, wanted) = parts_of(line).ok_or(Fault::Row)?;
     let names = names_of(alloc, request, "", &[])?;
     let tried = try_by(alloc, &names, name, texts, wanted);
     drop(names);

@@ -1,0 +1,7 @@
+@0xd2c8f0a1b7e94d35;
+# What the rules of guards.txt name. guards.request is what `capnp compile -o- guards.capnp` prints.
+
+interface Store @0x8000000000000001 {
+  get @0 () -> ();
+  put @1 () -> ();
+}
