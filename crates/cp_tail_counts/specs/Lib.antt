@@ -1,0 +1,4 @@
+pub mod Peer
+pub mod Behind
+pub mod Counts
+pub mod Wire
