@@ -6,7 +6,8 @@ The file is written as those of must-fail/ are. Its name is the function's path,
 
 A proof rests on the contracts of the functions that are called, and on no body. So one check tries several edits, each of
 another function. It checks these functions and those that they call, over the libraries that rt ci built, or else
-tools/build.sh. Each function without an edit has to be proved in the same check, so refusals are due to the edits.
+tools/build.sh. Each function without an edit has to be proved in the same check, so refusals are due to the edits. Or all
+that its proof lacks is that of a function with an edit, which it calls.
 
 The last line is 'N passed, M failed'. The status is 1 where an edit wasn't refused, can't be applied or wasn't tried.
 """
@@ -50,8 +51,8 @@ class Edit:
 
     def judge(self, verdict, errors):
         """By the line that a check has for the function, and by its errors."""
-        own = [it for it in errors if it.startswith(f"proofs/{self.function.replace('::', '/')}/")]
-        told = [it for it in own if not NAMES.search(it)] if verdict == "not proved" else []
+        own = own_errors(self.function, errors)
+        told = [it for it in own if not NAMES.search(it)] if verdict.startswith("not proved") else []
         # (of a function that has no proof file, whose proof is a search)
         told += [it for it in [verdict] if it.startswith("no proof") and "`search` did not prove" in it]
         self.is_refused = bool(told)
@@ -93,19 +94,34 @@ def try_together(crate, edits):
         status, lines, seconds = check(crate, room, tried) if tried else (0, [], 0)
     verdicts = dict(re.findall(rf"^fn {crate.name}::(\S+): (.+)$", "\n".join(lines), re.M))
     errors = [it.removeprefix("./") for it in lines if re.match(r"\S+:\d+:\d+: error", it)]
-    lost = lost_by(status, lines, verdicts, tried)
+    lost = lost_by(crate.name, status, lines, verdicts, errors, tried)
     for name, it in tried.items():
         it.judge(f"the check counts for nothing: {lost[0]}" if lost else verdicts.get(name, "no line"), errors)
     return seconds
 
 
-def lost_by(status, lines, verdicts, tried):
+def own_errors(function, errors):
+    """The errors of a function's own proof."""
+    return [it for it in errors if it.startswith(f"proofs/{function.replace('::', '/')}/")]
+
+
+def lacks_an_edited(crate, name, verdicts, errors, tried):
+    """Whether all that a function's proof lacks is that of others that it calls, which have an edit, or lack such a one."""
+    calls = re.fullmatch(r"(?:no proof:|not proved;) it calls (`.+`), which (?:is|are) not proved", verdicts.get(name, ""))
+    if not calls or own_errors(name, errors):
+        return False
+    lacking = [it.removeprefix(f"{crate}::") for it in re.findall(r"`(.+?)`", calls[1])]
+    return all(it in tried or lacks_an_edited(crate, it, verdicts, errors, tried) for it in lacking)
+
+
+def lost_by(crate, status, lines, verdicts, errors, tried):
     """Why a check says nothing of its edits: it didn't come to the prover or to its end, or not all else is proved."""
     lost = [it for it in lines if re.search(r"\berror(\[|:.*has no function)", it)]
     proved = [it for it in verdicts if verdicts[it] == "proved"]
     if status not in (0, 1) or not re.fullmatch(r"only=\d+ proved=\d+", "".join(lines[-1:])):
         lost.append(f"status {status}: {' '.join(lines[-1:])}")
-    lost += [f"{it} isn't proved" for it in verdicts if it not in tried and it not in proved]
+    others = [it for it in verdicts if it not in tried and it not in proved]
+    lost += [f"{it} isn't proved" for it in others if not lacks_an_edited(crate, it, verdicts, errors, tried)]
     return lost if proved else lost + ["no function without an edit was checked"]
 
 
