@@ -17,27 +17,8 @@ here=$(cd "$(dirname "${BASH_SOURCE[0]}")" && pwd)
 root=$(dirname "$(dirname "$here")")
 command=${3:+$(realpath "$3")}
 . "$here/libraries.sh"
+. "$here/made.sh"
 failed=0
-
-wide() { # a schema of 300 fields of the widths in turn, and a message that sets every seventh
-    local types=(Bool Int8 UInt16 Int32 UInt64 Text Float64 UInt8 Int64 Bool) at
-    {
-        printf '@0xc0ffee0000000004;\nstruct Wide {\n'
-        for ((at = 0; at < 300; at++)); do printf '  f%d @%d :%s;\n' "$at" "$at" "${types[at % 10]}"; done
-        printf '}\n'
-    } >"$room/wide.capnp"
-    {
-        printf '()\n('
-        for ((at = 0; at < 300; at += 7)); do
-            case ${types[at % 10]} in
-            Bool) printf 'f%d = true, ' "$at" ;;
-            Text) printf 'f%d = "t%d", ' "$at" "$at" ;;
-            *) printf 'f%d = %d, ' "$at" "$((at % 120 + 1))" ;;
-            esac
-        done
-        printf 'f299 = true)\n'
-    } >"$room/wide.txt"
-}
 
 make_program() { # PROGRAM NAME STRUCT [FIELD..]: the program that prints messages, or these fields of theirs, over the crate of this name
     local program=$1 name=$2
@@ -139,17 +120,9 @@ copy() { # TEXTS SCHEMA STRUCT PROGRAM: texts that SCHEMA encodes, read by PROGR
     same "$1" "$4"
 }
 
-nulls() { # members of unions that have defaults, whose pointers are null, since the writer's schema knows them as void
-    sed -Ez 's/(nine|ten) (@[0-9]+) :[A-Za-z]+ = [^;]+;/\1 \2 :Void;/g' "$here/every.capnp" |
-        sed -Ez ':again; s/(struct Defaults .* @[0-9]+) :[^;V][^;]*;/\1 :Void;/; t again' >"$room/void.capnp"
-    printf '(%s = void)\n' nine ten >"$room/nulls.txt"
-    printf '(defaults = (%s = void))\n' voids bools bytes halves quads words floats doubles colours texts datas smalls lists deep empty \
-        small blank same pair box boxes every any >>"$room/nulls.txt"
-    compare "$room/nulls.txt" "$room/void.capnp" "$here/every.capnp" Every
-}
-
 take_libraries
 wide
+nulls
 calls
 make_printer "$here/every.capnp" Every
 make_printer "$here/older.capnp" Thing
@@ -157,7 +130,7 @@ make_printer "$here/newer.capnp" Thing
 make_printer "$room/wide.capnp" Wide
 compare "$here/floats.txt" "$here/floats.capnp" "$here/floats.capnp" Floats
 compare "$here/every.txt" "$here/every.capnp" "$here/every.capnp" Every
-nulls
+compare "$room/nulls.txt" "$room/void.capnp" "$here/every.capnp" Every
 compare "$here/older.txt" "$here/older.capnp" "$here/newer.capnp" Thing
 absent late spare spares words flags
 compare "$here/newer.txt" "$here/newer.capnp" "$here/older.capnp" Thing

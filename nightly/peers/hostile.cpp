@@ -188,10 +188,11 @@ void limits() {
   };
   expect("a body that can be sent back", "", unsupported(62));
   expect("a body a level too deep", "P11 echo too large", unsupported(63));
-  // A Call that isn't supported, and in it a list of structs of size zero, which takes two words whatever its length.
+  // A Call whose results are for a third party, which isn't supported. In it is a list of structs of size zero, which
+  // takes two words whatever its length.
   auto hollow = [](uint32_t count, bool is_table) {
     return Script().bootstrap(0).call(1, [=](rpc::Call::Builder call) {
-      call.getSendResultsTo().setYourself();
+      call.getSendResultsTo().initThirdParty();
       auto list = is_table ? capnp::toAny(call.getParams()).getPointerSection()[1]
                            : capnp::toAny(call.initTarget().initPromisedAnswer()).getPointerSection()[0];
       list.initAsListOfAnyStruct(0, 0, count);

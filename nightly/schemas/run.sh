@@ -1,7 +1,7 @@
 #!/usr/bin/env bash
 # run.sh PLUGIN FOLDER COMMAND [SEEDS [TRIED]]    random schemas (300), each in two editions, with random messages of both: by each edition `COMMAND show
 #                                   --schema` (capnp_cli, built) prints what `capnp decode --short` does. PLUGIN (capnpc_rattle, built) writes code of each
-#                                   that names nothing twice, or says in a line what it can't write. Then the code of the first ones (12) reads
+#                                   that names nothing twice, or says in a line what it can't write; and it says which names get an underscore. Then the code of the first ones (12) reads
 #                                   messages, builds them again by its drafts, and reads what was written, by `rt try`; FOLDER gets the crates.
 #
 # Schemas that the reference tool doesn't take, and messages that it refuses to show by another edition, are counted. What goes wrong is
@@ -79,6 +79,20 @@ refuse() { # each line of refused.txt: an option, a schema, and what the plugin 
     echo "$tried schemas are refused, each by its line"
 }
 
+tell() { # each line of told.txt: an option, a schema, and what the plugin says of its names
+    local option schema line tried=0
+    rm -rf "$room/written"
+    mkdir "$room/written"
+    while IFS='|' read -r option schema line; do
+        printf '@0xc0ffee0000020003;\n%s\n' "$schema" >"$room/told.capnp"
+        (cd "$room" && capnp compile -o- told.capnp) >"$room/told.request"
+        (cd "$room/written" && "$plugin" ${option:+"$option"} <../told.request >../printed 2>../said) && [ "$(cat "$room/said")" = "$line" ] ||
+            wrong "$option, $schema: $(cat "$room/said")"
+        tried=$((tried + 1))
+    done <"$here/told.txt"
+    echo "of $tried schemas the plugin says which names have an underscore"
+}
+
 one_seed() { # SEED
     local writer reader
     make_schema "$1" || return 0
@@ -123,6 +137,7 @@ try_code() { # SEED..    what their code prints of messages, twice each: as they
 }
 
 refuse
+tell
 for seed in $(seq "$seeds"); do
     one_seed "$seed"
     rm -f "$room/s$seed"[._]*

@@ -1,12 +1,15 @@
 #!/usr/bin/env bash
 # run.sh COMMAND FOLDER [SEEDS]    `COMMAND encode` (capnp_cli, built) beside `capnp encode`: the texts of ../fields, and random values of random
-#                                  schemas (300) of ../schemas. Both make the same trees, byte for byte once `recut` has written each in one segment.
-#                                  And what `show --schema` prints of a message makes a message of which it prints the same.
+#                                  schemas (300) of ../schemas, in two editions each. Both make the same trees, byte for byte once `recut` has written
+#                                  each in one segment. And what `show --schema` prints of a message makes a message of which it prints the same.
 set -eu
 command=$(realpath "$1")
 mkdir -p "$2" && room=$(cd "$2" && pwd)
 seeds=${3-300}
 here=$(cd "$(dirname "${BASH_SOURCE[0]}")" && pwd)
+root=$(dirname "$(dirname "$here")")
+fields=$root/nightly/fields
+. "$fields/made.sh"
 count=12 # messages of a schema
 texts=0 schemas=0 failed=0
 
@@ -35,18 +38,29 @@ request() { # SCHEMA
     (cd "$(dirname "$1")" && capnp compile -o- "$(basename "$1")") >"$room/$(basename "$1" .capnp).request"
 }
 
-for it in every:Every older:Thing newer:Thing floats:Floats; do
-    request "$here/../fields/${it%:*}.capnp"
-    same "$here/../fields/${it%:*}.capnp" "${it#*:}" "$here/../fields/${it%:*}.txt"
-done
+random() { # SEED EDITION    random messages of this edition of a schema
+    request "$room/$2.capnp" 2>"$room/said" || return 0
+    schemas=$((schemas + 1))
+    "$here/../schemas/random_values.py" "$room/$2.request" Root "$1" "$count" >"$room/texts"
+    same "$room/$2.capnp" Root "$room/texts"
+}
+
+wide
+nulls
+for it in "$fields/every.capnp" "$fields/older.capnp" "$fields/newer.capnp" "$fields/floats.capnp" "$room/wide.capnp" "$room/void.capnp"; do request "$it"; done
+same "$fields/every.capnp" Every "$fields/every.txt"
+same "$fields/older.capnp" Thing "$fields/older.txt"
+same "$fields/newer.capnp" Thing "$fields/newer.txt"
+same "$fields/floats.capnp" Floats "$fields/floats.txt"
+same "$room/wide.capnp" Wide "$room/wide.txt"
+same "$room/void.capnp" Every "$room/nulls.txt"
+"$fields/random_texts.py" "$room/every.request" Every 7 200 >"$room/random.txt"
+same "$fields/every.capnp" Every "$room/random.txt"
 for seed in $(seq "$seeds"); do
     "$here/../schemas/random_schema.py" "$seed" "$room"
-    if request "$room/s$seed.capnp" 2>"$room/said"; then
-        schemas=$((schemas + 1))
-        "$here/../schemas/random_values.py" "$room/s$seed.request" Root "$seed" "$count" >"$room/texts"
-        same "$room/s$seed.capnp" Root "$room/texts"
-    fi
+    random "$seed" "s$seed"
+    random "$seed" "s${seed}_old"
     rm -f "$room/s$seed"[._]*
 done
-echo "$texts texts of $schemas random schemas and of 4 others are made the same of"
+echo "$texts texts of $schemas random schemas and of 6 others are made the same of"
 exit "$failed"
