@@ -14,11 +14,20 @@ use std::marker::Model;
 /// fault nothing goes out, and each later call reports that fault again.
 ///
 /// It keeps what has come of the open frame, and no piece.
-#[derive(Drop)]
 pub struct Relay {
     passage: Passage,
     /// Why nothing more goes through.
     fault: Option<RelayFault>,
+}
+
+// Not derived: a crate that lets one go calls this function, and need not prove how all that it holds goes.
+impl Drop for Relay {
+    fn drop(self) {
+        let Relay {
+            passage: _,
+            fault: _,
+        } = self;
+    }
 }
 
 impl Model for Relay {
