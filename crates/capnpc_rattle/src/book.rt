@@ -3,7 +3,7 @@
 use crate::names::{is_ambiguous, is_taken};
 use crate::only::{has_method, has_type};
 use crate::out::{Arg, Out, before, file_name};
-use crate::reach::{Line, lines, naming};
+use crate::reach::{Line, push_lines, push_naming};
 use cp_schema::{Node, NodeKind, Schema};
 use std::alloc::{AllocError, Global};
 
@@ -36,6 +36,18 @@ impl Drop for Named {
             krate: _,
             is_written: _,
         } = self;
+    }
+}
+
+impl Named {
+    /// What stands for the places of templates of it: its name as a type, that in the schema, that in definitions, and its number.
+    pub fn args<'n>(&'n self, node: &'n Node) -> [Arg<'n>; 4] {
+        [
+            Arg::Text(self.name.as_str()),
+            Arg::Text(node.name()),
+            Arg::Text(self.word.as_str()),
+            Arg::Hex(node.id),
+        ]
     }
 }
 
@@ -84,20 +96,34 @@ impl<'s> Book<'s> {
         (path, krate): (&str, &str),
         scope: Scope<'s>,
     ) -> Result<Book<'s>, AllocError> {
-        let mut names = Vec::new(alloc);
+        let mut book = Book {
+            alloc,
+            schema,
+            names: Vec::new(alloc),
+            scope,
+            lines: Vec::new(alloc),
+            naming: Vec::new(alloc),
+        };
+        match book.name_all(path, krate) {
+            Ok(()) => Ok(book),
+            Err(error) => {
+                drop(book);
+                Err(error)
+            }
+        }
+    }
+
+    /// Names all types and constants, and adds what interfaces extend and which structs name capabilities.
+    fn name_all(&mut self, path: &str, krate: &str) -> Result<(), AllocError> {
+        let schema = self.schema;
         for node in &schema.nodes {
             // `--crate` names the crate of this file alone.
             let krate = if node.path() == path { krate } else { "" };
-            names.push(names_of(alloc, schema, node, krate, scope))?;
+            self.names
+                .push(names_of(self.alloc, schema, node, krate, self.scope))?;
         }
-        Ok(Book {
-            alloc,
-            schema,
-            names,
-            scope,
-            lines: lines(alloc, schema)?,
-            naming: naming(alloc, schema)?,
-        })
+        push_lines(self.alloc, schema, &mut self.lines)?;
+        push_naming(schema, &mut self.naming)
     }
 
     /// The names of the node of this number.

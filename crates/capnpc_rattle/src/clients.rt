@@ -3,7 +3,6 @@
 use crate::book::{Book, Named};
 use crate::comments::about;
 use crate::methods::Way;
-use crate::out::Arg;
 use crate::sheet::Sheet;
 use cp_schema::{Interface, Node};
 
@@ -16,7 +15,7 @@ pub struct $0Client {
 
 impl $0Client {
     /// The interface's number.
-    pub const ID: u64 = $2;
+    pub const ID: u64 = $3;
 
     /// The object that a capability stands for.
     pub fn new(alloc: Global, cap: Cap) -> $0Client
@@ -94,11 +93,7 @@ pub fn client<'b>(
     of: &'b Interface,
     ways: &[Way<'b>],
 ) {
-    let args = [
-        Arg::Text(named.name.as_str()),
-        Arg::Text(node.name()),
-        Arg::Hex(node.id),
-    ];
+    let args = named.args(node);
     about(
         &mut sheet.code,
         book.about(node.id),
@@ -124,14 +119,9 @@ fn one_super<'b>(book: &'b Book<'_>, sheet: &mut Sheet<'b>, id: u64) {
         sheet.refuse("", "", why);
         return;
     };
-    let args = [
-        Arg::Text(named.name.as_str()),
-        Arg::Text(node.name()),
-        Arg::Text(named.word.as_str()),
-    ];
     sheet.cite(named, "Client");
     sheet.libraries.put("std::alloc::AllocError\n");
-    sheet.code.fill(AS, &args);
+    sheet.code.fill(AS, &named.args(node));
 }
 
 /// Writes the methods that make a call of a method.

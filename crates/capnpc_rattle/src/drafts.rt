@@ -194,31 +194,33 @@ fn slot_setter<'b>(
 /// Writes the signature and the clauses of a method that sets a field.
 fn head<'b>(out: &mut Out, part: &Part<'_>, field: &StructField, setter: &Setter<'b>) {
     let args = setter.args();
+    let shape = setter.shape();
     out.fill("    pub fn set_$0(&mut self, ", &[part.name(field)]);
-    out.put(setter.shape.takes);
-    out.fill(setter.of, &args);
-    out.put(setter.shape.opens);
+    out.put(shape.takes);
+    out.fill(setter.form.of, &args);
+    out.put(shape.opens);
     chosen(out, part, field);
-    out.fill(setter.shape.place, &args);
-    out.fill(setter.value, &args);
-    out.put(setter.shape.closes);
+    out.fill(shape.place, &args);
+    out.fill(setter.form.value, &args);
+    out.put(shape.closes);
     out.put("\n    {\n");
 }
 
 /// Writes the code of a method that sets a field. What may fail comes first.
 fn code<'b>(out: &mut Out, part: &Part<'_>, field: &StructField, setter: &Setter<'b>) {
     let args = setter.args();
+    let shape = setter.shape();
     // What may fail comes first, so that no member is chosen for nothing.
-    let is_first = setter.shape.fails && field.is_member();
+    let is_first = shape.fails && field.is_member();
     if is_first {
         out.put("        let whole = ");
-        out.fill(setter.code, &args);
+        out.fill(setter.form.code, &args);
         out.put(";\n");
     }
     choose(out, part, field);
-    out.fill(setter.shape.call, &args);
-    out.fill(if is_first { "whole" } else { setter.code }, &args);
-    out.put(setter.shape.end);
+    out.fill(shape.call, &args);
+    out.fill(if is_first { "whole" } else { setter.form.code }, &args);
+    out.put(shape.end);
 }
 
 /// Writes the line that chooses a field's member of the union, if it is one.

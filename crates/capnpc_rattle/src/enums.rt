@@ -152,21 +152,12 @@ fn type_of(book: &Book<'_>, sheet: &mut Sheet<'_>, values: &Values<'_>, args: &[
 fn functions(sheet: &mut Sheet<'_>, values: &Values<'_>, args: &[Arg<'_>]) {
     let code = &mut sheet.code;
     code.fill(OF, args);
-    for (i, item) in values.items.iter().enumerate() {
-        let args = [
-            Arg::Number(i as u64),
-            Arg::Pair(values.name.0, values.name.1),
-            Arg::Variant(item),
-        ];
-        code.fill("            $0 => $1::$2,\n", &args);
-    }
+    each_item(code, "            $0 => $1::$2,\n", values);
     code.fill(OTHERS, args);
 }
 
-/// Writes the function from values to numbers, and its definition.
-fn numbers(sheet: &mut Sheet<'_>, values: &Values<'_>, args: &[Arg<'_>]) {
-    sheet.code.fill(NUMBER, args);
-    sheet.specs.fill(NUMBER_OF, args);
+/// Adds a template for each value: of its number, the names as types, that of the value, and those in definitions.
+fn each_item<'v>(out: &mut Out, template: &str, values: &Values<'v>) {
     for (i, item) in values.items.iter().enumerate() {
         let args = [
             Arg::Number(i as u64),
@@ -174,10 +165,17 @@ fn numbers(sheet: &mut Sheet<'_>, values: &Values<'_>, args: &[Arg<'_>]) {
             Arg::Variant(item),
             Arg::Pair(values.word.0, values.word.1),
         ];
-        sheet.code.fill("            $1::$2 => $0,\n", &args);
-        sheet.specs.fill("$3_number $3s.$2 = $0\n", &args);
+        out.fill(template, &args);
     }
+}
+
+/// Writes the function from values to numbers, and its definition.
+fn numbers(sheet: &mut Sheet<'_>, values: &Values<'_>, args: &[Arg<'_>]) {
+    sheet.code.fill(NUMBER, args);
+    each_item(&mut sheet.code, "            $1::$2 => $0,\n", values);
     sheet.code.fill(NUMBERS, args);
+    sheet.specs.fill(NUMBER_OF, args);
+    each_item(&mut sheet.specs, "$3_number $3s.$2 = $0\n", values);
     sheet.specs.fill("$1_number ($1s.Unknown n) = n\n", args);
 }
 

@@ -11,11 +11,10 @@ use cp_tree::Tree;
 /// Clause and code come from one place, so no proof finds a wrong one: `nightly/fields` compares with the reference library.
 #[derive(Clone, Copy)]
 pub struct Getter<'b> {
+    /// Its value and the code.
+    pub form: &'static Form,
+    /// Its type.
     pub of: &'static str,
-    pub value: &'static str,
-    pub code: &'static str,
-    /// Whether it is a pointer that may be of another kind.
-    pub fails: bool,
     /// Whether it is a struct.
     pub is_struct: bool,
     name: &'b str,
@@ -34,7 +33,246 @@ pub struct Getter<'b> {
     field: &'b str,
 }
 
+/// The templates of a type.
+pub struct Form {
+    /// The type, where it is no list.
+    pub of: &'static str,
+    pub value: &'static str,
+    pub code: &'static str,
+    /// Whether it is a pointer that may be of another kind.
+    pub fails: bool,
+}
+
+/// A list.
+static LIST: Form = Form {
+    of: "",
+    value: "list_field sizes.$8 (pointee_of $0 $1)",
+    code: "self.body.list($1)",
+    fails: true,
+};
+
+/// A list with a default.
+static LIST_OR: Form = Form {
+    of: "",
+    value: "list_field sizes.$8 (or_default (pointee_of $0 $1) $2)",
+    code: "self.body.list_or($1, default)",
+    fails: true,
+};
+
+/// A number.
+static UNSIGNED: Form = Form {
+    of: "u$5",
+    value: "plain $0 $5 $1",
+    code: "self.body.u$5($1)",
+    fails: false,
+};
+
+/// A number with a default.
+static UNSIGNED_OR: Form = Form {
+    of: "u$5",
+    value: "uint $0 $5 $1 $2",
+    code: "self.body.u$5_or($1, $2)",
+    fails: false,
+};
+
+/// A signed number.
+static SIGNED: Form = Form {
+    of: "i$5",
+    value: "cast_signed w$5 (plain $0 $5 $1)",
+    code: "self.body.i$5($1)",
+    fails: false,
+};
+
+/// A signed number with a default.
+static SIGNED_OR: Form = Form {
+    of: "i$5",
+    value: "cast_signed w$5 (uint $0 $5 $1 $2)",
+    code: "self.body.i$5_or($1, $2)",
+    fails: false,
+};
+
+/// A floating-point number.
+static FLOAT: Form = Form {
+    of: "f$5",
+    value: "from_bits binary$5 (plain $0 $5 $1)",
+    code: "self.body.f$5($1)",
+    fails: false,
+};
+
+/// A floating-point number with a default.
+static FLOAT_OR: Form = Form {
+    of: "f$5",
+    value: "from_bits binary$5 (uint $0 $5 $1 $2)",
+    code: "self.body.f$5_or($1, $2)",
+    fails: false,
+};
+
+/// A bool.
+static BOOL: Form = Form {
+    of: "bool",
+    value: "flag $0 $1",
+    code: "self.body.bit($1)",
+    fails: false,
+};
+
+/// A bool that is true by default.
+static BOOL_OR: Form = Form {
+    of: "bool",
+    value: "not (flag $0 $1)",
+    code: "self.body.bit_or_true($1)",
+    fails: false,
+};
+
+/// A value of an enum.
+static ENUM: Form = Form {
+    of: "$3",
+    value: "$4_of (plain $0 16 $1)",
+    code: "$3::of(self.body.u16($1))",
+    fails: false,
+};
+
+/// A value of an enum with a default.
+static ENUM_OR: Form = Form {
+    of: "$3",
+    value: "$4_of (uint $0 16 $1 $2)",
+    code: "$3::of(self.body.u16_or($1, $2))",
+    fails: false,
+};
+
+/// A pointer of any kind.
+static POINTER: Form = Form {
+    of: "Pointee<'a>",
+    value: "pointee_of $0 $1",
+    code: "self.body.pointer($1)",
+    fails: false,
+};
+
+/// A pointer of any kind with a default.
+static POINTER_OR: Form = Form {
+    of: "Pointee<'a>",
+    value: "or_default (pointee_of $0 $1) $2",
+    code: "self.body.pointer_or($1, default)",
+    fails: false,
+};
+
+/// A text.
+static TEXT: Form = Form {
+    of: "TextView<'a>",
+    value: "text_field [] (pointee_of $0 $1)",
+    code: "self.body.text($1)",
+    fails: true,
+};
+
+/// A text with a default.
+static TEXT_OR: Form = Form {
+    of: "TextView<'a>",
+    value: "text_field ($8[]) (pointee_of $0 $1)",
+    code: "self.body.text_or($1, $9)",
+    fails: true,
+};
+
+/// Data.
+static DATA: Form = Form {
+    of: "DataView<'a>",
+    value: "data_field [] (pointee_of $0 $1)",
+    code: "self.body.data($1)",
+    fails: true,
+};
+
+/// Data with a default.
+static DATA_OR: Form = Form {
+    of: "DataView<'a>",
+    value: "data_field ($8[]) (pointee_of $0 $1)",
+    code: "self.body.data_or($1, $9)",
+    fails: true,
+};
+
+/// A capability.
+static CAP: Form = Form {
+    of: "Option<u32>",
+    value: "cap_field (pointee_of $0 $1)",
+    code: "self.body.cap($1)",
+    fails: true,
+};
+
+/// A struct.
+static BODY: Form = Form {
+    of: "$3View<'a>",
+    value: "struct_field (pointee_of $0 $1)",
+    code: "Ok($3View {\n            body: self.body.structure($1)?,\n        })",
+    fails: true,
+};
+
+/// A struct with a default.
+static BODY_OR: Form = Form {
+    of: "$3View<'a>",
+    value: "struct_field (or_default (pointee_of $0 $1) $2)",
+    code: "Ok($3View {\n            body: self.body.structure_or($1, default)?,\n        })",
+    fails: true,
+};
+
+/// What the getters of a kind of field have around the parts of their own: the type, the value as a definition says, and the code.
+pub struct Shape {
+    pub opens: &'static str,
+    pub clause: &'static str,
+    pub closes: &'static str,
+}
+
+/// A value that is there.
+static SURE: Shape = Shape {
+    opens: "    pub fn $0(&self) -> ",
+    clause: "\n        ensures { result ≡ ",
+    closes: " }\n    {\n        ",
+};
+
+/// The same with a default.
+static SURE_OR: Shape = Shape {
+    opens: "    pub fn $0(&self) -> ",
+    clause: "\n        ensures { result ≡ ",
+    closes: " }\n    {\n        let default = $2();\n        ",
+};
+
+/// A pointer that may be of another kind.
+static UNSURE: Shape = Shape {
+    opens: "    pub fn $0(&self) -> Result<",
+    clause: ", WrongKind>\n        ensures { result ≡ ",
+    closes: " }\n    {\n        ",
+};
+
+/// The same with a default.
+static UNSURE_OR: Shape = Shape {
+    opens: "    pub fn $0(&self) -> Result<",
+    clause: ", WrongKind>\n        ensures { result ≡ ",
+    closes: " }\n    {\n        let default = $2();\n        ",
+};
+
+/// A struct.
+static STRUCT: Shape = Shape {
+    opens: "    pub fn $0(&self) -> Result<",
+    clause: ", WrongKind>\n        ensures { Reads result (λ x. x.body) (",
+    closes: ") }\n    {\n        ",
+};
+
+/// The same with a default.
+static STRUCT_OR: Shape = Shape {
+    opens: "    pub fn $0(&self) -> Result<",
+    clause: ", WrongKind>\n        ensures { Reads result (λ x. x.body) (",
+    closes: ") }\n    {\n        let default = $2();\n        ",
+};
+
 impl<'b> Getter<'b> {
+    /// What its method has around the parts of its own.
+    pub fn shape(&self) -> &'static Shape {
+        match (self.form.fails, self.is_struct, self.tree.is_some()) {
+            (false, _, false) => &SURE,
+            (false, _, true) => &SURE_OR,
+            (true, false, false) => &UNSURE,
+            (true, false, true) => &UNSURE_OR,
+            (true, true, false) => &STRUCT,
+            (true, true, true) => &STRUCT_OR,
+        }
+    }
+
     /// What stands for the places of its templates, where definitions call the struct `body`.
     pub fn args(&self, body: &'b str) -> [Arg<'b>; 10] {
         let (bytes, literal) = match self.text {
@@ -60,35 +298,6 @@ impl<'b> Getter<'b> {
     }
 }
 
-/// The templates of a type.
-#[derive(Clone, Copy)]
-struct Form {
-    of: &'static str,
-    value: &'static str,
-    code: &'static str,
-    fails: bool,
-}
-
-/// The templates of what can't fail.
-fn sure(of: &'static str, value: &'static str, code: &'static str) -> Form {
-    Form {
-        of,
-        value,
-        code,
-        fails: false,
-    }
-}
-
-/// The templates of a pointer that may be of another kind.
-fn unsure(of: &'static str, value: &'static str, code: &'static str) -> Form {
-    Form {
-        of,
-        value,
-        code,
-        fails: true,
-    }
-}
-
 /// How a field is read; `Err` says why it can't be written.
 pub fn read_of<'b>(
     book: &'b Book<'_>,
@@ -99,10 +308,12 @@ pub fn read_of<'b>(
     let (name, word) = names_in(book, slot.of.of)?;
     let form = form_of(slot);
     Ok(Getter {
-        of: form.of,
-        value: form.value,
-        code: form.code,
-        fails: form.fails,
+        form,
+        of: if slot.of.lists > 0 {
+            list_of(slot.of.of)
+        } else {
+            form.of
+        },
         is_struct: slot.of.lists == 0 && matches!(slot.of.of, Base::Struct(_)),
         name,
         word,
@@ -142,22 +353,10 @@ pub fn names_in<'b>(book: &'b Book<'_>, of: Base) -> Result<(&'b str, &'b str), 
 }
 
 /// The templates of a field.
-fn form_of(slot: &Slot) -> Form {
-    if slot.of.lists > 0 && slot.points {
-        return unsure(
-            list_of(slot.of.of),
-            "list_field sizes.$8 (or_default (pointee_of $0 $1) $2)",
-            "self.body.list_or($1, default)",
-        );
-    }
+fn form_of(slot: &Slot) -> &'static Form {
     if slot.of.lists > 0 {
-        return unsure(
-            list_of(slot.of.of),
-            "list_field sizes.$8 (pointee_of $0 $1)",
-            "self.body.list($1)",
-        );
-    }
-    if slot.default == 0 && !slot.points {
+        if slot.points { &LIST_OR } else { &LIST }
+    } else if slot.default == 0 && !slot.points {
         plain(slot.of.of)
     } else {
         with_default(slot.of.of)
@@ -165,94 +364,33 @@ fn form_of(slot: &Slot) -> Form {
 }
 
 /// The templates of a field without a default.
-fn plain(of: Base) -> Form {
+fn plain(of: Base) -> &'static Form {
     match of {
-        Base::Unsigned(_) => sure("u$5", "plain $0 $5 $1", "self.body.u$5($1)"),
-        Base::Signed(_) => sure(
-            "i$5",
-            "cast_signed w$5 (plain $0 $5 $1)",
-            "self.body.i$5($1)",
-        ),
-        Base::Float(_) => sure(
-            "f$5",
-            "from_bits binary$5 (plain $0 $5 $1)",
-            "self.body.f$5($1)",
-        ),
-        Base::Bool => sure("bool", "flag $0 $1", "self.body.bit($1)"),
-        Base::Enum(_) => sure("$3", "$4_of (plain $0 16 $1)", "$3::of(self.body.u16($1))"),
-        Base::Void | Base::AnyPointer => {
-            sure("Pointee<'a>", "pointee_of $0 $1", "self.body.pointer($1)")
-        }
-        _ => pointer(of),
-    }
-}
-
-/// The templates of a pointer of a known kind.
-fn pointer(of: Base) -> Form {
-    match of {
-        Base::Text => unsure(
-            "TextView<'a>",
-            "text_field [] (pointee_of $0 $1)",
-            "self.body.text($1)",
-        ),
-        Base::Data => unsure(
-            "DataView<'a>",
-            "data_field [] (pointee_of $0 $1)",
-            "self.body.data($1)",
-        ),
-        Base::Interface(_) => unsure(
-            "Option<u32>",
-            "cap_field (pointee_of $0 $1)",
-            "self.body.cap($1)",
-        ),
-        _ => unsure(
-            "$3View<'a>",
-            "struct_field (pointee_of $0 $1)",
-            "Ok($3View {\n            body: self.body.structure($1)?,\n        })",
-        ),
+        Base::Unsigned(_) => &UNSIGNED,
+        Base::Signed(_) => &SIGNED,
+        Base::Float(_) => &FLOAT,
+        Base::Bool => &BOOL,
+        Base::Enum(_) => &ENUM,
+        Base::Void | Base::AnyPointer => &POINTER,
+        Base::Text => &TEXT,
+        Base::Data => &DATA,
+        Base::Interface(_) => &CAP,
+        Base::Struct(_) => &BODY,
     }
 }
 
 /// The templates of a field with a default that isn't a list.
-fn with_default(of: Base) -> Form {
+fn with_default(of: Base) -> &'static Form {
     match of {
-        Base::Unsigned(_) => sure("u$5", "uint $0 $5 $1 $2", "self.body.u$5_or($1, $2)"),
-        Base::Signed(_) => sure(
-            "i$5",
-            "cast_signed w$5 (uint $0 $5 $1 $2)",
-            "self.body.i$5_or($1, $2)",
-        ),
-        Base::Float(_) => sure(
-            "f$5",
-            "from_bits binary$5 (uint $0 $5 $1 $2)",
-            "self.body.f$5_or($1, $2)",
-        ),
-        Base::Bool => sure("bool", "not (flag $0 $1)", "self.body.bit_or_true($1)"),
-        Base::Enum(_) => sure(
-            "$3",
-            "$4_of (uint $0 16 $1 $2)",
-            "$3::of(self.body.u16_or($1, $2))",
-        ),
-        Base::Text => unsure(
-            "TextView<'a>",
-            "text_field ($8[]) (pointee_of $0 $1)",
-            "self.body.text_or($1, $9)",
-        ),
-        Base::Data => unsure(
-            "DataView<'a>",
-            "data_field ($8[]) (pointee_of $0 $1)",
-            "self.body.data_or($1, $9)",
-        ),
-        Base::Struct(_) => unsure(
-            "$3View<'a>",
-            "struct_field (or_default (pointee_of $0 $1) $2)",
-            "Ok($3View {\n            body: self.body.structure_or($1, default)?,\n        })",
-        ),
-        Base::AnyPointer => sure(
-            "Pointee<'a>",
-            "or_default (pointee_of $0 $1) $2",
-            "self.body.pointer_or($1, default)",
-        ),
+        Base::Unsigned(_) => &UNSIGNED_OR,
+        Base::Signed(_) => &SIGNED_OR,
+        Base::Float(_) => &FLOAT_OR,
+        Base::Bool => &BOOL_OR,
+        Base::Enum(_) => &ENUM_OR,
+        Base::Text => &TEXT_OR,
+        Base::Data => &DATA_OR,
+        Base::Struct(_) => &BODY_OR,
+        Base::AnyPointer => &POINTER_OR,
         _ => plain(of),
     }
 }

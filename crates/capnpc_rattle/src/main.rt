@@ -106,14 +106,21 @@ impl Task {
             interfaces: false,
             prints: false,
         };
-        task.take_all(rt)?;
-        Ok(task)
+        match task.take_all(rt) {
+            Ok(()) => Ok(task),
+            Err(error) => {
+                drop(task);
+                Err(error)
+            }
+        }
     }
 
     /// Takes in what the arguments say.
     fn take_all(&mut self, rt: &HostRuntime) -> anyhow::Result<()> {
         for word in env::args(rt)?.skip(1) {
-            self.take(word.as_str())?;
+            let taken = self.take(word.as_str());
+            drop(word);
+            taken?;
         }
         Ok(())
     }
@@ -154,24 +161,36 @@ impl Task {
         }
     }
 
-    /// Writes or prints a file of a crate. Its path is a template of the crate's name and that of the module.
-    fn put(&self, rt: &HostRuntime, (krate, path): (&str, &str), text: &Out) -> anyhow::Result<()> {
+    /// Writes or prints a file of a crate, by its path in the crate's folder.
+    fn put(&self, rt: &HostRuntime, path: (&str, &str), text: Out) -> anyhow::Result<()> {
+        let put = self.put_text(rt, path, &text);
+        drop(text);
+        put
+    }
+
+    /// Writes or prints this text.
+    fn put_text(
+        &self,
+        rt: &HostRuntime,
+        (krate, path): (&str, &str),
+        text: &Out,
+    ) -> anyhow::Result<()> {
         if text.is_full {
             bail!("memory ran out");
         }
-        if self.prints {
-            print!(rt; "==> {krate}/{path}\n{}", text.as_str())?;
-        } else {
-            let path = format!(in rt.alloc(); "{krate}/{path}")?;
-            fs::write(rt, path.as_str(), text.as_str())?;
+        if !self.prints {
+            return write_file(rt, (krate, path), text.as_str());
         }
+        print!(rt; "==> {krate}/{path}\n{}", text.as_str())?;
         Ok(())
     }
 
     /// Writes or prints the code of a module.
     fn put_code(&self, rt: &HostRuntime, of: &File<'_>, sheet: &Sheet<'_>) -> anyhow::Result<()> {
         let path = Out::of(rt.alloc(), "src/$0.rt", &[Arg::Text(sheet.module)]);
-        self.put(rt, (of.krate, path.as_str()), &sheet.module_text(of.schema))
+        let put = self.put(rt, (of.krate, path.as_str()), sheet.module_text(of.schema));
+        drop(path);
+        put
     }
 
     /// Writes or prints the definitions of a module, if it has some.
@@ -180,7 +199,9 @@ impl Task {
             return Ok(());
         }
         let path = Out::of(rt.alloc(), "specs/$0.antt", &[Arg::Module(sheet.module)]);
-        self.put(rt, (of.krate, path.as_str()), &sheet.specs_text(of.schema))
+        let put = self.put(rt, (of.krate, path.as_str()), sheet.specs_text(of.schema));
+        drop(path);
+        put
     }
 
     /// Makes a folder of the crate, unless its files are printed.
@@ -218,17 +239,26 @@ impl Task {
         book: &Book<'_>,
         sheets: &[Sheet<'_>],
     ) -> anyhow::Result<()> {
-        self.put(
-            rt,
-            (of.krate, "src/lib.rt"),
-            &root_text(book, sheets, of.schema),
-        )?;
-        self.put(rt, (of.krate, "specs/Lib.antt"), &specs_root(book, sheets))?;
-        if !self.prints {
-            print!(rt; "{}", line_of(book, sheets, of.krate).as_str())?;
+        let text = root_text(book, sheets, of.schema);
+        self.put(rt, (of.krate, "src/lib.rt"), text)?;
+        let text = specs_root(book, sheets);
+        self.put(rt, (of.krate, "specs/Lib.antt"), text)?;
+        if self.prints {
+            return Ok(());
         }
-        Ok(())
+        let line = line_of(book, sheets, of.krate);
+        let printed = print!(rt; "{}", line.as_str());
+        drop(line);
+        Ok(printed?)
     }
+}
+
+/// Writes a file of a crate.
+fn write_file(rt: &HostRuntime, (krate, path): (&str, &str), text: &str) -> anyhow::Result<()> {
+    let path = format!(in rt.alloc(); "{krate}/{path}")?;
+    let written = fs::write(rt, path.as_str(), text);
+    drop(path);
+    Ok(written?)
 }
 
 /// What a crate is made of.
@@ -243,22 +273,32 @@ struct File<'f> {
 /// Makes the crate of a file.
 fn make_crate(rt: &HostRuntime, task: &Task, schema: &Schema, file: &Node) -> anyhow::Result<()> {
     let name = crate_name(rt.alloc(), file.path(), task.krate.as_str());
-    let of = (file.path(), name.as_str());
-    let book = Book::of(rt.alloc(), schema, of, task.scope())?;
-    put_crate(rt, task, &book, file.path(), name.as_str())
+    let put = put_crate(rt, task, schema, file.path(), name.as_str());
+    drop(name);
+    put
 }
 
 /// Writes or prints the crate of the file of this path.
 fn put_crate<'n>(
     rt: &HostRuntime,
     task: &Task,
-    book: &Book<'_>,
+    schema: &Schema,
     path: &'n str,
     krate: &'n str,
 ) -> anyhow::Result<()> {
-    let sheets = sheets(book, krate)?;
+    let book = Book::of(rt.alloc(), schema, (path, krate), task.scope())?;
     let schema = file_name(path);
-    put_sheets(rt, task, book, &File { krate, schema }, sheets.as_slice())
+    let put = put_book(rt, task, &book, &File { krate, schema });
+    drop(book);
+    put
+}
+
+/// Writes or prints a crate of these types and constants.
+fn put_book(rt: &HostRuntime, task: &Task, book: &Book<'_>, of: &File<'_>) -> anyhow::Result<()> {
+    let sheets = sheets(book, of.krate)?;
+    let put = put_sheets(rt, task, book, of, sheets.as_slice());
+    drop(sheets);
+    put
 }
 
 /// Writes or prints a crate of these modules.
@@ -285,7 +325,9 @@ fn check(sheets: &[Sheet<'_>]) -> anyhow::Result<()> {
             bail!("memory ran out");
         }
         if let Some(name) = found_twice(sheet) {
-            bail!("{}: two things are called {}", sheet.module, name.as_str());
+            let fault = anyhow!("{}: two things are called {}", sheet.module, name.as_str());
+            drop(name);
+            return Err(fault);
         }
     }
     match name_twice(sheets) {
@@ -308,13 +350,34 @@ fn answer(rt: &HostRuntime, task: &Task, schema: &Schema) -> anyhow::Result<()> 
     Ok(())
 }
 
-fn main(rt: HostRuntime) -> anyhow::Result<()> {
-    let task = Task::new(&rt)?;
+/// The request that standard input has.
+fn request(rt: &HostRuntime) -> anyhow::Result<Schema> {
+    let mut bytes = Vec::new(rt.alloc());
+    let schema = read_request(rt, &mut bytes);
+    drop(bytes);
+    schema
+}
+
+fn read_request(rt: &HostRuntime, bytes: &mut Vec<u8>) -> anyhow::Result<Schema> {
+    rt.stdin().read_to_end(bytes)?;
+    Ok(Schema::read(rt.alloc(), bytes)?)
+}
+
+/// Does what the arguments say.
+fn act(rt: &HostRuntime, task: &Task) -> anyhow::Result<()> {
     if task.helps {
         print!(rt; "{USAGE}")?;
         return Ok(());
     }
-    let mut bytes = Vec::new(rt.alloc());
-    rt.stdin().read_to_end(&mut bytes)?;
-    answer(&rt, &task, &Schema::read(rt.alloc(), &bytes)?)
+    let schema = request(rt)?;
+    let answered = answer(rt, task, &schema);
+    drop(schema);
+    answered
+}
+
+fn main(rt: HostRuntime) -> anyhow::Result<()> {
+    let task = Task::new(&rt)?;
+    let done = act(&rt, &task);
+    drop(task);
+    done
 }

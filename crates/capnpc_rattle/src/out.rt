@@ -334,17 +334,19 @@ impl Out {
 
 /// The name that a path ends with.
 pub fn name_of(path: &str) -> &str {
-    match path.rsplit_once("::") {
-        Some((_, name)) => name,
-        None => path,
-    }
+    after_last(path, "::")
 }
 
 /// The name of a file without its folders.
 pub fn file_name(path: &str) -> &str {
-    match path.rsplit_once('/') {
-        Some((_, name)) => name,
-        None => path,
+    after_last(path, "/")
+}
+
+/// What a text has after the last of these marks, or all of it.
+fn after_last<'t>(text: &'t str, mark: &str) -> &'t str {
+    match text.rsplit_once(mark) {
+        Some((_, rest)) => rest,
+        None => text,
     }
 }
 

@@ -23,7 +23,25 @@ cp_tables
 
 /// The modules of a crate, in the order of their names.
 pub fn sheets<'b>(book: &'b Book<'_>, krate: &'b str) -> Result<Vec<Sheet<'b>>, AllocError> {
-    let mut modules = Vec::new(book.alloc);
+    let (mut modules, mut sheets) = (Vec::new(book.alloc), Vec::new(book.alloc));
+    let pushed = push_sheets(book, krate, &mut modules, &mut sheets);
+    drop(modules);
+    match pushed {
+        Ok(()) => Ok(sheets),
+        Err(error) => {
+            drop(sheets);
+            Err(error)
+        }
+    }
+}
+
+/// Adds the names of a crate's modules in order, and the modules.
+fn push_sheets<'b>(
+    book: &'b Book<'_>,
+    krate: &'b str,
+    modules: &mut Vec<&'b str>,
+    sheets: &mut Vec<Sheet<'b>>,
+) -> Result<(), AllocError> {
     for named in &book.names {
         if named.is_written && named.krate.as_str() == krate {
             modules.push(named.module.as_str())?;
@@ -32,11 +50,10 @@ pub fn sheets<'b>(book: &'b Book<'_>, krate: &'b str) -> Result<Vec<Sheet<'b>>, 
     modules.sort()?;
     // A struct's module has its groups too.
     modules.dedup();
-    let mut sheets = Vec::new(book.alloc);
-    for module in &modules {
+    for module in modules.iter() {
         sheets.push(sheet_of(book, module, krate))?;
     }
-    Ok(sheets)
+    Ok(())
 }
 
 /// What a module is.

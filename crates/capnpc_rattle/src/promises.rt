@@ -89,7 +89,7 @@ pub fn promise<'b>(
     named: &'b Named,
     of: &'b Structure,
 ) {
-    let args = [Arg::Text(named.name.as_str()), Arg::Text(node.name())];
+    let args = named.args(node);
     sheet.code.fill(RESULTS, &args);
     sheet.libraries.put(CITED);
     sheet.export("$0Promise", &args);

@@ -10,23 +10,32 @@ pub struct Line {
     pub supers: Vec<u64>,
 }
 
-/// The interfaces of a schema with all that they extend.
-pub fn lines(alloc: Global, schema: &Schema) -> Result<Vec<Line>, AllocError> {
-    let mut lines = Vec::new(alloc);
+/// Adds the interfaces of a schema with all that they extend.
+pub fn push_lines(alloc: Global, schema: &Schema, lines: &mut Vec<Line>) -> Result<(), AllocError> {
     for node in &schema.nodes {
         if let NodeKind::Interface(of) = &node.kind {
-            lines.push(Line {
-                id: node.id,
-                supers: all_supers(alloc, schema, of.supers.as_slice())?,
-            })?;
+            let supers = all_supers(alloc, schema, of.supers.as_slice())?;
+            let id = node.id;
+            lines.push(Line { id, supers })?;
         }
     }
-    Ok(lines)
+    Ok(())
 }
 
 /// These interfaces, and all that they extend, each once.
 fn all_supers(alloc: Global, schema: &Schema, first: &[u64]) -> Result<Vec<u64>, AllocError> {
     let mut all = Vec::from_slice(alloc, first)?;
+    match push_supers(schema, &mut all) {
+        Ok(()) => Ok(all),
+        Err(error) => {
+            drop(all);
+            Err(error)
+        }
+    }
+}
+
+/// Adds all that interfaces extend and that isn't there yet.
+fn push_supers(schema: &Schema, all: &mut Vec<u64>) -> Result<(), AllocError> {
     // No more interfaces than nodes, which bounds the walk.
     for i in 0..schema.nodes.len() {
         let Some(id) = all.get(i).copied() else {
@@ -38,7 +47,7 @@ fn all_supers(alloc: Global, schema: &Schema, first: &[u64]) -> Result<Vec<u64>,
             }
         }
     }
-    Ok(all)
+    Ok(())
 }
 
 /// The interfaces that the interface of this number extends itself.
@@ -52,10 +61,9 @@ fn supers_of(schema: &Schema, id: u64) -> &[u64] {
     }
 }
 
-/// The structs and groups of a schema that can name a capability: by a field of their own, or by a struct, a group or a list
+/// Adds the structs and groups of a schema that can name a capability: by a field of their own, or by a struct, a group or a list
 /// in them.
-pub fn naming(alloc: Global, schema: &Schema) -> Result<Vec<u64>, AllocError> {
-    let mut found: Vec<u64> = Vec::new(alloc);
+pub fn push_naming(schema: &Schema, found: &mut Vec<u64>) -> Result<(), AllocError> {
     // Each round finds one more, or is the last.
     for _ in 0..schema.nodes.len() {
         let before = found.len();
@@ -68,7 +76,7 @@ pub fn naming(alloc: Global, schema: &Schema) -> Result<Vec<u64>, AllocError> {
             break;
         }
     }
-    Ok(found)
+    Ok(())
 }
 
 /// Whether a node has a field that can name a capability, where these structs and groups can.

@@ -96,11 +96,7 @@ pub fn server<'b>(
     let Some((node, named)) = family.first() else {
         return;
     };
-    let args = [
-        Arg::Text(named.name.as_str()),
-        Arg::Text(node.name()),
-        Arg::Text(named.word.as_str()),
-    ];
+    let args = named.args(node);
     sheet.code.fill(TRAIT, &args);
     supers(book, sheet, of);
     sheet.code.fill(TRAIT_KIND, &args);

@@ -246,27 +246,13 @@ fn slot_method<'b>(
 /// Writes a method that reads a field, but its comment.
 fn getter_method(code: &mut Out, name: &str, getter: &Getter<'_>) {
     let args = getter.args("self.now.body");
-    code.fill("    pub fn $0(&self) -> ", &[Arg::Method(name)]);
-    code.put(if getter.fails { "Result<" } else { "" });
+    let shape = getter.shape();
+    code.fill(shape.opens, &[Arg::Method(name)]);
     code.fill(getter.of, &args);
-    code.put(if getter.fails { ", WrongKind>" } else { "" });
-    code.put("\n        ensures { ");
-    code.put(if getter.is_struct {
-        "Reads result (λ x. x.body) ("
-    } else {
-        "result ≡ "
-    });
-    code.fill(getter.value, &args);
-    code.put(if getter.is_struct {
-        ") }\n    {\n"
-    } else {
-        " }\n    {\n"
-    });
-    if getter.tree.is_some() {
-        code.fill("        let default = $2();\n", &args);
-    }
-    code.put("        ");
-    code.fill(getter.code, &args);
+    code.put(shape.clause);
+    code.fill(getter.form.value, &args);
+    code.fill(shape.closes, &args);
+    code.fill(getter.form.code, &args);
     code.put("\n    }\n");
 }
 

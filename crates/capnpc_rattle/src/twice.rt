@@ -1,6 +1,6 @@
 //! Names that a module would have twice, for which nothing is written.
 
-use crate::out::{Arg, Out, name_of};
+use crate::out::{Arg, Out, before, name_of};
 use crate::sheet::Sheet;
 
 /// What ends a type, its methods, or a function.
@@ -23,12 +23,7 @@ pub fn found_twice(sheet: &Sheet<'_>) -> Option<Out> {
 fn name_in<'l>(line: &'l str, blanks: &str) -> Option<&'l str> {
     let line = line.strip_prefix(blanks)?;
     let line = line.strip_prefix("pub ").unwrap_or(line);
-    line.strip_prefix("fn ")?.split(is_end).next()
-}
-
-/// Whether a character ends a function's name.
-fn is_end(c: char) -> bool {
-    c == '(' || c == '<'
+    Some(before(before(line.strip_prefix("fn ")?, '('), '<'))
 }
 
 /// The number of functions of a name among these lines.

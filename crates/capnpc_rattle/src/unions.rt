@@ -3,7 +3,7 @@
 use crate::book::{Book, Named};
 use crate::enums::{Values, enumeration};
 use crate::getters::{Getter, node_in, read_of};
-use crate::out::Arg;
+use crate::out::{Arg, Out};
 use crate::sheet::Sheet;
 use crate::structs::is_void;
 use cp_schema::{Base, FieldKind, Node, StructField, Structure};
@@ -52,6 +52,32 @@ enum Held<'b> {
     /// A group, whose type has this name.
     Group(&'b str),
     Slot(Getter<'b>),
+}
+
+impl Held<'_> {
+    /// The arm of such a member where the one that is set is read, a template of the type, the variant and the method.
+    fn arm(&self) -> &'static str {
+        match self {
+            Held::Nothing => "            $0Which::$1 => $0Member::$1,\n",
+            Held::Slot(getter) if getter.form.fails => {
+                "            $0Which::$1 => $0Member::$1(self.$2()?),\n"
+            }
+            _ => "            $0Which::$1 => $0Member::$1(self.$2()),\n",
+        }
+    }
+
+    /// Writes what the variant of such a member holds.
+    fn put_type(&self, code: &mut Out) {
+        match self {
+            Held::Nothing => {}
+            Held::Group(group) => code.fill("($0View<'a>)", &[Arg::Text(group)]),
+            Held::Slot(getter) => {
+                code.put("(");
+                code.fill(getter.of, &getter.args("t"));
+                code.put(")");
+            }
+        }
+    }
 }
 
 /// The fields of a union, in the order of their numbers.
@@ -121,23 +147,25 @@ fn member_method<'b>(
     ];
     sheet.code.fill(METHOD, &args);
     for member in members {
-        let end = match held_by(book, named, member) {
-            Held::Nothing => ",\n",
-            Held::Slot(getter) if getter.fails => "(self.$2()?),\n",
-            _ => "(self.$2()),\n",
-        };
-        let name = member.name.as_str();
-        let args = [
-            Arg::Text(named.name.as_str()),
-            Arg::Variant(name),
-            Arg::Method(name),
-        ];
-        sheet
-            .code
-            .fill("            $0Which::$1 => $0Member::$1", &args);
-        sheet.code.fill(end, &args);
+        member_arm(
+            &mut sheet.code,
+            named,
+            member,
+            &held_by(book, named, member),
+        );
     }
     sheet.code.fill(METHOD_END, &args);
+}
+
+/// Writes the arm of a member in that method.
+fn member_arm<'b>(code: &mut Out, named: &'b Named, member: &'b StructField, held: &Held<'_>) {
+    let name = member.name.as_str();
+    let args = [
+        Arg::Text(named.name.as_str()),
+        Arg::Variant(name),
+        Arg::Method(name),
+    ];
+    code.fill(held.arm(), &args);
 }
 
 /// Writes the types of a union: its numbers, and its members with what they hold.
@@ -205,20 +233,16 @@ fn member_type<'b>(
     sheet.export("$0Member", &args);
     sheet.code.fill(MEMBER, &args);
     for member in members {
-        let code = &mut sheet.code;
-        code.fill("    $0", &[Arg::Variant(member.name.as_str())]);
-        match held_by(book, named, member) {
-            Held::Nothing => {}
-            Held::Group(group) => code.fill("($0View<'a>)", &[Arg::Text(group)]),
-            Held::Slot(getter) => {
-                code.put("(");
-                code.fill(getter.of, &getter.args("t"));
-                code.put(")");
-            }
-        }
-        code.put(",\n");
+        variant(&mut sheet.code, member, &held_by(book, named, member));
     }
     sheet.code.fill(LAST, &args);
+}
+
+/// Writes the variant of a member.
+fn variant(code: &mut Out, member: &StructField, held: &Held<'_>) {
+    code.fill("    $0", &[Arg::Variant(member.name.as_str())]);
+    held.put_type(code);
+    code.put(",\n");
 }
 
 /// Writes the definitions of the member that is set.
@@ -260,15 +284,15 @@ fn member_spec<'b>(
             specs.fill(
                 if getter.is_struct {
                     "held (λ b. $0_members.$1 (record { body = b })) ("
-                } else if getter.fails {
+                } else if getter.form.fails {
                     "held $0_members.$1 ("
                 } else {
                     "Ok ($0_members.$1 ("
                 },
                 &args,
             );
-            specs.fill(getter.value, &getter.args("t"));
-            specs.put(if getter.fails { ")\n" } else { "))\n" });
+            specs.fill(getter.form.value, &getter.args("t"));
+            specs.put(if getter.form.fails { ")\n" } else { "))\n" });
         }
     }
     import_type(book, sheet, member);
