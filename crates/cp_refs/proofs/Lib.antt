@@ -3,3 +3,5 @@ pub mod Walks
 pub mod TicketLemmas
 pub mod Queueing
 pub mod Keeping
+pub mod Measuring
+pub mod Sums

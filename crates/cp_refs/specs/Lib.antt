@@ -8,3 +8,6 @@ pub mod Paces
 pub mod Tickets
 pub mod Queues
 pub mod Waiting
+pub mod Memory
+pub mod Contents
+pub mod Bytes

@@ -2,16 +2,18 @@
 
 ghost use Rattle.std.specs.Prelude.{◌≡◌, IfOk};
 ghost use Rattle.cp_tree.specs.NodeOf.{node_of};
-ghost use Rattle.cp_refs.specs.Kept.{GiveSame, IsKeptOf, part_at, table_in};
+ghost use Rattle.cp_refs.specs.Kept.{GiveSame, IsKeptOf, kept_tree, part_at, part_memory, table_in};
+ghost use Rattle.cp_refs.specs.Memory.{counted};
 ghost use Rattle.cp_refs.specs.Steps.{IsStepOf};
 
 use crate::cap::{Cap, Caps};
+use crate::memory::{caps_memory, exception_memory, tree_memory};
 use crate::outcome::{Outcome, cap_along, failed, null_capability};
 use crate::pointers::pointers_of;
 use crate::route::Route;
 use crate::values::Step;
 use cp_messages::Exception;
-use cp_tree::{Tree, Whole};
+use cp_tree::{Tree, TreeRef, Whole};
 use std::alloc::{AllocError, Global};
 use std::marker::Model;
 use std::snapshot::Snapshot;
@@ -53,7 +55,8 @@ impl Model for KeptOutcome {
 impl KeptOutcome {
     ghost use Rattle.std.specs.Prelude.{◌≡◌, IfOk};
     ghost use Rattle.cp_refs.specs.At.{cap_at};
-    ghost use Rattle.cp_refs.specs.Kept.{table_of};
+    ghost use Rattle.cp_refs.specs.Kept.{kept_memory, table_of};
+    ghost use Rattle.cp_refs.specs.Memory.{counted};
     ghost use Rattle.cp_refs.specs.Steps.{IsStepOf};
 
     /// What is to be kept of an outcome. Its data isn't copied.
@@ -78,6 +81,13 @@ impl KeptOutcome {
         ensures { IfOk result (λ c. c ≡ cap_at self.now path.now) }
     {
         part_at(alloc, &self.part, path)
+    }
+
+    /// The bytes of memory that it takes.
+    pub fn memory(&self) -> u64
+        ensures { result ≡ counted (kept_memory self.now) }
+    {
+        part_memory(&self.part)
     }
 
     /// The step of what it gives at a path.
@@ -112,13 +122,26 @@ fn part_of(alloc: Global, outcome: &Outcome) -> Result<Reachable, AllocError>
 
 /// The pointers of a content. Where there are no capabilities it isn't looked at.
 fn pointers_in(alloc: Global, content: &Whole, caps: &Caps) -> Result<Tree, AllocError>
-    ensures { IfOk result (λ t. GiveSame caps.now (node_of t) content.now) }
+    ensures gives { IfOk result (λ t. GiveSame caps.now (node_of t) content.now) }
+    ensures kept { IfOk result (λ t. node_of t ≡ kept_tree caps.now content.now) }
 {
     if caps.caps().is_empty() {
         return Ok(Tree::Null);
     }
     let pointers = pointers_of(alloc, content.tree())?;
     Ok(pointers)
+}
+
+fn part_memory(part: &Reachable) -> u64
+    ensures { result ≡ counted (part_memory part.now) }
+{
+    match part {
+        Reachable::Results { pointers, caps } => {
+            tree_memory(TreeRef::Tree(pointers)).saturating_add(caps_memory(caps))
+        }
+        Reachable::Failed(exception) => exception_memory(exception),
+        Reachable::Canceled => 0,
+    }
 }
 
 fn table_in(part: &Reachable) -> &[Cap]

@@ -8,3 +8,4 @@ pub mod Times
 pub mod Lent
 pub mod VatRuns
 pub mod Bridging
+pub mod Untaken

@@ -8,3 +8,4 @@ pub mod Answering
 pub mod Lending
 pub mod Serving
 pub mod Bridging
+pub mod Results

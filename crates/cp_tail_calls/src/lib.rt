@@ -8,6 +8,7 @@ mod lending;
 mod owed;
 mod progress;
 mod receiving;
+mod results;
 mod seen;
 mod sending;
 mod tail_calls;

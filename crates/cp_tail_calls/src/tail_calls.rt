@@ -4,7 +4,8 @@ use crate::behind::OrdinaryVat;
 use crate::lending::lend_each;
 use crate::owed::{Owed, Trigger};
 use crate::progress::Progress;
-use cp_messages::{Message, Return, Returned};
+use crate::results::UntakenResults;
+use cp_messages::{Message, Returned};
 use cp_rpc::{MessageIn, MessageView};
 use cp_tables::{Entries, Stage};
 use std::alloc::{AllocError, Global};
@@ -41,7 +42,7 @@ pub struct TailCalls {
     /// The peer's calls with results to itself, by their questions, each until it is finished.
     pub(crate) calls: Entries<Progress>,
     /// Results of such calls that no question took yet.
-    pub(crate) results: Entries<Return>,
+    pub(crate) results: UntakenResults,
     /// The questions of this end that take results which aren't there yet, each with the call whose results it takes.
     pub(crate) takers: Entries<u32>,
     /// How many more the vat counts of an import than the peer does.
@@ -82,6 +83,7 @@ impl TailCalls {
     ghost use Rattle.cp_rpc.specs.Viewed.{viewed};
     ghost use Rattle.cp_tail_calls.specs.Tails.{none};
     ghost use Rattle.cp_tail_calls.specs.Receiving.{received, with_owed};
+    ghost use Rattle.cp_tail_calls.specs.Results.{returns_memory};
     ghost use Rattle.cp_tail_calls.specs.Sending.{lent_with, next_of, sent};
 
     /// No tail calls.
@@ -91,11 +93,18 @@ impl TailCalls {
         TailCalls {
             alloc,
             calls: Entries::new(alloc),
-            results: Entries::new(alloc),
+            results: UntakenResults::new(alloc),
             takers: Entries::new(alloc),
             lent: Entries::new(alloc),
             owed: VecDeque::new(alloc),
         }
+    }
+
+    /// The bytes of memory that results take which no question took yet.
+    pub fn memory(&self) -> u64
+        ensures { result ≡ returns_memory self.now.results }
+    {
+        self.results.memory()
     }
 
     /// Takes a message of the peer's, and gives what the vat gets in its place, if anything.

@@ -19,29 +19,31 @@ use Rattle.cp_vat_state.specs.declared.counted_calls.Uses.{Uses}
 use Rattle.cp_vat_state.specs.declared.sought.Sought.{Sought}
 use Rattle.cp_vat_state.specs.declared.sought.Sought.TheVariants as sought
 use Rattle.cp_vat_state.specs.declared.holders.Holders.{Holders}
+use Rattle.cp_vat_state.specs.declared.kept.KeptContents.{KeptContents}
 use Rattle.cp_vat_state.proofs.Counting.{sought_named}
-use Rattle.cp_vat_state.proofs.Holding.{any_counts, count-flat_map, of_others, others, together, of_entry}
+use Rattle.cp_refs.proofs.Sums.{of_others, others, together, of_entry}
+use Rattle.cp_vat_state.proofs.Holding.{any_counts, count-flat_map}
 
 -- it is in one of the lists where more than none are counted in all of them
 pub any_flat : {X : Type 0} (p : Cap → Bool) (g : X → List Cap) (xs : List X) → list_any p (flat_map g xs) ≡ ltb 0 (sum_by (λ x. count_by p (g x)) xs)
 any_flat p g xs = any_counts p (flat_map g xs) ∙ ap (λ n. ltb 0 n) (count-flat_map p g xs)
 
 -- it is kept
-pub is_kept : (v : ValueMaps) (kept imported : Holders) (s : Sought) → AreHeld v kept imported
-    → ltb 0 (number_of kept s)
+pub is_kept : (v : ValueMaps) (kept imported : KeptContents) (s : Sought) → AreHeld v kept imported
+    → ltb 0 (number_of kept.holders s)
     ≡ list_any (is_sought s) (flat_map option_to_list (values v.promises) ++ flat_map caps_given (values v.answers) ++ flat_map (λ (question : QuestionState). caps_given question.outcome) (values v.questions))
 is_kept v kept imported s is =
     let a = flat_map option_to_list (values v.promises) in
     let b = flat_map caps_given (values v.answers) in
     let c = flat_map (λ (question : QuestionState). caps_given question.outcome) (values v.questions) in
     let together : count_by (is_sought s) (a ++ b ++ c) ≡ count_by (is_sought s) a + count_by (is_sought s) b + count_by (is_sought s) c = sum_by-append (λ cap. cond (is_sought s cap) 1 0) (a ++ b) c ∙ ap (λ n. n + count_by (is_sought s) c) (sum_by-append (λ cap. cond (is_sought s cap) 1 0) a b) in
-    let number : number_of kept s ≡ count_by (is_sought s) (a ++ b ++ c) =
+    let number : number_of kept.holders s ≡ count_by (is_sought s) (a ++ b ++ c) =
     omega (arith, is.kept_so_often s, together, count-flat_map (is_sought s) option_to_list (values v.promises), count-flat_map (is_sought s) caps_given (values v.answers), count-flat_map (is_sought s) (λ (question : QuestionState). caps_given question.outcome) (values v.questions)) in
     ap (λ n. ltb 0 n) number ∙ sym (any_counts (is_sought s) (a ++ b ++ c))
 
 -- it is the value of an import
-pub is_import_value : (v : ValueMaps) (kept imported : Holders) (s : Sought) → AreHeld v kept imported
-    → ltb 0 (number_of imported s) ≡ list_any (is_sought s) (flat_map option_to_list (values v.imports))
+pub is_import_value : (v : ValueMaps) (kept imported : KeptContents) (s : Sought) → AreHeld v kept imported
+    → ltb 0 (number_of imported.holders s) ≡ list_any (is_sought s) (flat_map option_to_list (values v.imports))
 is_import_value v kept imported s is = ap (λ n. ltb 0 n) (is.imported_so_often s) ∙ sym (any_flat (is_sought s) option_to_list (values v.imports))
 
 -- the values of the imports but one
@@ -63,11 +65,11 @@ more_than : (all own rest : ℕ) → all ≡ rest + own → ltb own all ≡ ltb 
 more_than all own rest is = grind (arith, nat_tests)
 
 -- it is the value of another import
-pub is_value_of_another : (v : ValueMaps) (kept imported : Holders) (i : ℕ) → AreHeld v kept imported
-    → ltb (own_uses (get v.imports i) i) (number_of imported (sought.Import i)) ≡ list_any (is_import i) (flat_map (λ entry. value_unless i entry) (entries v.imports))
+pub is_value_of_another : (v : ValueMaps) (kept imported : KeptContents) (i : ℕ) → AreHeld v kept imported
+    → ltb (own_uses (get v.imports i) i) (number_of imported.holders (sought.Import i)) ≡ list_any (is_import i) (flat_map (λ entry. value_unless i entry) (entries v.imports))
 is_value_of_another v kept imported i is =
     let one = sought.Import i in
-    let number : number_of imported one ≡ others (λ value. times_in (option_to_list value) one) v.imports i + own_uses (get v.imports i) i =
+    let number : number_of imported.holders one ≡ others (λ value. times_in (option_to_list value) one) v.imports i + own_uses (get v.imports i) i =
     is.imported_so_often one ∙ together (λ value. times_in (option_to_list value) one) v.imports i ∙ ap (λ n. others (λ value. times_in (option_to_list value) one) v.imports i + n) (own_of_entry i (get v.imports i)) in
     more_than _ _ _ number ∙ ap (λ n. ltb 0 n) (but_one i (entries v.imports)) ∙ sym (any_counts (is_import i) (flat_map (λ entry. value_unless i entry) (entries v.imports)))
 

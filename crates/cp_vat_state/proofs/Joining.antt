@@ -13,6 +13,7 @@ use Rattle.std.specs.FinMap.Entries.{below_all, is_sorted}
 use Rattle.cp_tables.specs.Table.{Table}
 use Rattle.cp_tables.proofs.TableLemmas.{get-insert_same, get-insert_other, get-remove_same, get-remove_other, is_insert}
 use Rattle.cp_refs.proofs.Queueing.{remove-none}
+use Rattle.cp_refs.proofs.Sums.{number_ties, number_differs, left_true, right_true, below_differs}
 use Rattle.cp_vat_machine.specs.Give.{is_path_of}
 use Rattle.cp_vat_state.specs.Paths.{Marked}
 use Rattle.cp_vat_state.specs.Joined.{put_all, joined_from, joined, IsCounted}
@@ -32,12 +33,6 @@ first n (k ∷ p) = k
 
 tie_other : (k q : ℕ) (p r : List ℕ) → k ≢ q → is_eq (S (k ∷ p) (q ∷ r)) ≡ false
 tie_other k q p r other = false_unless _ (λ t. other (ap (first 0) (tied (k ∷ p) (q ∷ r) t)))
-
-pub number_ties : (k q : ℕ) → k ≡ q → eq_by_cmp nat_cmp k q ≡ true
-number_ties k q h = grind (arith, nat_tests)
-
-pub number_differs : (k q : ℕ) → k ≢ q → eq_by_cmp nat_cmp k q ≡ false
-number_differs k q h = grind (arith, nat_tests)
 
 -- ---- one question's marks, with those of others
 get-put_all_other : (k q : ℕ) (p : List ℕ) (es : List (List ℕ × Option ℕ)) (m : Marked) → k ≢ q → get (put_all q es m) (k ∷ p) ≡ get m (k ∷ p)
@@ -61,19 +56,6 @@ get-put_all_same q p (e ∷ es) m none =
 abbrev pub at_path : Option Marked → List ℕ → Option (Option ℕ)
 at_path None p = None
 at_path (Some marks) p = get marks p
-
-pub left_true : (a b : Bool) → T (a && b) → T a
-left_true true b h = tt
-left_true false b h = h
-
-pub right_true : (a b : Bool) → T (a && b) → T b
-right_true true b h = h
-right_true false b h = absurd h
-
-pub below_differs : (o : Ordering) → T (is_lt o) → is_eq o ≡ false
-below_differs Less h = refl
-below_differs Equal h = absurd h
-below_differs Greater h = refl
 
 pub find-below : {X : Type 0} (q : ℕ) (es : List (ℕ × X)) → T (below_all nat_cmp q es) → find nat_cmp q es ≡ None
 find-below q [] h = refl

@@ -11,3 +11,4 @@ pub mod Holding
 pub mod Keeping
 pub mod Asking
 pub mod Tables
+pub mod Contents

@@ -16,7 +16,8 @@ use Rattle.cp_vat_machine.specs.Writing.{HasNoExport, IsExport}
 use Rattle.cp_vat_machine.specs.InUse.{is_object, is_promise}
 use Rattle.std.proofs.lemmas.Bool.Decides.{nat_tests}
 use Rattle.std.proofs.Common.{arith, ◌≢◌, is_some, ◌==◌, MatchOption}
-use Rattle.cp_vat_state.proofs.Joining.{number_ties, number_differs, left_true, right_true, find-below}
+use Rattle.cp_refs.proofs.Sums.{number_ties, number_differs, left_true, right_true}
+use Rattle.cp_vat_state.proofs.Joining.{find-below}
 use Rattle.cp_vat_state.proofs.Indexing.{not_some, if_some, every}
 
 -- what stands in one of the lists stands in all of them together

@@ -11,5 +11,6 @@ pub mod Marking
 pub mod MarksCode
 pub mod Sought
 pub mod Counts
+pub mod Kept
 pub mod Holding
 pub mod StateOf

@@ -1,5 +1,6 @@
 -- What is looked for among the capabilities that are kept.
-use Rattle.std.specs.Prelude.{◌==◌, Bool, false, List, [], Option, Some, None}
+use Rattle.std.specs.Prelude.{◌==◌, ℕ, Bool, false, List, [], Option, Some, None}
+use Rattle.cp_refs.specs.Contents.{question_memory}
 use Rattle.cp_refs.specs.declared.cap.Cap.{Cap}
 use Rattle.cp_refs.specs.declared.cap.Cap.TheVariants as caps
 use Rattle.cp_refs.specs.declared.route.Gate.{Gate}
@@ -43,7 +44,11 @@ abbrev pub is_named : Sought → Option Sought → Bool
 is_named s None = false
 is_named s (Some other) = is_same s other
 
--- the capabilities of what a question came to
+-- the capabilities of what a question came to, and the memory that it takes
 abbrev pub question_caps : Option QuestionState → List Cap
 question_caps None = []
 question_caps (Some question) = caps_given question.outcome
+
+abbrev pub asked_memory : Option QuestionState → ℕ
+asked_memory None = 0
+asked_memory (Some question) = question_memory question

@@ -9,6 +9,7 @@ ghost use Rattle.cp_vat_state.specs.Holding.{AreHeldByCalls, IsMoreBy, IsLessBy,
 
 use crate::holders::Holders;
 use crate::sought::Sought;
+use cp_refs::bytes::{lowered, raised};
 use cp_refs::{Gate, PromiseId, Waiting, WaitingCall};
 use std::alloc::{AllocError, Global};
 use std::collections::btree_map::Iter;
@@ -44,6 +45,7 @@ impl Model for CountedCalls {
 impl CountedCalls {
     ghost use Rattle.std.specs.Prelude.{◌≡◌, None, IfSome, IfNone, option_copied};
     ghost use Rattle.std.specs.FinSet as set;
+    ghost use Rattle.cp_refs.specs.Contents.{calls_memory};
     ghost use Rattle.cp_refs.specs.Waiting.{Ends, Leaves};
 
     /// No calls.
@@ -68,6 +70,13 @@ impl CountedCalls {
         ensures { result ≡ map.entries self.now.calls }
     {
         self.calls.calls()
+    }
+
+    /// The bytes of memory that all calls take.
+    pub(crate) fn memory(&self) -> u64
+        ensures { result ≡ calls_memory self.now.calls }
+    {
+        self.uses.bytes
     }
 
     /// Whether it is in a call's table.
@@ -127,11 +136,12 @@ impl CountedCalls {
     }
 }
 
-/// What calls hold: what their tables name, and what their gates wait for.
+/// What calls hold: what their tables name, what their gates wait for, and how many bytes of memory they take.
 #[derive(Drop)]
 struct Uses {
     named: Holders,
     awaited: Holders,
+    bytes: u64,
 }
 
 impl Uses {
@@ -141,6 +151,7 @@ impl Uses {
         Uses {
             named: Holders::new(alloc),
             awaited: Holders::new(alloc),
+            bytes: 0,
         }
     }
 
@@ -149,12 +160,14 @@ impl Uses {
         ensures raised { OnOk result (IsMoreBy self.old self.new held.now) }
         ensures err { OnErr result (IsSameUses self.old self.new) }
     {
+        let bytes = raised(self.bytes, held.memory())?;
         let caps = held.request.caps.caps();
         self.named.raise_all(caps)?;
         if let Err(error) = self.awaited.raise(Sought::awaited_at(&held.gate)) {
             self.named.lower_all(caps);
             return Err(error);
         }
+        self.bytes = bytes;
         Ok(())
     }
 
@@ -164,5 +177,6 @@ impl Uses {
     {
         self.named.lower_all(held.request.caps.caps());
         self.awaited.lower(Sought::awaited_at(&held.gate));
+        self.bytes = lowered(self.bytes, held.memory());
     }
 }

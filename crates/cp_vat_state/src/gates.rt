@@ -113,6 +113,7 @@ impl Model for Gates {
 
 impl Gates {
     ghost use Rattle.std.specs.Prelude.{◌≡◌, None};
+    ghost use Rattle.cp_refs.specs.Contents.{calls_memory};
     ghost use Rattle.cp_vat_state.specs.Queue.{TakesOut, with_calls, with_over};
 
     /// No calls.
@@ -140,6 +141,13 @@ impl Gates {
         ensures { result ≡ map.entries self.now.waiting.calls }
     {
         self.calls.calls()
+    }
+
+    /// The bytes of memory that all calls take.
+    pub fn memory(&self) -> u64
+        ensures { result ≡ calls_memory self.now.waiting.calls }
+    {
+        self.calls.memory()
     }
 
     /// Whether it is in a waiting call's table.

@@ -1,14 +1,12 @@
 //! How often imports, promises, objects and questions are held.
 
-ghost use Rattle.std.specs.Prelude.{◌≡◌, ltb, option_to_list, OnOk, OnErr};
-ghost use Rattle.cp_vat_machine.specs.InUse.{caps_given};
+ghost use Rattle.std.specs.Prelude.{◌≡◌, ltb, OnOk, OnErr};
 ghost use Rattle.cp_vat_state.specs.Counts.{number_of, times_named, times_in, IsMore, IsLess, IsSame};
-ghost use Rattle.cp_vat_state.specs.Sought.{question_caps};
 ghost use Rattle.cp_vat_state.specs.declared.sought.Sought.{Sought};
 
 use crate::counts::Counts;
 use crate::sought::Sought;
-use cp_refs::{Cap, KeptOutcome, QuestionState};
+use cp_refs::Cap;
 use std::alloc::{AllocError, Global};
 
 /// How often each import, each promise, each object and each question's paths are held.
@@ -112,32 +110,5 @@ impl Holders {
         for cap in caps {
             self.lower(Sought::named_by(cap));
         }
-    }
-}
-
-/// The capability that is a value, if there is one.
-pub(crate) fn caps_of_value(value: &Option<Cap>) -> &[Cap]
-    ensures { result.now ≡ option_to_list value.now }
-{
-    value.as_slice()
-}
-
-/// The capabilities of an outcome.
-pub(crate) fn caps_of_outcome(outcome: &Option<KeptOutcome>) -> &[Cap]
-    ensures { result.now ≡ caps_given outcome.now }
-{
-    match outcome {
-        Some(outcome) => outcome.caps(),
-        None => &[],
-    }
-}
-
-/// The capabilities of what a question came to.
-pub(crate) fn caps_of_question(question: &Option<QuestionState>) -> &[Cap]
-    ensures { result.now ≡ question_caps question.now }
-{
-    match question {
-        Some(question) => caps_of_outcome(&question.outcome),
-        None => &[],
     }
 }

@@ -12,6 +12,7 @@ mod gates;
 mod halt;
 mod holders;
 mod in_use;
+mod kept;
 mod marks;
 mod own_promises;
 mod parts;

@@ -8,7 +8,7 @@ ghost use Rattle.cp_vat_state.specs.Sought.{is_sought};
 ghost use Rattle.cp_vat_state.specs.Holding.{kept_by, import_values, values_of_others, own_uses};
 
 use crate::halt::Halt;
-use crate::holders::{Holders, caps_of_outcome, caps_of_question, caps_of_value};
+use crate::kept::KeptContents;
 use crate::sought::Sought;
 use cp_refs::{Cap, KeptOutcome, PromiseId, QuestionKind, QuestionState, Values};
 use cp_tables::{Embargoes, LIMIT};
@@ -17,13 +17,13 @@ use std::alloc::{AllocError, Global};
 use std::marker::Model;
 
 /// What promises, imports, answers and questions came to. It is counted how often each capability is held by
-/// that, and promises get their numbers here. Contracts see the four maps alone.
+/// that, and how many bytes of memory it takes. Promises get their numbers here. Contracts see the four maps alone.
 pub struct Resolutions {
     values: Values,
     /// What the values of promises and the outcomes of answers and questions hold.
-    kept: Holders,
+    kept: KeptContents,
     /// What the values of imports hold.
-    imported: Holders,
+    imported: KeptContents,
     numbers: PromiseNumbers,
 }
 
@@ -57,6 +57,8 @@ impl Model for Resolutions {
 }
 
 impl Resolutions {
+    ghost use Rattle.cp_refs.specs.Contents.{values_memory};
+    ghost use Rattle.cp_refs.specs.Memory.{counted};
     ghost use Rattle.cp_tables.specs.Table.{with_change};
     ghost use Rattle.cp_vat_machine.specs.Capacity.{Fresh};
     ghost use Rattle.cp_vat_state.specs.Halts.{Meets};
@@ -67,8 +69,8 @@ impl Resolutions {
     {
         Resolutions {
             values: Values::new(alloc),
-            kept: Holders::new(alloc),
-            imported: Holders::new(alloc),
+            kept: KeptContents::new(alloc),
+            imported: KeptContents::new(alloc),
             numbers: PromiseNumbers::new(alloc),
         }
     }
@@ -125,7 +127,7 @@ impl Resolutions {
         ensures { self.new ≡ record self.old { promises = map.remove self.old.promises id } }
     {
         let old = self.values.remove_promise(id).flatten();
-        self.kept.lower_all(caps_of_value(&old));
+        self.kept.lower_value(&old);
         drop(old);
         drop(self.numbers.close(id));
     }
@@ -135,16 +137,16 @@ impl Resolutions {
         ensures put { OnOk result (self.new ≡ record self.old { imports = map.insert self.old.imports id value }) }
         ensures err { OnErr result (self.new ≡ self.old) }
     {
-        self.imported.raise_all(caps_of_value(&value))?;
+        self.imported.raise_value(&value)?;
         let old = match self.values.put_import(id, value) {
             Ok(old) => old.flatten(),
             Err(failed) => {
-                self.imported.lower_all(caps_of_value(&failed.value));
+                self.imported.lower_value(&failed.value);
                 drop(failed);
                 return Err(AllocError);
             }
         };
-        self.imported.lower_all(caps_of_value(&old));
+        self.imported.lower_value(&old);
         drop(old);
         Ok(())
     }
@@ -154,7 +156,7 @@ impl Resolutions {
         ensures { self.new ≡ record self.old { imports = map.remove self.old.imports id } }
     {
         let old = self.values.remove_import(id).flatten();
-        self.imported.lower_all(caps_of_value(&old));
+        self.imported.lower_value(&old);
         drop(old);
     }
 
@@ -163,16 +165,16 @@ impl Resolutions {
         ensures put { OnOk result (self.new ≡ record self.old { answers = map.insert self.old.answers id outcome }) }
         ensures err { OnErr result (self.new ≡ self.old) }
     {
-        self.kept.raise_all(caps_of_outcome(&outcome))?;
+        self.kept.raise_outcome(&outcome)?;
         let old = match self.values.put_answer(id, outcome) {
             Ok(old) => old.flatten(),
             Err(failed) => {
-                self.kept.lower_all(caps_of_outcome(&failed.value));
+                self.kept.lower_outcome(&failed.value);
                 drop(failed);
                 return Err(AllocError);
             }
         };
-        self.kept.lower_all(caps_of_outcome(&old));
+        self.kept.lower_outcome(&old);
         drop(old);
         Ok(())
     }
@@ -182,7 +184,7 @@ impl Resolutions {
         ensures { self.new ≡ record self.old { answers = map.remove self.old.answers id } }
     {
         let old = self.values.remove_answer(id).flatten();
-        self.kept.lower_all(caps_of_outcome(&old));
+        self.kept.lower_outcome(&old);
         drop(old);
     }
 
@@ -223,22 +225,29 @@ impl Resolutions {
         ensures { self.new ≡ record self.old { questions = map.remove self.old.questions id } }
     {
         let old = self.values.remove_question(id);
-        self.kept.lower_all(caps_of_question(&old));
+        self.kept.lower_question(&old);
         drop(old);
+    }
+
+    /// The bytes of memory that all of it takes.
+    pub fn memory(&self) -> u64
+        ensures { result ≡ counted (values_memory self.now) }
+    {
+        self.kept.bytes.saturating_add(self.imported.bytes)
     }
 
     /// Whether it is the value of a promise, or is in what an answer or a question came to.
     pub(crate) fn is_kept(&self, sought: Sought) -> bool
         ensures { result ≡ list_any (is_sought sought) (kept_by self.now) }
     {
-        self.kept.has(sought)
+        self.kept.holders.has(sought)
     }
 
     /// Whether it is the value of an import.
     pub(crate) fn is_import_value(&self, sought: Sought) -> bool
         ensures { result ≡ list_any (is_sought sought) (import_values self.now) }
     {
-        self.imported.has(sought)
+        self.imported.holders.has(sought)
     }
 
     /// Whether the import is the value of another one.
@@ -246,7 +255,7 @@ impl Resolutions {
         ensures { result ≡ list_any (is_import id) (values_of_others self.now id) }
     {
         // An import that is its own value isn't used by that.
-        self.imported.number(Sought::Import(id)) > own_uses(&self.values, id)
+        self.imported.holders.number(Sought::Import(id)) > own_uses(&self.values, id)
     }
 
     /// Puts what a promise that exists came to.
@@ -256,16 +265,16 @@ impl Resolutions {
         ensures err { OnErr result (self.new ≡ self.old) }
     {
         // Counted before it is put, so that what is held is always counted.
-        self.kept.raise_all(caps_of_value(&value))?;
+        self.kept.raise_value(&value)?;
         let old = match self.values.put_promise(id, value) {
             Ok(old) => old.flatten(),
             Err(failed) => {
-                self.kept.lower_all(caps_of_value(&failed.value));
+                self.kept.lower_value(&failed.value);
                 drop(failed);
                 return Err(AllocError);
             }
         };
-        self.kept.lower_all(caps_of_value(&old));
+        self.kept.lower_value(&old);
         drop(old);
         Ok(())
     }
@@ -275,16 +284,16 @@ impl Resolutions {
         ensures put { OnOk result (self.new ≡ record self.old { questions = map.insert self.old.questions id question }) }
         ensures err { OnErr result (self.new ≡ self.old) }
     {
-        self.kept.raise_all(caps_of_outcome(&question.outcome))?;
+        self.kept.raise_outcome(&question.outcome)?;
         let old = match self.values.put_question(id, question) {
             Ok(old) => old,
             Err(failed) => {
-                self.kept.lower_all(caps_of_outcome(&failed.value.outcome));
+                self.kept.lower_outcome(&failed.value.outcome);
                 drop(failed);
                 return Err(AllocError);
             }
         };
-        self.kept.lower_all(caps_of_question(&old));
+        self.kept.lower_question(&old);
         drop(old);
         Ok(())
     }
