@@ -2,3 +2,4 @@ pub mod Firsts
 pub mod Items
 pub mod Parts
 pub mod Texts
+pub mod Fitting

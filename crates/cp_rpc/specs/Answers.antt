@@ -1,7 +1,7 @@
 -- What a reading answered.
 use Rattle.std.specs.Prelude.{◌≡◌, ◌⊎◌, List, [], ◌∷◌, Option, None, Some, Result, Ok, Err}
 use Rattle.cp_tree.specs.Node.{Node}
-use Rattle.cp_rpc.specs.Viewed.{viewed}
+use Rattle.cp_rpc.specs.Viewed.{viewed_message}
 use Rattle.cp_messages.specs.declared.fault.SchemaFault.{SchemaFault}
 use Rattle.cp_messages.specs.declared.fault.SchemaFault.TheVariants as faults
 use Rattle.cp_messages.specs.declared.message.Message.{Message}
@@ -22,10 +22,14 @@ abbrev pub Checks : {V : Type 0} → List SchemaFault → Result V SchemaFault �
 Checks faults (Ok done) = faults ≡ []
 Checks faults (Err f) = first_of faults ≡ Some f
 
+-- a view of this message was answered, over trees that are seen so
+abbrev pub AnswersIn : {S : Type 0} → (S → Node) → Result (MessageIn S) SchemaFault → Message → Type 0
+AnswersIn seen (Ok v) m = viewed_message seen v ≡ m
+AnswersIn seen (Err fault) m = ⊥
+
 -- a view of this message was answered
 abbrev pub AnswersView : Result (MessageIn Node) SchemaFault → Message → Type 0
-AnswersView (Ok v) m = viewed v ≡ m
-AnswersView (Err fault) m = ⊥
+AnswersView result m = AnswersIn (λ t. t) result m
 
 -- this message was answered, or memory ran out
 abbrev pub Answers : Result Message SchemaFault → Message → Type 0

@@ -1,6 +1,7 @@
 //! Parts of owned trees, looked at where they stand.
 
-ghost use Rattle.std.specs.Prelude.{◌≡◌, map};
+ghost use Rattle.std.specs.Prelude.{◌≡◌, ◌≤◌, map, Decides};
+ghost use Rattle.cp_tree.specs.Node.{depth, cost};
 ghost use Rattle.cp_tree.specs.NodeOf.{node_of};
 ghost use Rattle.cp_messages.specs.Fields.{items_of};
 ghost use Rattle.cp_rpc.specs.Looked.{look_of};
@@ -10,7 +11,7 @@ use crate::source::{Look, Source};
 use crate::text::{is_text, text_at};
 use cp_fields::Pointee;
 use cp_messages::Text;
-use cp_tree::{Body, Tree, Whole};
+use cp_tree::{Body, BodyRef, Object, Tree, Whole, fits, nests};
 use std::alloc::{AllocError, Global};
 use std::marker::Model;
 
@@ -27,7 +28,7 @@ pub(crate) enum TreePart<'a> {
 /// its tree.
 /// It isn't `cp_fields::Pointee`, which may be any tree: here a message can hold the tree, by its type.
 #[derive(Drop)]
-pub(crate) struct Owned<'a> {
+pub struct Owned<'a> {
     part: TreePart<'a>,
 }
 
@@ -49,9 +50,17 @@ impl<'a> Model for Owned<'a> {
 
 impl<'a> Owned<'a> {
     ghost use Rattle.std.specs.Prelude.{◌≡◌};
-    ghost use Rattle.cp_tree.specs.Node.{null};
+    ghost use Rattle.cp_tree.specs.Node.{null, IsStruct};
     ghost use Rattle.cp_tree.specs.NodeOf.{node_of};
     ghost use Rattle.cp_tree.specs.Shaped.{Shaped};
+
+    /// The root of a message.
+    pub fn root(root: &'a Object) -> Owned<'a>
+        ensures same { result ≡ root.now }
+        ensures is_struct { IsStruct result }
+    {
+        Owned::of(root.tree())
+    }
 
     /// A null pointer.
     fn null() -> Owned<'a>
@@ -63,7 +72,7 @@ impl<'a> Owned<'a> {
     }
 
     /// The tree.
-    pub(crate) fn of(tree: &'a Tree) -> Owned<'a>
+    fn of(tree: &'a Tree) -> Owned<'a>
         requires { Shaped (node_of tree.now) }
         ensures { result ≡ node_of tree.now }
     {
@@ -130,6 +139,14 @@ impl<'a> Source for Owned<'a> {
         }
     }
 
+    fn fits(&self, nesting: u32, traversal: u64) -> bool {
+        match self.part {
+            TreePart::Null => true,
+            TreePart::Tree(tree) => fits(tree, nesting, traversal),
+            TreePart::Body(body) => body_fits(body, nesting, traversal),
+        }
+    }
+
     fn whole(&self, alloc: Global) -> Result<Whole, AllocError> {
         match self.part {
             TreePart::Null => Ok(Whole::null()),
@@ -160,4 +177,22 @@ fn items_in(tree: &Tree) -> &[Body]
         Tree::Structs { items, .. } => items.as_slice(),
         _ => &[],
     }
+}
+
+/// Whether a struct's depth and cost are no more than this.
+fn body_fits(body: &Body, nesting: u32, traversal: u64) -> bool
+    ensures { Decides result ((depth (body_node body.now) ≤ nesting) × (cost (body_node body.now) ≤ traversal)) }
+{
+    if nesting == 0 {
+        return false;
+    }
+    let lent = BodyRef::of(body);
+    let price = 1 + lent.words.len() as u64 + lent.ptrs.len() as u64;
+    let mut budget = traversal.checked_sub(price);
+    for tree in lent.ptrs {
+        if !nests(tree, nesting - 1, &mut budget) {
+            return false;
+        }
+    }
+    budget.is_some()
 }

@@ -2,14 +2,15 @@
 
 ghost use Rattle.std.specs.Prelude.{◌≡◌, Some, IsOk, IfOk, IfErr, OnOk};
 ghost use Rattle.cp_tree.specs.Node.{IsStruct};
-ghost use Rattle.cp_rpc.specs.Answers.{Answers, AnswersView, IsFirstFault, first_of};
+ghost use Rattle.cp_rpc.specs.Answers.{Answers, AnswersView, AnswersIn, IsFirstFault, first_of};
 ghost use Rattle.cp_messages.specs.Says.{Says};
 ghost use Rattle.cp_messages.specs.Faults.{message_faults};
-ghost use Rattle.cp_rpc.specs.Viewed.{viewed};
+ghost use Rattle.cp_rpc.specs.Viewed.{viewed, viewed_message};
 ghost use Rattle.cp_messages.specs.declared.message.Message.{Message};
 
 use crate::message::{MessageIn, MessageView};
 use crate::owned::Owned;
+use crate::source::Source;
 use cp_messages::{Message, SchemaFault};
 use cp_reading::View;
 use cp_tree::Object;
@@ -26,7 +27,20 @@ pub fn message_view<'a>(view: View<'a>) -> Result<MessageView<'a>, SchemaFault>
     // A fault is the first that the tree has.
     ensures fault { IfErr result (λ f. first_of (message_faults view.entry) ≡ Some f) }
 {
-    MessageIn::of(&view)
+    message_in(&view)
+}
+
+/// The message that a root struct of any source says, read where it lies, as by `message_view`.
+pub fn message_in<S: Source>(root: &S) -> Result<MessageIn<S>, SchemaFault>
+    requires { IsStruct (S.seen root.now) }
+    // What is read is what the tree says.
+    ensures found { IfOk result (λ v. Says (S.seen root.now) (viewed_message S.seen v)) }
+    // What the tree says is read.
+    ensures only { (m : Message) → Says (S.seen root.now) m → AnswersIn S.seen result m }
+    // A fault is the first that the tree has.
+    ensures fault { IfErr result (λ f. first_of (message_faults (S.seen root.now)) ≡ Some f) }
+{
+    MessageIn::of(root)
 }
 
 /// Checks the message that the root struct of a frame says, as `message_view` does, and hands out none. A
@@ -54,6 +68,6 @@ pub fn message_of(alloc: Global, root: &Object) -> Result<Message, SchemaFault>
     ensures fault { IfErr result (IsFirstFault (message_faults root.now)) }
 {
     // By way of a view, so that owned trees and frames are read by the same code.
-    let view = MessageIn::of(&Owned::of(root.tree()))?;
+    let view = message_in(&Owned::root(root))?;
     Ok(view.message(alloc)?)
 }

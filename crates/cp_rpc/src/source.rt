@@ -1,7 +1,7 @@
 //! Trees that are looked at where they lie: a view, or an owned tree.
 
-ghost use Rattle.std.specs.Prelude.{◌≡◌, ◌<◌, length, slice_index_or, IfOk};
-ghost use Rattle.cp_tree.specs.Node.{Node, null, data_of};
+ghost use Rattle.std.specs.Prelude.{◌≡◌, ◌<◌, ◌≤◌, length, slice_index_or, IfOk, Decides};
+ghost use Rattle.cp_tree.specs.Node.{Node, null, data_of, depth, cost};
 ghost use Rattle.cp_tree.specs.Seen.{pointee_of};
 ghost use Rattle.cp_messages.specs.Fields.{IsStructField, IsTextField, items_of, bytes_of, text_of, is_text};
 ghost use Rattle.cp_rpc.specs.Looked.{look_of};
@@ -60,6 +60,10 @@ pub trait Source: Drop {
         requires { IsTextField (seen self.now) }
         ensures { IfOk result (λ t. t ≡ text_of (seen self.now)) };
 
+    /// Whether the tree's depth and cost are no more than this.
+    fn fits(&self, nesting: u32, traversal: u64) -> bool
+        ensures { Decides result ((depth (seen self.now) ≤ nesting) × (cost (seen self.now) ≤ traversal)) };
+
     /// The tree, owned.
     fn whole(&self, alloc: Global) -> Result<Whole, AllocError>
         ensures { IfOk result (λ w. w ≡ seen self.now) };
@@ -108,6 +112,10 @@ impl<'a> Source for View<'a> {
 
     fn text(&self, alloc: Global) -> Result<Text, AllocError> {
         text_at(alloc, Pointee::of_view(self.again()))
+    }
+
+    fn fits(&self, nesting: u32, traversal: u64) -> bool {
+        View::fits(self, nesting, traversal)
     }
 
     fn whole(&self, alloc: Global) -> Result<Whole, AllocError> {

@@ -1,12 +1,13 @@
 -- What the tree of an Unimplemented tells.
-use Rattle.std.proofs.Common.{◌≡◌, inl, inr, List, [], ◌∷◌, Some, None, Result, Ok, Err, IfErr, refl, sym, ap, ◌∙◌, subst}
-use Rattle.cp_tree.specs.Node.{Node, null, cap, struct, list, ptrs, structs, IsStruct}
-use Rattle.cp_rpc.specs.Answers.{IsFirstFault, first_of}
+use Rattle.std.proofs.Common.{◌≡◌, List, [], ◌∷◌, Some, None, Result, Err, refl, sym, ap, ◌∙◌, subst}
+use Rattle.cp_tree.specs.Node.{Node, null, cap, struct, list, ptrs, structs}
+use Rattle.cp_rpc.specs.Answers.{first_of}
+use Rattle.cp_rpc.specs.Looked.{look_of}
+use Rattle.cp_rpc.specs.declared.source.Look.TheVariants as looks
 use Rattle.cp_messages.specs.Says.{Says}
 use Rattle.cp_messages.specs.Denoted.{message_denoted}
 use Rattle.cp_messages.specs.Faults.{message_faults}
 use Rattle.cp_messages.specs.declared.fault.SchemaFault.{SchemaFault}
-use Rattle.cp_messages.specs.declared.fault.SchemaFault.TheVariants as schema_faults
 use Rattle.cp_messages.specs.declared.message.Message.{Message}
 use Rattle.cp_messages.specs.declared.message.Message.TheVariants as messages
 use Rattle.cp_messages.specs.declared.resolve.Resolve.{Resolve}
@@ -17,17 +18,13 @@ use Rattle.cp_vat_state.specs.Halts.{Quiet}
 use Rattle.cp_vat_state.specs.declared.halt.Halt.{Halt}
 
 -- A tree that is no struct says a message that isn't a Resolve.
-not_struct : (old : State) (t : Node) → (IsStruct t → ⊥) → OnUnimplemented old t (Err faults.PeerLacksLevelOne)
-not_struct old null other = refl
-not_struct old (cap i) other = refl
-not_struct old (struct ws ts) other = absurd (other tt)
-not_struct old (list es) other = refl
-not_struct old (ptrs ts) other = refl
-not_struct old (structs d n bs) other = refl
-
-pub no_struct_told : (old : State) (t : Node) (r : Result Node Node) → ((x : Node) → r ≡ Ok x → ⊥) → IfErr r (λ w. (w ≡ t) × (IsStruct t → ⊥)) → OnUnimplemented old t (Err faults.PeerLacksLevelOne)
-no_struct_told old t (Ok x) other back = absurd (other x refl)
-no_struct_told old t (Err x) other back = not_struct old t back.1
+pub no_struct_seen : (old : State) (t : Node) → (look_of t ≡ looks.Struct → ⊥) → OnUnimplemented old t (Err faults.PeerLacksLevelOne)
+no_struct_seen old (struct ws ts) other = absurd (other refl)
+no_struct_seen old null other = refl
+no_struct_seen old (cap i) other = refl
+no_struct_seen old (list es) other = refl
+no_struct_seen old (ptrs ts) other = refl
+no_struct_seen old (structs d n bs) other = refl
 
 -- any other message is needed
 pub is_needed : (old : State) (m : Message) → ((r : Resolve) → m ≡ messages.Resolve r → ⊥) → UnknownToPeer old (Some m) (Err faults.PeerLacksLevelOne)
@@ -57,8 +54,3 @@ faulty (g ∷ fs) f m first = refl
 -- a tree that says none
 pub none_told : (old : State) (t : Node) (f : SchemaFault) → first_of (message_faults t) ≡ Some f → OnUnimplemented old t (Err faults.PeerLacksLevelOne)
 none_told old t f first = subst (λ o. UnknownToPeer old o (Err faults.PeerLacksLevelOne)) (faulty (message_faults t) f (message_denoted t) first) refl
-
--- so where memory may have run out
-pub faulty_told : (old : State) (t root : Node) (f : SchemaFault) → root ≡ t → (f ≡ schema_faults.OutOfMemory → ⊥) → IsFirstFault (message_faults root) f → OnUnimplemented old t (Err faults.PeerLacksLevelOne)
-faulty_told old t root f same other (inl want) = absurd (other want)
-faulty_told old t root f same other (inr first) = subst (λ q. OnUnimplemented old q (Err faults.PeerLacksLevelOne)) same (none_told old root f first)

@@ -1,15 +1,14 @@
 //! How a message that isn't supported is sent back.
 
 ghost use Rattle.std.specs.Prelude.{◌≡◌, ◌*◌};
-ghost use Rattle.cp_rpc.specs.Viewed.{viewed, viewed_descriptor, viewed_resolution, viewed_returned, viewed_target};
+ghost use Rattle.cp_rpc.specs.Viewed.{viewed_message, viewed_descriptor, viewed_resolution, viewed_returned, viewed_target};
 ghost use Rattle.cp_vat_machine.specs.Step.{echoed};
 ghost use Rattle.cp_vat_state.specs.Halts.{Acts};
 ghost use Rattle.cp_vat_state.specs.StateOf.{state_of};
 ghost use Rattle.cp_vat.specs.Echoing.{Charges, lists_of_descriptor, lists_of_message, lists_of_resolution, lists_of_returned, lists_of_table, lists_of_target};
 
-use cp_reading::View;
 use cp_rpc::{
-    CapTableView, DescriptorView, Message, MessageIn, MessageView, ResolutionView, ReturnedView,
+    CapTableView, DescriptorView, Message, MessageIn, ResolutionView, ReturnedView, Source,
     TargetView, tree_of,
 };
 use cp_tree::{Whole, WriteFault, fits};
@@ -24,8 +23,23 @@ const ECHO_DEPTH: u32 = 63;
 /// The Unimplemented around it costs three, and the standard limit is 8,388,608.
 const ECHO_COST: u64 = 8_388_605;
 
-/// A message that isn't supported is sent back as its tree, if that can be written.
-pub(crate) fn echo(core: &Core, message: &Message, effects: &mut Vec<Effect>) -> Result<(), Halt>
+/// A message that isn't supported is sent back as its tree, if that can be written. Its lists are counted first: a list
+/// of few bytes may have millions of elements, and none of them is made where the tree would be too large.
+pub(crate) fn echo<S: Source>(
+    core: &Core,
+    message: &MessageIn<S>,
+    effects: &mut Vec<Effect>,
+) -> Result<(), Halt>
+    ensures { Acts (λ out. out ≡ echoed (state_of core.now) (viewed_message S.seen message.now)) result effects.old.items effects.new.items (state_of core.now) }
+{
+    if charge_message(ECHO_COST, message).is_none() {
+        return Err(Halt::Fault(PeerFault::EchoTooLarge));
+    }
+    send_back(core, &message.message(core.alloc)?, effects)
+}
+
+/// A message is sent back as its tree, if that can be written.
+fn send_back(core: &Core, message: &Message, effects: &mut Vec<Effect>) -> Result<(), Halt>
     ensures { Acts (λ out. out ≡ echoed (state_of core.now) message.now) result effects.old.items effects.new.items (state_of core.now) }
 {
     if !message.fits() {
@@ -45,24 +59,9 @@ pub(crate) fn echo(core: &Core, message: &Message, effects: &mut Vec<Effect>) ->
     Ok(())
 }
 
-/// The same of a message that is read in place. Its lists are counted first: a list of few bytes may have
-/// millions of elements, and none of them is made where the tree would be too large.
-pub(crate) fn echo_view(
-    core: &Core,
-    message: &MessageView,
-    effects: &mut Vec<Effect>,
-) -> Result<(), Halt>
-    ensures { Acts (λ out. out ≡ echoed (state_of core.now) (viewed message.now)) result effects.old.items effects.new.items (state_of core.now) }
-{
-    if charge_message(ECHO_COST, message).is_none() {
-        return Err(Halt::Fault(PeerFault::EchoTooLarge));
-    }
-    echo(core, &message.message(core.alloc)?, effects)
-}
-
 /// What is left of a cost after the lists of a message. `None`: they cost more.
-fn charge_message(left: u64, message: &MessageView) -> Option<u64>
-    ensures { Charges left (lists_of_message (viewed message.now)) result }
+fn charge_message<S: Source>(left: u64, message: &MessageIn<S>) -> Option<u64>
+    ensures { Charges left (lists_of_message (viewed_message S.seen message.now)) result }
 {
     match message {
         MessageIn::Call(call) => {
@@ -76,8 +75,8 @@ fn charge_message(left: u64, message: &MessageView) -> Option<u64>
     }
 }
 
-fn charge_target(left: u64, target: &TargetView<View>) -> Option<u64>
-    ensures { Charges left (lists_of_target (viewed_target (λ t. t) target.now)) result }
+fn charge_target<S: Source>(left: u64, target: &TargetView<S>) -> Option<u64>
+    ensures { Charges left (lists_of_target (viewed_target S.seen target.now)) result }
 {
     match target {
         // An `Op` is a struct of one word, which costs two.
@@ -86,8 +85,8 @@ fn charge_target(left: u64, target: &TargetView<View>) -> Option<u64>
     }
 }
 
-fn charge_returned(left: u64, returned: &ReturnedView<View>) -> Option<u64>
-    ensures { Charges left (lists_of_returned (viewed_returned (λ t. t) returned.now)) result }
+fn charge_returned<S: Source>(left: u64, returned: &ReturnedView<S>) -> Option<u64>
+    ensures { Charges left (lists_of_returned (viewed_returned S.seen returned.now)) result }
 {
     match returned {
         ReturnedView::Results(payload) => charge_table(left, &payload.cap_table),
@@ -95,8 +94,8 @@ fn charge_returned(left: u64, returned: &ReturnedView<View>) -> Option<u64>
     }
 }
 
-fn charge_resolution(left: u64, resolution: &ResolutionView<View>) -> Option<u64>
-    ensures { Charges left (lists_of_resolution (viewed_resolution (λ t. t) resolution.now)) result }
+fn charge_resolution<S: Source>(left: u64, resolution: &ResolutionView<S>) -> Option<u64>
+    ensures { Charges left (lists_of_resolution (viewed_resolution S.seen resolution.now)) result }
 {
     match resolution {
         ResolutionView::Cap(descriptor) => charge_descriptor(left, descriptor),
@@ -104,7 +103,7 @@ fn charge_resolution(left: u64, resolution: &ResolutionView<View>) -> Option<u64
     }
 }
 
-fn charge_table(left: u64, table: &CapTableView<View>) -> Option<u64>
+fn charge_table<S: Source>(left: u64, table: &CapTableView<S>) -> Option<u64>
     ensures { Charges left (lists_of_table table.now) result }
 {
     // A descriptor is a struct of one word and one pointer, which costs three.
@@ -115,8 +114,8 @@ fn charge_table(left: u64, table: &CapTableView<View>) -> Option<u64>
     Some(rest)
 }
 
-fn charge_descriptor(left: u64, descriptor: &DescriptorView<View>) -> Option<u64>
-    ensures { Charges left (lists_of_descriptor (viewed_descriptor (λ t. t) descriptor.now)) result }
+fn charge_descriptor<S: Source>(left: u64, descriptor: &DescriptorView<S>) -> Option<u64>
+    ensures { Charges left (lists_of_descriptor (viewed_descriptor S.seen descriptor.now)) result }
 {
     match descriptor {
         DescriptorView::ReceiverAnswer(answer) => charge_each(left, answer.transform.len(), 2),

@@ -7,7 +7,6 @@ mod answering;
 mod asking;
 mod calling;
 mod checks;
-mod content;
 mod echo;
 mod ending;
 mod giving_up;

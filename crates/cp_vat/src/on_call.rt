@@ -18,12 +18,11 @@ ghost use Rattle.cp_vat.specs.Lending.{ActsLending, deliveries};
 ghost use Rattle.cp_vat.specs.Receiving.{Carries, HoldsWithin, Leads, LeadsBy, with_content};
 
 use crate::checks::check_call;
-use crate::content::ReceivedContent;
 use crate::lent::Lent;
 use crate::on_bootstrap::open_answer;
 use cp_reading::View;
 use cp_refs::{Caps, Gate, Origin, Path, Request, Route};
-use cp_rpc::{Call, CallView, Payload, Target};
+use cp_rpc::{Call, CallView, Payload, Source, Target};
 use cp_tree::Whole;
 use cp_vat_machine::Effect;
 use cp_vat_rules::go::{Underway, go};
@@ -40,17 +39,17 @@ struct Arrival {
     route: Route,
 }
 
-/// A Call is taken in, and goes by its route. Its content comes beside it. One that is read in place is made last,
-/// once it is known where the call goes.
-pub(crate) fn on_call<C: ReceivedContent>(
+/// A Call is taken in, and goes by its route. Its content comes beside it, and is made last, once it is known where the
+/// call goes.
+pub(crate) fn on_call<S: Source>(
     core: &mut Core,
     call: Call,
-    content: C,
+    content: &S,
     effects: &mut Vec<Effect>,
 ) -> Result<(), Halt>
     requires supported { is_supported (messages.Call call) ≡ true }
     requires local { Local (state_of core.old) }
-    ensures { Acts (OnCall (state_of core.old) (with_content call (C.seen content))) result effects.old.items effects.new.items (state_of core.new) }
+    ensures { Acts (OnCall (state_of core.old) (with_content call (S.seen content.now))) result effects.old.items effects.new.items (state_of core.new) }
 {
     let arrival = arrive(core, &call)?;
     go_on(core, &call, arrival, content, effects)
@@ -71,13 +70,16 @@ pub(crate) fn on_call_lending<'a>(
     if let Route::Deliver(object) = arrival.route {
         return Ok(Some(lend(core, &call, arrival, object, content)));
     }
-    go_on(core, &call, arrival, content, effects)?;
+    go_on(core, &call, arrival, &content, effects)?;
     Ok(None)
 }
 
 /// A Call that is read in place, made but for its content.
-pub(crate) fn without_content(alloc: Global, call: &CallView<View>) -> Result<Call, AllocError>
-    ensures { IfOk result (λ c. with_content c call.now.params.content ≡ viewed_call (λ t. t) call.now) }
+pub(crate) fn without_content<S: Source>(
+    alloc: Global,
+    call: &CallView<S>,
+) -> Result<Call, AllocError>
+    ensures { IfOk result (λ c. with_content c (S.seen call.now.params.content) ≡ viewed_call S.seen call.now) }
 {
     Ok(Call {
         question_id: call.question_id,
@@ -113,15 +115,15 @@ fn arrive(core: &mut Core, call: &Call) -> Result<Arrival, Halt>
 }
 
 /// A Call that was taken in goes by its route.
-fn go_on<C: ReceivedContent>(
+fn go_on<S: Source>(
     core: &mut Core,
     call: &Call,
     arrival: Arrival,
-    content: C,
+    content: &S,
     effects: &mut Vec<Effect>,
 ) -> Result<(), Halt>
-    requires { MayGo (state_of core.old) (bearing call.now arrival (C.seen content)) }
-    ensures { Acts (Go (state_of core.old) (bearing call.now arrival (C.seen content)) arrival.route) result effects.old.items effects.new.items (state_of core.new) }
+    requires { MayGo (state_of core.old) (bearing call.now arrival (S.seen content.now)) }
+    ensures { Acts (Go (state_of core.old) (bearing call.now arrival (S.seen content.now)) arrival.route) result effects.old.items effects.new.items (state_of core.new) }
 {
     let content = content_for(core.alloc, &arrival.route, content)?;
     let underway = Underway {
@@ -162,12 +164,8 @@ fn lend<'a>(
 }
 
 /// The content that a call carries which takes this route. One that fails needs none.
-fn content_for<C: ReceivedContent>(
-    alloc: Global,
-    route: &Route,
-    content: C,
-) -> Result<Whole, AllocError>
-    ensures { IfOk result (Carries route.now (C.seen content)) }
+fn content_for<S: Source>(alloc: Global, route: &Route, content: &S) -> Result<Whole, AllocError>
+    ensures { IfOk result (Carries route.now (S.seen content.now)) }
 {
     match route {
         Route::Fail(_) => Ok(Whole::null()),

@@ -2,7 +2,6 @@
 
 ghost use Rattle.std.specs.Prelude.{◌≡◌, Ok, true, if◌then◌else◌};
 ghost use Rattle.cp_rpc.specs.Viewed.{viewed_returned};
-ghost use Rattle.cp_messages.specs.declared.returned.Returned.{Returned};
 ghost use Rattle.cp_vat_machine.specs.Local.{Local};
 ghost use Rattle.cp_vat_machine.specs.Asking.{OnReturn, Settles, ReceivesReturned, is_asked};
 ghost use Rattle.cp_vat_machine.specs.Supported.{is_supported_returned};
@@ -12,9 +11,8 @@ ghost use Rattle.cp_vat_state.specs.StateOf.{state_of};
 ghost use Rattle.cp_vat.specs.Receiving.{BeginsReturn, bears};
 ghost use Rattle.cp_vat.specs.Returning.{MaySettle};
 
-use cp_reading::View;
 use cp_refs::Outcome;
-use cp_rpc::{Returned, ReturnedView};
+use cp_rpc::{ReturnedView, Source};
 use cp_tables::Stage;
 use cp_vat_machine::{Effect, PeerFault};
 use cp_vat_rules::entry::remove_question;
@@ -33,77 +31,45 @@ enum Remaining {
     Settle { forwards: Option<u32> },
 }
 
-/// What a Return bears, owned or read in place.
-pub(crate) trait Bearing: Drop {
-    ghost borne: { Self → Returned };
-
-    /// It is taken in as an outcome. Of one that is read in place a content or an exception is made once
-    /// nothing is at fault.
-    fn receive(self, core: &mut Core) -> Result<Outcome, Halt>
-        requires { is_supported_returned (borne self) ≡ true }
-        ensures { Leaves (ReceivesReturned (state_of core.old) (borne self)) result (state_of core.new) };
-}
-
 /// What a Return bears is taken in, unless the application finished the question.
-pub(crate) fn on_return<B: Bearing>(
+pub(crate) fn on_return<S: Source>(
     core: &mut Core,
     id: u32,
     release_param_caps: bool,
-    bearing: B,
+    returned: &ReturnedView<S>,
     effects: &mut Vec<Effect>,
 ) -> Result<(), Halt>
-    requires supported { is_supported_returned (B.borne bearing) ≡ true }
+    requires supported { is_supported_returned (viewed_returned S.seen returned.now) ≡ true }
     requires local { Local (state_of core.old) }
-    ensures { Acts (OnReturn (state_of core.old) (bears id release_param_caps (B.borne bearing))) result effects.old.items effects.new.items (state_of core.new) }
+    ensures { Acts (OnReturn (state_of core.old) (bears id release_param_caps (viewed_returned S.seen returned.now))) result effects.old.items effects.new.items (state_of core.new) }
 {
     match begin(core, id, release_param_caps)? {
         Remaining::Nothing => Ok(()),
         Remaining::Settle { forwards } => {
-            let outcome = bearing.receive(core)?;
+            let outcome = receive_returned(core, returned)?;
             settle(core, id, forwards, outcome, effects)
         }
     }
 }
 
-impl Bearing for Returned {
-    ghost borne = { λ r. r };
-
-    fn receive(self, core: &mut Core) -> Result<Outcome, Halt> {
-        match self {
-            Returned::Results(payload) => {
-                let caps = receive_caps(core, payload.cap_table.descriptors())?;
-                Ok(Outcome::Results {
-                    content: payload.content,
-                    caps,
-                })
-            }
-            Returned::Exception(exception) => Ok(Outcome::Failed(exception)),
-            Returned::Canceled => Ok(Outcome::Canceled),
-            _ => unreachable!(),
+/// What was returned is taken in as an outcome. A content or an exception is made once nothing is at fault.
+fn receive_returned<S: Source>(core: &mut Core, returned: &ReturnedView<S>) -> Result<Outcome, Halt>
+    requires { is_supported_returned (viewed_returned S.seen returned.now) ≡ true }
+    ensures { Leaves (ReceivesReturned (state_of core.old) (viewed_returned S.seen returned.now)) result (state_of core.new) }
+{
+    match returned {
+        ReturnedView::Results(payload) => {
+            // The table first: it may be at fault, and then no content is made.
+            let table = payload.cap_table.cap_table(core.alloc)?;
+            let caps = receive_caps(core, table.descriptors())?;
+            Ok(Outcome::Results {
+                content: payload.content.whole(core.alloc)?,
+                caps,
+            })
         }
-    }
-}
-
-impl<'a> Bearing for &'a ReturnedView<View<'a>> {
-    ghost borne = { λ r. viewed_returned (λ t. t) r.now };
-
-    fn receive(self, core: &mut Core) -> Result<Outcome, Halt> {
-        match self {
-            ReturnedView::Results(payload) => {
-                // The table first: it may be at fault, and then no content is made.
-                let table = payload.cap_table.cap_table(core.alloc)?;
-                let caps = receive_caps(core, table.descriptors())?;
-                Ok(Outcome::Results {
-                    content: payload.content.tree(core.alloc)?,
-                    caps,
-                })
-            }
-            ReturnedView::Exception(exception) => {
-                Ok(Outcome::Failed(exception.exception(core.alloc)?))
-            }
-            ReturnedView::Canceled => Ok(Outcome::Canceled),
-            _ => unreachable!(),
-        }
+        ReturnedView::Exception(exception) => Ok(Outcome::Failed(exception.exception(core.alloc)?)),
+        ReturnedView::Canceled => Ok(Outcome::Canceled),
+        _ => unreachable!(),
     }
 }
 

@@ -1,7 +1,7 @@
 //! What a message does by itself.
 
 ghost use Rattle.std.specs.Prelude.{◌≡◌, true};
-ghost use Rattle.cp_rpc.specs.Viewed.{viewed};
+ghost use Rattle.cp_rpc.specs.Viewed.{viewed, viewed_message};
 ghost use Rattle.cp_vat_machine.specs.Local.{Local};
 ghost use Rattle.cp_vat_machine.specs.Step.{On, Receives};
 ghost use Rattle.cp_vat_machine.specs.Supported.{is_supported};
@@ -10,7 +10,7 @@ ghost use Rattle.cp_vat_state.specs.Halts.{Acts};
 ghost use Rattle.cp_vat_state.specs.StateOf.{state_of};
 ghost use Rattle.cp_vat.specs.Lending.{ActsLending};
 
-use crate::echo::{echo, echo_view};
+use crate::echo::echo;
 use crate::lent::Lent;
 use crate::on_bootstrap::on_bootstrap;
 use crate::on_call::{on_call, on_call_lending, without_content};
@@ -18,51 +18,51 @@ use crate::on_disembargo::on_disembargo;
 use crate::on_finish::{on_finish, on_release};
 use crate::on_resolve::on_resolve;
 use crate::on_return::on_return;
-use crate::on_unimplemented::{on_unimplemented, on_unimplemented_view};
-use crate::sizes::{message_fits, message_fits_view};
-use crate::supported::{is_supported, is_supported_view};
-use cp_rpc::{Exception, Message, MessageIn, MessageView};
-use cp_tree::Whole;
+use crate::on_unimplemented::on_unimplemented;
+use crate::sizes::message_fits;
+use crate::supported::is_supported;
+use cp_rpc::{Exception, Message, MessageIn, MessageView, Owned, Source, message_in, tree_of};
 use cp_vat_machine::{Effect, PeerFault, Reason};
 use cp_vat_state::{Core, Halt};
-use std::mem;
 
 /// A message that isn't supported is sent back. Of another one the sizes are looked at, and then it is
 /// acted on.
-pub(crate) fn receive(
+pub(crate) fn receive<S: Source>(
     core: &mut Core,
-    message: Message,
+    message: &MessageIn<S>,
     effects: &mut Vec<Effect>,
 ) -> Result<(), Halt>
     requires { Local (state_of core.old) }
-    ensures { Acts (Receives (state_of core.old) message) result effects.old.items effects.new.items (state_of core.new) }
+    ensures { Acts (Receives (state_of core.old) (viewed_message S.seen message.now)) result effects.old.items effects.new.items (state_of core.new) }
 {
-    if !is_supported(&message) {
-        return echo(core, &message, effects);
+    // Looked at where it lies, which takes no memory.
+    if !is_supported(message) {
+        return echo(core, message, effects);
     }
-    if !message_fits(&message) {
+    if !message_fits(message) {
         return Err(Halt::Fault(PeerFault::PayloadTooLarge));
     }
     act_on(core, message, effects)
 }
 
-/// The same of a message that is read in place, which is looked at in its view first.
-pub(crate) fn receive_view(
+/// The same of an owned message, by the tree that it is written as.
+pub(crate) fn receive_owned(
     core: &mut Core,
-    message: &MessageView,
+    message: &Message,
     effects: &mut Vec<Effect>,
 ) -> Result<(), Halt>
     requires { Local (state_of core.old) }
-    ensures { Acts (Receives (state_of core.old) (viewed message.now)) result effects.old.items effects.new.items (state_of core.new) }
+    ensures { Acts (Receives (state_of core.old) message.now) result effects.old.items effects.new.items (state_of core.new) }
 {
-    // Looked at in its view, which takes no memory.
-    if !is_supported_view(message) {
-        return echo_view(core, message, effects);
+    let Ok(root) = tree_of(core.alloc, message) else {
+        // Also where a list is too long for any tree, which no peer can send.
+        return Err(Halt::OutOfMemory);
+    };
+    match message_in(&Owned::root(&root)) {
+        Ok(message) => receive(core, &message, effects),
+        // The tree says the message.
+        Err(_) => unreachable!(),
     }
-    if !message_fits_view(message) {
-        return Err(Halt::Fault(PeerFault::PayloadTooLarge));
-    }
-    act_on_view(core, message, effects)
 }
 
 /// The same of a message that is read in place, but that a call which goes to an object is lent to it.
@@ -77,8 +77,8 @@ pub(crate) fn receive_lending<'a>(
     let MessageIn::Call(call) = message else {
         return receive_whole(core, message, effects);
     };
-    // `receive_view` tests the same, and answers it.
-    if !is_supported_view(message) || !message_fits_view(message) {
+    // `receive` tests the same, and answers it.
+    if !is_supported(message) || !message_fits(message) {
         return receive_whole(core, message, effects);
     }
     let content = call.params.content.again();
@@ -94,56 +94,29 @@ fn receive_whole<'a>(
     requires { Local (state_of core.old) }
     ensures { ActsLending (Receives (state_of core.old) (viewed message.now)) result effects.old.items effects.new.items (state_of core.new) }
 {
-    receive_view(core, message, effects)?;
+    receive(core, message, effects)?;
     Ok(None)
 }
 
-/// What a message does, by its member.
-fn act_on(core: &mut Core, message: Message, effects: &mut Vec<Effect>) -> Result<(), Halt>
-    requires supported { is_supported message ≡ true }
-    requires local { Local (state_of core.old) }
-    ensures { Acts (On (state_of core.old) message) result effects.old.items effects.new.items (state_of core.new) }
-{
-    match message {
-        Message::Unimplemented(tree) => on_unimplemented(core, tree),
-        Message::Abort(exception) => on_abort(core, exception, effects),
-        Message::Call(mut call) => {
-            // The content comes beside the call, as that of a call which is read in place does.
-            let content = mem::replace(&mut call.params.content, Whole::null());
-            on_call(core, call, content, effects)
-        }
-        Message::Return(message) => {
-            let release = message.release_param_caps;
-            on_return(core, message.answer_id, release, message.returned, effects)
-        }
-        Message::Finish(finish) => on_finish(core, finish),
-        Message::Resolve(resolve) => on_resolve(core, resolve, effects),
-        Message::Release(release) => on_release(core, release),
-        Message::Bootstrap(bootstrap) => on_bootstrap(core, bootstrap.question_id, effects),
-        Message::Disembargo(disembargo) => on_disembargo(core, &disembargo, effects),
-        Message::Other { .. } => unreachable!(),
-    }
-}
-
-/// The same of a message that is read in place. Its small parts are made here, since they are within the
-/// vat's sizes. Contents are made where they are kept or sent.
-fn act_on_view(
+/// What a message does, by its member. Its small parts are made here, since they are within the vat's sizes. Contents are
+/// made where they are kept or sent.
+fn act_on<S: Source>(
     core: &mut Core,
-    message: &MessageView,
+    message: &MessageIn<S>,
     effects: &mut Vec<Effect>,
 ) -> Result<(), Halt>
-    requires supported { is_supported (viewed message.now) ≡ true }
+    requires supported { is_supported (viewed_message S.seen message.now) ≡ true }
     requires local { Local (state_of core.old) }
-    ensures { Acts (On (state_of core.old) (viewed message.now)) result effects.old.items effects.new.items (state_of core.new) }
+    ensures { Acts (On (state_of core.old) (viewed_message S.seen message.now)) result effects.old.items effects.new.items (state_of core.new) }
 {
     match message {
-        MessageIn::Unimplemented(tree) => on_unimplemented_view(core, tree),
+        MessageIn::Unimplemented(tree) => on_unimplemented(core, tree),
         MessageIn::Abort(exception) => {
             let exception = exception.exception(core.alloc)?;
             on_abort(core, exception, effects)
         }
         MessageIn::Call(call) => {
-            let content = call.params.content.again();
+            let content = &call.params.content;
             on_call(core, without_content(core.alloc, call)?, content, effects)
         }
         MessageIn::Return(message) => {
@@ -151,7 +124,7 @@ fn act_on_view(
             on_return(core, message.answer_id, release, &message.returned, effects)
         }
         MessageIn::Finish(finish) => on_finish(core, *finish),
-        MessageIn::Resolve(resolve) => on_resolve(core, resolve.resolve(core.alloc)?, effects),
+        MessageIn::Resolve(resolve) => on_resolve(core, resolve, effects),
         MessageIn::Release(release) => on_release(core, *release),
         MessageIn::Bootstrap(bootstrap) => on_bootstrap(core, bootstrap.question_id, effects),
         MessageIn::Disembargo(disembargo) => {

@@ -2,15 +2,13 @@
 
 ghost use Rattle.std.specs.Prelude.{◌≡◌};
 ghost use Rattle.std.specs.List.{list_all};
-ghost use Rattle.cp_rpc.specs.Viewed.{viewed, viewed_descriptor, viewed_exception, viewed_payload, viewed_resolution, viewed_returned, viewed_target};
+ghost use Rattle.cp_rpc.specs.Viewed.{viewed_message, viewed_descriptor, viewed_exception, viewed_payload, viewed_resolution, viewed_returned, viewed_target};
 ghost use Rattle.cp_vat_machine.specs.Capacity.{cap_fits, caps_fit, content_fits, descriptor_fits, exception_fits, message_fits, outcome_fits, payload_fits, request_fits, resolution_fits, returned_fits, target_fits, transform_fits};
 
-use cp_reading::View;
 use cp_refs::{Cap, Outcome, Request};
 use cp_rpc::{
-    CapTableView, Descriptor, DescriptorView, Exception, ExceptionView, Message, MessageIn,
-    MessageView, Payload, PayloadView, PromisedAnswer, Resolution, ResolutionView, Returned,
-    ReturnedView, Target, TargetView,
+    CapTableView, DescriptorView, Exception, ExceptionView, MessageIn, PayloadView, ResolutionView,
+    ReturnedView, Source, TargetView,
 };
 use cp_tree::{Whole, fits};
 
@@ -31,16 +29,16 @@ const PATH_LENGTH: usize = 16;
 /// How many bytes a reason or a trace has at most.
 const TEXT_LENGTH: usize = 65_536;
 
-/// Whether a message of the peer is within the vat's sizes.
-pub(crate) fn message_fits(message: &Message) -> bool
-    ensures { result ≡ message_fits message.now }
+/// Whether a message of the peer's is within the vat's sizes.
+pub(crate) fn message_fits<S: Source>(message: &MessageIn<S>) -> bool
+    ensures { result ≡ message_fits (viewed_message S.seen message.now) }
 {
     match message {
-        Message::Abort(exception) => exception_fits(exception),
-        Message::Call(call) => target_fits(&call.target) && payload_fits(&call.params),
-        Message::Return(returned) => returned_fits(&returned.returned),
-        Message::Resolve(resolve) => resolution_fits(&resolve.resolution),
-        Message::Disembargo(disembargo) => target_fits(&disembargo.target),
+        MessageIn::Abort(exception) => exception_fits_in(exception),
+        MessageIn::Call(call) => target_fits(&call.target) && payload_fits(&call.params),
+        MessageIn::Return(returned) => returned_fits(&returned.returned),
+        MessageIn::Resolve(resolve) => resolution_fits(&resolve.resolution),
+        MessageIn::Disembargo(disembargo) => target_fits(&disembargo.target),
         _ => true,
     }
 }
@@ -74,17 +72,66 @@ pub(crate) fn cap_fits(cap: &Cap) -> bool
     }
 }
 
-/// Whether a message that is read in place is within the vat's sizes.
-pub(crate) fn message_fits_view(message: &MessageView) -> bool
-    ensures { result ≡ message_fits (viewed message.now) }
+fn exception_fits_in<S: Source>(exception: &ExceptionView<S>) -> bool
+    ensures { result ≡ exception_fits (viewed_exception S.seen exception.now) }
 {
-    match message {
-        MessageIn::Abort(exception) => exception_fits_view(exception),
-        MessageIn::Call(call) => target_fits_view(&call.target) && payload_fits_view(&call.params),
-        MessageIn::Return(returned) => returned_fits_view(&returned.returned),
-        MessageIn::Resolve(resolve) => resolution_fits_view(&resolve.resolution),
-        MessageIn::Disembargo(disembargo) => target_fits_view(&disembargo.target),
+    exception.reason.len() <= TEXT_LENGTH && exception.trace.len() <= TEXT_LENGTH
+}
+
+fn target_fits<S: Source>(target: &TargetView<S>) -> bool
+    ensures { result ≡ target_fits (viewed_target S.seen target.now) }
+{
+    match target {
+        TargetView::PromisedAnswer(answer) => answer.transform.len() <= PATH_LENGTH,
         _ => true,
+    }
+}
+
+fn payload_fits<S: Source>(payload: &PayloadView<S>) -> bool
+    ensures { result ≡ payload_fits (viewed_payload S.seen payload.now) }
+{
+    payload.content.fits(CONTENT_DEPTH, CONTENT_COST)
+        && payload.cap_table.len() <= TABLE_LENGTH
+        && all_descriptors_fit(&payload.cap_table)
+}
+
+fn all_descriptors_fit<S: Source>(table: &CapTableView<S>) -> bool
+    ensures { result ≡ list_all descriptor_fits table.now }
+{
+    for i in 0..table.len() {
+        if !descriptor_fits(&table.descriptor(i)) {
+            return false;
+        }
+    }
+    true
+}
+
+fn descriptor_fits<S: Source>(descriptor: &DescriptorView<S>) -> bool
+    ensures { result ≡ descriptor_fits (viewed_descriptor S.seen descriptor.now) }
+{
+    match descriptor {
+        DescriptorView::ReceiverAnswer(answer) => answer.transform.len() <= PATH_LENGTH,
+        _ => true,
+    }
+}
+
+fn returned_fits<S: Source>(returned: &ReturnedView<S>) -> bool
+    ensures { result ≡ returned_fits (viewed_returned S.seen returned.now) }
+{
+    match returned {
+        ReturnedView::Results(payload) => payload_fits(payload),
+        ReturnedView::Exception(exception) => exception_fits_in(exception),
+        _ => true,
+    }
+}
+
+fn resolution_fits<S: Source>(resolution: &ResolutionView<S>) -> bool
+    ensures { result ≡ resolution_fits (viewed_resolution S.seen resolution.now) }
+{
+    match resolution {
+        ResolutionView::Cap(descriptor) => descriptor_fits(descriptor),
+        ResolutionView::Exception(exception) => exception_fits_in(exception),
+        ResolutionView::Unknown(_) => true,
     }
 }
 
@@ -94,72 +141,10 @@ fn exception_fits(exception: &Exception) -> bool
     exception.reason.as_str().len() <= TEXT_LENGTH && exception.trace.as_str().len() <= TEXT_LENGTH
 }
 
-fn target_fits(target: &Target) -> bool
-    ensures { result ≡ target_fits target.now }
-{
-    match target {
-        Target::PromisedAnswer(answer) => transform_fits(answer),
-        _ => true,
-    }
-}
-
-fn transform_fits(answer: &PromisedAnswer) -> bool
-    ensures { result ≡ transform_fits answer.now.transform }
-{
-    answer.transform.ops().len() <= PATH_LENGTH
-}
-
-fn payload_fits(payload: &Payload) -> bool
-    ensures { result ≡ payload_fits payload.now }
-{
-    let table = payload.cap_table.descriptors();
-    content_fits(&payload.content) && table.len() <= TABLE_LENGTH && all_descriptors_fit(table)
-}
-
 fn content_fits(content: &Whole) -> bool
     ensures { result ≡ content_fits content.now }
 {
     fits(content.tree(), CONTENT_DEPTH, CONTENT_COST)
-}
-
-fn all_descriptors_fit(table: &[Descriptor]) -> bool
-    ensures { result ≡ list_all descriptor_fits table.now }
-{
-    for descriptor in table {
-        if !descriptor_fits(descriptor) {
-            return false;
-        }
-    }
-    true
-}
-
-fn descriptor_fits(descriptor: &Descriptor) -> bool
-    ensures { result ≡ descriptor_fits descriptor.now }
-{
-    match descriptor {
-        Descriptor::ReceiverAnswer(answer) => transform_fits(answer),
-        _ => true,
-    }
-}
-
-fn returned_fits(returned: &Returned) -> bool
-    ensures { result ≡ returned_fits returned.now }
-{
-    match returned {
-        Returned::Results(payload) => payload_fits(payload),
-        Returned::Exception(exception) => exception_fits(exception),
-        _ => true,
-    }
-}
-
-fn resolution_fits(resolution: &Resolution) -> bool
-    ensures { result ≡ resolution_fits resolution.now }
-{
-    match resolution {
-        Resolution::Cap(descriptor) => descriptor_fits(descriptor),
-        Resolution::Exception(exception) => exception_fits(exception),
-        Resolution::Unknown(_) => true,
-    }
 }
 
 fn caps_fit(table: &[Cap]) -> bool
@@ -177,67 +162,4 @@ fn all_caps_fit(table: &[Cap]) -> bool
         }
     }
     true
-}
-
-fn exception_fits_view(exception: &ExceptionView<View>) -> bool
-    ensures { result ≡ exception_fits (viewed_exception (λ t. t) exception.now) }
-{
-    exception.reason.len() <= TEXT_LENGTH && exception.trace.len() <= TEXT_LENGTH
-}
-
-fn target_fits_view(target: &TargetView<View>) -> bool
-    ensures { result ≡ target_fits (viewed_target (λ t. t) target.now) }
-{
-    match target {
-        TargetView::PromisedAnswer(answer) => answer.transform.len() <= PATH_LENGTH,
-        _ => true,
-    }
-}
-
-fn payload_fits_view(payload: &PayloadView<View>) -> bool
-    ensures { result ≡ payload_fits (viewed_payload (λ t. t) payload.now) }
-{
-    payload.content.fits(CONTENT_DEPTH, CONTENT_COST)
-        && payload.cap_table.len() <= TABLE_LENGTH
-        && all_descriptors_fit_view(&payload.cap_table)
-}
-
-fn all_descriptors_fit_view(table: &CapTableView<View>) -> bool
-    ensures { result ≡ list_all descriptor_fits table.now }
-{
-    for i in 0..table.len() {
-        if !descriptor_fits_view(&table.descriptor(i)) {
-            return false;
-        }
-    }
-    true
-}
-
-fn descriptor_fits_view(descriptor: &DescriptorView<View>) -> bool
-    ensures { result ≡ descriptor_fits (viewed_descriptor (λ t. t) descriptor.now) }
-{
-    match descriptor {
-        DescriptorView::ReceiverAnswer(answer) => answer.transform.len() <= PATH_LENGTH,
-        _ => true,
-    }
-}
-
-fn returned_fits_view(returned: &ReturnedView<View>) -> bool
-    ensures { result ≡ returned_fits (viewed_returned (λ t. t) returned.now) }
-{
-    match returned {
-        ReturnedView::Results(payload) => payload_fits_view(payload),
-        ReturnedView::Exception(exception) => exception_fits_view(exception),
-        _ => true,
-    }
-}
-
-fn resolution_fits_view(resolution: &ResolutionView<View>) -> bool
-    ensures { result ≡ resolution_fits (viewed_resolution (λ t. t) resolution.now) }
-{
-    match resolution {
-        ResolutionView::Cap(descriptor) => descriptor_fits_view(descriptor),
-        ResolutionView::Exception(exception) => exception_fits_view(exception),
-        ResolutionView::Unknown(_) => true,
-    }
 }

@@ -10,7 +10,7 @@ ghost use Rattle.cp_vat_machine.specs.Step.{Step};
 ghost use Rattle.cp_vat_machine.specs.declared.event.Event.TheVariants as events;
 ghost use Rattle.cp_vat_machine.specs.declared.event.Value.TheVariants as values;
 ghost use Rattle.cp_vat_laws.specs.Sizes.{AreWritable};
-ghost use Rattle.cp_vat.specs.Kept.{entries_of};
+ghost use Rattle.cp_vat.specs.Kept.{contents_of, entries_of};
 ghost use Rattle.cp_vat.specs.Lending.{effects_lending};
 ghost use Rattle.cp_vat.specs.Stepping.{answered, effects_of};
 
@@ -125,6 +125,15 @@ impl Vat {
         self.core.values.values().promises().len()
     }
 
+    /// The bytes of memory that contents take which it keeps: of calls that wait, and what promises, imports, answers and questions
+    /// came to. Of the results of answers and questions the pointers are kept, where there are capabilities. At most `u64::MAX`.
+    pub fn contents(&self) -> u64
+        ensures { result ≡ contents_of self.now }
+    {
+        let calls = self.core.gates.memory();
+        calls.saturating_add(self.core.values.memory())
+    }
+
     /// Whether it refers to this object: a Bootstrap gets it, the peer was given it and holds it, an answer or a promise that is kept
     /// names it, a call that waits does, or an embargo leads to it.
     pub fn uses_object(&self, object: u32) -> bool
@@ -153,7 +162,11 @@ impl Vat {
         }
     }
 
-    /// Takes in a message of the peer's.
+    /// Takes in a message of the peer's, by the tree that it is written as.
+    ///
+    /// # Errors
+    ///
+    /// V10 where memory runs out, or where a list of the message has 2^29 elements or words or more, which no peer can send.
     pub fn receive(&mut self, message: Message) -> Result<Acted<()>, VatFault>
         ensures step { Step self.old (events.Receive message) (answered (λ _. values.Nothing) result) (effects_of result) self.new }
         ensures writable { AreWritable (effects_of result) }
@@ -162,7 +175,8 @@ impl Vat {
             return Err(VatFault::Closed);
         }
         let mut effects = Vec::new(self.core.alloc);
-        let done = receiving::receive(&mut self.core, message, &mut effects);
+        let done = receiving::receive_owned(&mut self.core, &message, &mut effects);
+        drop(message);
         end_message(&mut self.core, done, effects)
     }
 
@@ -177,7 +191,7 @@ impl Vat {
             return Err(VatFault::Closed);
         }
         let mut effects = Vec::new(self.core.alloc);
-        let done = receiving::receive_view(&mut self.core, &message, &mut effects);
+        let done = receiving::receive(&mut self.core, &message, &mut effects);
         end_message(&mut self.core, done, effects)
     }
 

@@ -5,9 +5,9 @@ use Rattle.cp_vat.proofs.Ready.{may_go_carrying}
 use Rattle.cp_vat.proofs.on_call.go_on.Goals as goal
 
 pub go-requires : goal.go-requires
-go-requires g c = may_go_carrying (state_of c.args.core.now) (bearing c.args.call.now c.args.arrival (g.C.ReceivedContent.seen c.args.content)) c.in_ok-content.content c.requires
+go-requires g c = may_go_carrying (state_of c.args.core.now) (bearing c.args.call.now c.args.arrival (g.S.Source.seen c.args.content.now)) c.in_ok-content.content c.requires
 
 pub returns : goal.returns
 returns g c =
-    goes_carrying (state_of c.args.core.now) (bearing c.args.call.now c.args.arrival (g.C.ReceivedContent.seen c.args.content)) c.in_ok-content.content c.args.arrival.route _ _ _ _
+    goes_carrying (state_of c.args.core.now) (bearing c.args.call.now c.args.arrival (g.S.Source.seen c.args.content.now)) c.in_ok-content.content c.args.arrival.route _ _ _ _
     c.in_ok-content.ensures c.go.ensures.acts

@@ -10,20 +10,20 @@ returns-then-self-clause-step c = was_closed (events.Receive c.args.message) (rw
 pub returns-clause-step : goal.returns-clause-step
 returns-clause-step c =
     rw (← c.self.view_is)
-    (message_steps c.args.message (state_of c.self.inside.core) (state_of c.receive-done.new.core) (state_of c.end_message.new.core) c.receive-done.result c.new-effects.result.items c.receive-done.new.effects.items c.end_message.result c.new-effects.ensures.items c.if-self.false c.receive-done.ensures c.end_message.ensures)
+    (message_steps c.args.message (state_of c.self.inside.core) (state_of c.receive_owned-done.new.core) (state_of c.end_message.new.core) c.receive_owned-done.result c.new-effects.result.items c.receive_owned-done.new.effects.items c.end_message.result c.new-effects.ensures.items c.if-self.false c.receive_owned-done.ensures c.end_message.ensures)
 
 pub returns-then-self-clause-writable : goal.returns-then-self-clause-writable
 returns-then-self-clause-writable c = tt
 
 pub returns-clause-writable : goal.returns-clause-writable
-returns-clause-writable c = message_writes c.args.message (state_of c.self.inside.core) (state_of c.receive-done.new.core) (state_of c.end_message.new.core) c.receive-done.result c.new-effects.result.items c.receive-done.new.effects.items c.end_message.result c.new-effects.ensures.items c.self.invariant c.if-self.false c.receive-done.ensures c.end_message.ensures
+returns-clause-writable c = message_writes c.args.message (state_of c.self.inside.core) (state_of c.receive_owned-done.new.core) (state_of c.end_message.new.core) c.receive_owned-done.result c.new-effects.result.items c.receive_owned-done.new.effects.items c.end_message.result c.new-effects.ensures.items c.self.invariant c.if-self.false c.receive_owned-done.ensures c.end_message.ensures
 
 pub invariant_of-self : goal.invariant_of-self
-invariant_of-self c = message_stays c.args.message (state_of c.self.inside.core) (state_of c.receive-done.new.core) (state_of c.end_message.new.core) c.receive-done.result c.new-effects.result.items c.receive-done.new.effects.items c.end_message.result c.new-effects.ensures.items c.self.invariant c.if-self.false c.receive-done.ensures c.end_message.ensures
+invariant_of-self c = message_stays c.args.message (state_of c.self.inside.core) (state_of c.receive_owned-done.new.core) (state_of c.end_message.new.core) c.receive_owned-done.result c.new-effects.result.items c.receive_owned-done.new.effects.items c.end_message.result c.new-effects.ensures.items c.self.invariant c.if-self.false c.receive_owned-done.ensures c.end_message.ensures
 
 pub end_message-requires : goal.end_message-requires
 end_message-requires c =
-    message_within c.args.message (state_of c.self.inside.core) (state_of c.receive-done.new.core) c.receive-done.result c.new-effects.result.items c.receive-done.new.effects.items c.self.invariant.0 c.if-self.false c.receive-done.ensures
+    message_within c.args.message (state_of c.self.inside.core) (state_of c.receive_owned-done.new.core) c.receive_owned-done.result c.new-effects.result.items c.receive_owned-done.new.effects.items c.self.invariant.0 c.if-self.false c.receive_owned-done.ensures
 
-pub receive-done-requires : goal.receive-done-requires
-receive-done-requires c = c.self.invariant.0 c.if-self.false
+pub receive_owned-done-requires : goal.receive_owned-done-requires
+receive_owned-done-requires c = c.self.invariant.0 c.if-self.false

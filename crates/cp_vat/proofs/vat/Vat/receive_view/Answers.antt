@@ -11,20 +11,20 @@ returns-then-self-clause-step c = was_closed (events.Receive (viewed c.args.mess
 pub returns-clause-step : goal.returns-clause-step
 returns-clause-step c =
     rw (← c.self.view_is)
-    (message_steps (viewed c.args.message) (state_of c.self.inside.core) (state_of c.receive_view-done.new.core) (state_of c.end_message.new.core) c.receive_view-done.result c.new-effects.result.items c.receive_view-done.new.effects.items c.end_message.result c.new-effects.ensures.items c.if-self.false c.receive_view-done.ensures c.end_message.ensures)
+    (message_steps (viewed c.args.message) (state_of c.self.inside.core) (state_of c.receive-done.new.core) (state_of c.end_message.new.core) c.receive-done.result c.new-effects.result.items c.receive-done.new.effects.items c.end_message.result c.new-effects.ensures.items c.if-self.false c.receive-done.ensures c.end_message.ensures)
 
 pub returns-then-self-clause-writable : goal.returns-then-self-clause-writable
 returns-then-self-clause-writable c = tt
 
 pub returns-clause-writable : goal.returns-clause-writable
-returns-clause-writable c = message_writes (viewed c.args.message) (state_of c.self.inside.core) (state_of c.receive_view-done.new.core) (state_of c.end_message.new.core) c.receive_view-done.result c.new-effects.result.items c.receive_view-done.new.effects.items c.end_message.result c.new-effects.ensures.items c.self.invariant c.if-self.false c.receive_view-done.ensures c.end_message.ensures
+returns-clause-writable c = message_writes (viewed c.args.message) (state_of c.self.inside.core) (state_of c.receive-done.new.core) (state_of c.end_message.new.core) c.receive-done.result c.new-effects.result.items c.receive-done.new.effects.items c.end_message.result c.new-effects.ensures.items c.self.invariant c.if-self.false c.receive-done.ensures c.end_message.ensures
 
 pub invariant_of-self : goal.invariant_of-self
-invariant_of-self c = message_stays (viewed c.args.message) (state_of c.self.inside.core) (state_of c.receive_view-done.new.core) (state_of c.end_message.new.core) c.receive_view-done.result c.new-effects.result.items c.receive_view-done.new.effects.items c.end_message.result c.new-effects.ensures.items c.self.invariant c.if-self.false c.receive_view-done.ensures c.end_message.ensures
+invariant_of-self c = message_stays (viewed c.args.message) (state_of c.self.inside.core) (state_of c.receive-done.new.core) (state_of c.end_message.new.core) c.receive-done.result c.new-effects.result.items c.receive-done.new.effects.items c.end_message.result c.new-effects.ensures.items c.self.invariant c.if-self.false c.receive-done.ensures c.end_message.ensures
 
 pub end_message-requires : goal.end_message-requires
 end_message-requires c =
-    message_within (viewed c.args.message) (state_of c.self.inside.core) (state_of c.receive_view-done.new.core) c.receive_view-done.result c.new-effects.result.items c.receive_view-done.new.effects.items c.self.invariant.0 c.if-self.false c.receive_view-done.ensures
+    message_within (viewed c.args.message) (state_of c.self.inside.core) (state_of c.receive-done.new.core) c.receive-done.result c.new-effects.result.items c.receive-done.new.effects.items c.self.invariant.0 c.if-self.false c.receive-done.ensures
 
-pub receive_view-done-requires : goal.receive_view-done-requires
-receive_view-done-requires c = c.self.invariant.0 c.if-self.false
+pub receive-done-requires : goal.receive-done-requires
+receive-done-requires c = c.self.invariant.0 c.if-self.false
