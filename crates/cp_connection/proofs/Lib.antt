@@ -11,4 +11,7 @@ pub mod Serving
 pub mod Turns
 pub mod Moving
 pub mod Living
+pub mod Aborting
+pub mod Courses
 pub mod Lending
+pub mod Contents

@@ -1,7 +1,9 @@
 -- What a call of the application, or a message of the peer, does to a connection.
-use Rattle.std.specs.Prelude.{◌≡◌, ◌≢◌, ◌⊎◌, ℕ, if◌then◌else◌, List, ◌++◌, Option, Some, None, Result, Ok, Err, length}
+use Rattle.std.specs.Prelude.{◌≡◌, ◌≢◌, ◌⊎◌, ℕ, if◌then◌else◌, true, false, List, [], ◌∷◌, ◌++◌, Option, Some, None, Result, Ok, Err, length}
+use Rattle.cp_frame.specs.Reader as frames
 use Rattle.cp_vat_machine.specs.Asked.{stage_of}
 use Rattle.cp_vat_machine.specs.Run.{Moment}
+use Rattle.cp_vat_machine.specs.State.{new_state}
 use Rattle.cp_vat_machine.specs.Supported.{is_supported_to_caller}
 use Rattle.cp_vat_machine.specs.declared.effect.Effect.{Effect}
 use Rattle.cp_vat_machine.specs.declared.event.Event.{Event}
@@ -10,11 +12,13 @@ use Rattle.cp_vat_machine.specs.declared.fault.VatFault.{VatFault}
 use Rattle.cp_vat_machine.specs.declared.fault.VatFault.TheVariants as refusals
 use Rattle.cp_tail_calls.specs.Bridging.{sent_of}
 use Rattle.cp_tail_calls.specs.Serving.{Served, Serves, closes}
+use Rattle.cp_connection.specs.declared.excess.Excess.{Excess}
 use Rattle.cp_connection.specs.declared.fault.ConnectionFault.{ConnectionFault}
 use Rattle.cp_connection.specs.declared.fault.ConnectionFault.TheVariants as faults
 use Rattle.cp_connection.specs.Refusing.{refusal_of}
 use Rattle.cp_connection.specs.Counting.{CountsMore}
 use Rattle.cp_connection.specs.Effects.{happening_by, AreFramesOf}
+use Rattle.cp_connection.specs.Excess.{abort_of}
 use Rattle.cp_connection.specs.Link.{Link}
 
 -- why a connection ends by an event: memory ran out, or the vat closed
@@ -58,6 +62,28 @@ Refuses old event fault new =
 abbrev pub Acts : Link → Event → Result Value ConnectionFault → Link → Type 0
 Acts old event (Ok value) new = Does old event (Ok value) new
 Acts old event (Err fault) new = HadEnded old fault new ⊎ Refuses old event fault new
+
+-- the fault for which it ended before, or else this one
+abbrev pub first_fault : Option ConnectionFault → ConnectionFault → ConnectionFault
+first_fault None fault = fault
+first_fault (Some first) fault = first
+
+-- It ended for this fault, unless it ended before. Its vat is closed and keeps nothing, nor do tail calls, and nothing is left of the open frame.
+abbrev pub let_go : Link → ConnectionFault → Link
+let_go link fault = record link {
+  reading = frames.reading [] 0;
+  vat = record (new_state None) { is_closed = true };
+  tails = None;
+  fault = Some (first_fault link.fault fault);
+}
+
+-- A connection is aborted: its vat is closed, and what that keeps goes. The frame of the Abort that says what is too much comes after the bytes that weren't
+-- written; where memory ran out for it, it isn't sent. Where the vat was closed, nothing changes.
+pub data Aborts (old : Link) (excess : Excess) (new : Link) : Type 0 where
+  tells : (bytes : List ℕ) (sent : ℕ) → old.vat.is_closed ≡ false → AreFramesOf old.mode (abort_of excess ∷ []) bytes → CountsMore old.tally.sent 1 sent
+      → new ≡ record (let_go old faults.Closed) { unwritten = old.unwritten ++ bytes; tally = record old.tally { sent = sent } } → Aborts old excess new
+  runs_out : old.vat.is_closed ≡ false → new ≡ let_go old faults.OutOfMemory → Aborts old excess new
+  was_closed : old.vat.is_closed ≡ true → new ≡ old → Aborts old excess new
 
 module _ {A : Type 0} where
   -- the value, or the fault

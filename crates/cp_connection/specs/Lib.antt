@@ -2,6 +2,7 @@ pub mod Refusing
 pub mod Kinds
 pub mod Counting
 pub mod Effects
+pub mod Excess
 pub mod Outgoing
 pub mod Noting
 pub mod Link
@@ -15,3 +16,4 @@ pub mod LinkOf
 pub mod Settling
 pub mod Lives
 pub mod LinkCode
+pub mod Contents

@@ -6,12 +6,13 @@ use Rattle.cp_frame.specs.declared.fault.FrameFault.TheVariants as frames
 use Rattle.cp_stream.specs.Stream.{HoldsNone}
 use Rattle.cp_stream.specs.declared.fault.Refusal.{Refusal}
 use Rattle.cp_stream.specs.declared.fault.Refusal.TheVariants as refusals
-use Rattle.cp_vat_machine.specs.State.{State}
+use Rattle.cp_vat_machine.specs.State.{State, new_state}
 use Rattle.cp_vat_machine.specs.declared.fault.VatFault.{VatFault}
 use Rattle.cp_vat_machine.specs.declared.fault.VatFault.TheVariants as vat_refusals
 use Rattle.cp_tail_calls.specs.Tails.{Tails}
 use Rattle.cp_connection.specs.declared.fault.ConnectionFault.{ConnectionFault}
 use Rattle.cp_connection.specs.declared.fault.ConnectionFault.TheVariants as faults
+use Rattle.cp_connection.specs.Doing.{first_fault}
 use Rattle.cp_connection.specs.Link.{Link, HasCome}
 use Rattle.cp_connection.specs.Owing.{OwesSendable}
 use Rattle.cp_connection.specs.declared.parts.Parts.{Parts}
@@ -62,6 +63,11 @@ unread_at at fault = faults.Unreadable at (refusals.Frame fault)
 abbrev pub refused_by : VatFault → Option ConnectionFault → Option ConnectionFault
 refused_by vat_refusals.OutOfMemory before = Some faults.OutOfMemory
 refused_by fault before = before
+
+-- The connection ends for this fault, unless it ended before. What the vat, tail calls and the open frame keep goes.
+pub record LetsGo (old : Parts) (fault : ConnectionFault) (new : Parts) : Type 0 where
+  pub frames : new.frames ≡ readers.new_reader old.agenda.mode old.limits
+  pub same : new ≡ record old { frames = new.frames; vat = new_state None; tails = None; is_lost = true; fault = Some (first_fault old.fault fault) }
 
 -- The frame with these segments and this many bytes ends in the piece, and this follows it. Nothing changed but the reader of frames.
 pub record GivesFrame (old : Parts) (piece : List ℕ) (taken : ℕ) (segments : List (List ℕ)) (back : List ℕ) (new : Parts) : Type 0 where

@@ -2,11 +2,13 @@
 
 ghost use Rattle.std.specs.Prelude.{◌≡◌, ◌∷◌, [], IfOk, OnOk, OnErr};
 ghost use Rattle.cp_tail_calls.specs.Serving.{closes, comes_of};
+ghost use Rattle.cp_connection.specs.Excess.{abort_of};
 ghost use Rattle.cp_connection.specs.Noting.{Notes, IsTold, Grows, Stays, IsNew, Marks, GoesBack};
 ghost use Rattle.cp_vat_machine.specs.declared.effect.Effect.{Effect};
 ghost use Rattle.cp_vat_machine.specs.declared.effect.Effect.TheVariants.{Send};
 ghost use Rattle.cp_vat_laws.specs.Sizes.{AreWritable, IsWritable, IsWritten};
 
+use crate::excess::Excess;
 use crate::happening::Happening;
 use crate::outgoing::Outgoing;
 use cp_frame::Mode;
@@ -157,6 +159,15 @@ impl Agenda {
         put?;
         self.sent = self.sent.saturating_add(1);
         Ok(())
+    }
+
+    /// Sends an Abort that says what is too much.
+    pub fn abort(&mut self, alloc: Global, excess: Excess) -> Result<(), AllocError>
+        ensures noted { OnOk result (Notes self.old (Send (abort_of excess) ∷ []) self.new) }
+        ensures same { OnErr result (Stays self.old self.new) }
+    {
+        let message = excess.abort(alloc)?;
+        self.send(message)
     }
 
     /// Adds what happened last.

@@ -1,7 +1,8 @@
 //! A connection without devices.
 
+use crate::excess::Excess;
 use crate::fault::ConnectionFault;
-use crate::happening::{Happening, Held, Tally};
+use crate::happening::{Happening, Held, Tally, happened_memory};
 use crate::parts::Parts;
 use cp_frame::Mode;
 use cp_refs::{Cap, Origin, Outcome, PromiseId, Request};
@@ -77,9 +78,11 @@ impl Connection {
     ghost use Rattle.cp_vat_machine.specs.declared.event.Event.TheVariants as events;
     ghost use Rattle.cp_vat_machine.specs.declared.event.Value.TheVariants as values;
     ghost use Rattle.cp_vat_machine.specs.InUse.{is_object_used};
+    ghost use Rattle.cp_refs.specs.Memory.{counted};
     ghost use Rattle.cp_vat.specs.Kept.{entries_of};
+    ghost use Rattle.cp_connection.specs.Contents.{happened_memory, kept_contents};
     ghost use Rattle.cp_connection.specs.Link.{HasCome, new_link, new_link_with_tails};
-    ghost use Rattle.cp_connection.specs.Doing.{Acts, answered};
+    ghost use Rattle.cp_connection.specs.Doing.{Aborts, Acts, answered};
     ghost use Rattle.cp_connection.specs.Receiving.{Receives, IsUnreceived, EndsWell, EndsBadly, Wrote, HandsOut};
     ghost use Rattle.cp_connection.specs.Lending.{ReceivesLending};
 
@@ -265,6 +268,14 @@ impl Connection {
         self.parts.conclude(acted, Trigger::Application)
     }
 
+    /// Ends the connection with an Abort that says what is too much. It goes out after what is to, and is the last: the vat closes, and
+    /// what it keeps goes. Nothing is done where the vat is closed, and where memory runs out for the Abort none goes out.
+    pub fn abort(&mut self, excess: Excess)
+        ensures { Aborts self.old excess self.new }
+    {
+        self.parts.abort(excess);
+    }
+
     /// Whether the vat refers to this object, as `Vat::uses_object` says. A happening that wasn't taken may name it too.
     pub fn uses_object(&self, object: u32) -> bool
         ensures { result ≡ is_object_used self.now.vat object }
@@ -298,6 +309,7 @@ impl Connection {
         ensures entries { result.entries ≡ entries_of self.now.vat }
         ensures imports { result.imports ≡ map.len self.now.vat.counts.imports }
         ensures promises { result.promises ≡ map.len self.now.vat.values.promises }
+        ensures contents { result.contents ≡ kept_contents self.now }
     {
         Held {
             came: self.parts.frames.taken(),
@@ -306,6 +318,14 @@ impl Connection {
             entries: self.parts.vat.entries(),
             imports: self.parts.vat.imports(),
             promises: self.parts.vat.promises(),
+            contents: self.parts.contents(),
         }
+    }
+
+    /// The bytes of memory that the contents of what happened and wasn't taken take. It goes over these, and `held` over nothing.
+    pub fn happened_memory(&self) -> u64
+        ensures { result ≡ counted (happened_memory self.now.happened) }
+    {
+        happened_memory(&self.parts.agenda.happened)
     }
 }

@@ -2,8 +2,11 @@
 
 ghost use Rattle.std.specs.Prelude.{◌≡◌};
 ghost use Rattle.cp_connection.specs.declared.fault.ConnectionFault.TheVariants.{OutOfMemory};
+ghost use Rattle.cp_connection.specs.Excess.{excess_of, frame_excess, refused_excess};
 ghost use Rattle.cp_connection.specs.Refusing.{refusal_of};
 
+use crate::excess::Excess;
+use cp_frame::FrameFault;
 use cp_rpc::ExceptionKind;
 use cp_stream::Refusal;
 use cp_vat_machine::VatFault;
@@ -17,7 +20,7 @@ pub enum ConnectionFault {
     /// The peer's bytes can't be read on: what is wrong with them, and how many bytes the frames of the
     /// messages before them took, at most `u64::MAX`.
     Unreadable { at: u64, refusal: Refusal },
-    /// The vat closed, as `Happening::Closed` says.
+    /// The vat closed: as `Happening::Closed` says, or by `Connection::abort`.
     Closed,
     /// V10: memory ran out.
     OutOfMemory,
@@ -40,6 +43,41 @@ impl ConnectionFault {
             ConnectionFault::OutOfMemory => ExceptionKind::Overloaded,
             ConnectionFault::Refused(fault) => fault.kind(),
         }
+    }
+
+    /// What is too much of the bytes that can't be read on, if something is: for that `Connection::abort` tells the peer why.
+    pub fn excess(self) -> Option<Excess>
+        ensures { result ≡ excess_of self }
+    {
+        match self {
+            ConnectionFault::Unreadable { refusal, .. } => refused_excess(refusal),
+            ConnectionFault::Closed | ConnectionFault::OutOfMemory | ConnectionFault::Refused(_) =>
+                None,
+        }
+    }
+}
+
+/// What is too much of what is refused.
+fn refused_excess(refusal: Refusal) -> Option<Excess>
+    ensures { result ≡ refused_excess refusal }
+{
+    match refusal {
+        Refusal::Frame(fault) => frame_excess(fault),
+        Refusal::Tree(_) | Refusal::Write(_) | Refusal::Schema(_) => None,
+    }
+}
+
+/// What is too much of a frame.
+fn frame_excess(fault: FrameFault) -> Option<Excess>
+    ensures { result ≡ frame_excess fault }
+{
+    match fault {
+        FrameFault::TooManySegments => Some(Excess::Segments),
+        FrameFault::FrameTooLarge => Some(Excess::Words),
+        FrameFault::Truncated
+        | FrameFault::RunPastFrame
+        | FrameFault::Failed
+        | FrameFault::OutOfMemory => None,
     }
 }
 

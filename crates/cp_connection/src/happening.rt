@@ -1,7 +1,12 @@
 //! What happened on a connection.
 
+ghost use Rattle.std.specs.Prelude.{◌≡◌};
+ghost use Rattle.cp_refs.specs.Memory.{counted};
+ghost use Rattle.cp_connection.specs.Contents.{happened_memory, happening_memory};
+
 use cp_refs::{Origin, Outcome, Request};
 use cp_vat_machine::Reason;
+use std::collections::VecDeque;
 
 /// What the user of a connection is told, in the order in which it happened.
 #[derive(Drop)]
@@ -51,4 +56,28 @@ pub struct Held {
     pub imports: usize,
     /// The promises of its vat.
     pub promises: usize,
+    /// The bytes of memory that contents take which its vat keeps, as `Vat::contents` says, and results of tail calls.
+    pub contents: u64,
+}
+
+/// The bytes of memory that the contents of what happened take.
+pub(crate) fn happened_memory(happened: &VecDeque<Happening>) -> u64
+    ensures { result ≡ counted (happened_memory happened.now.items) }
+{
+    let mut bytes: u64 = 0;
+    for place in 0..happened.len() {
+        bytes = bytes.saturating_add(happening_memory(&happened[place]));
+    }
+    bytes
+}
+
+/// The bytes of memory that the content of one happening takes.
+fn happening_memory(happening: &Happening) -> u64
+    ensures { result ≡ counted (happening_memory happening.now) }
+{
+    match happening {
+        Happening::Delivered { call, .. } => call.memory(),
+        Happening::Settled { outcome, .. } => outcome.memory(),
+        Happening::Closed(_) => 0,
+    }
 }

@@ -5,6 +5,7 @@
 mod agenda;
 mod behind;
 mod connection;
+mod excess;
 mod fault;
 mod happening;
 mod laws;
@@ -12,6 +13,7 @@ mod outgoing;
 mod parts;
 
 pub use connection::Connection;
+pub use excess::Excess;
 pub use fault::ConnectionFault;
 pub use happening::{Happening, Held, Tally};
-pub use laws::{any_cut, lives, lives_behind};
+pub use laws::{any_cut, lives, lives_behind, lives_behind_until_abort, lives_until_abort};

@@ -10,9 +10,10 @@ ghost use Rattle.cp_vat_laws.specs.Sizes.{AreWritable};
 ghost use Rattle.cp_vat.specs.Stepping.{effects_of};
 ghost use Rattle.cp_connection.specs.Refusing.{refusal_of};
 ghost use Rattle.cp_connection.specs.Link.{new_link, HasCome};
-ghost use Rattle.cp_connection.specs.Doing.{Acts, Refuses, answered};
+ghost use Rattle.cp_connection.specs.Contents.{kept_contents, tails_memory};
+ghost use Rattle.cp_connection.specs.Doing.{Aborts, Acts, Refuses, answered};
 ghost use Rattle.cp_connection.specs.Receiving.{Receives, ReadsOn, IsUnreceived, EndsWell, EndsBadly};
-ghost use Rattle.cp_connection.specs.LinkOf.{link_of, KeepsUp, CountsOne, GivesFrame, RefusesFrame, unread_at, refused_by};
+ghost use Rattle.cp_connection.specs.LinkOf.{link_of, KeepsUp, LetsGo, CountsOne, GivesFrame, RefusesFrame, unread_at, refused_by};
 ghost use Rattle.cp_connection.specs.Noting.{GoesBack};
 ghost use Rattle.cp_connection.specs.Owing.{IsSendable, OwesSendable};
 ghost use Rattle.cp_connection.specs.Settling.{Concludes, Follows, GetsFor, GivesVat, GoesOnIf, Loses, MayNote, NotesAll, NotesEvent, Passes, PassesIf, Settled};
@@ -21,6 +22,7 @@ ghost use Rattle.cp_connection.specs.declared.fault.ConnectionFault.TheVariants.
 
 use crate::agenda::{Agenda, Mark};
 use crate::behind::Behind;
+use crate::excess::Excess;
 use crate::fault::ConnectionFault;
 use cp_frame::{FrameFault, FrameReader, Mode};
 use cp_rpc::{Message, MessageView};
@@ -30,16 +32,18 @@ use cp_vat::{Lent, Vat};
 use cp_vat_machine::{Acted, Effects, VatFault};
 use cp_words::{Limits, Segments};
 use std::alloc::{AllocError, Global};
+use std::mem;
 
 /// What a connection is made of.
 #[derive(Drop)]
 pub(crate) struct Parts {
+    pub alloc: Global,
     pub limits: Limits,
     pub frames: FrameReader,
     pub vat: Vat,
     /// The tail calls, where they are served.
     pub tails: Option<TailCalls>,
-    /// Whether effects of the vat were lost, as memory ran out.
+    /// Whether the vat counts as closed: its effects were lost, as memory ran out, or the connection was aborted.
     pub is_lost: bool,
     pub agenda: Agenda,
     /// The bytes of the frames whose messages were taken, at most `u64::MAX`.
@@ -58,6 +62,7 @@ impl Parts {
         ensures came { HasCome (link_of result) [] }
     {
         Parts {
+            alloc,
             limits,
             frames: FrameReader::new(alloc, mode, limits),
             vat: Vat::new(alloc, bootstrap),
@@ -67,6 +72,26 @@ impl Parts {
             bytes: 0,
             messages: 0,
             fault: None,
+        }
+    }
+
+    /// The bytes of memory that contents take which its vat keeps, and results of tail calls.
+    pub fn contents(&self) -> u64
+        ensures { result ≡ kept_contents (link_of self.now) }
+    {
+        self.vat.contents().saturating_add(self.tails_memory())
+    }
+
+    /// The bytes of memory that results of tail calls take, where they are served.
+    fn tails_memory(&self) -> u64
+        ensures { result ≡ tails_memory (link_of self.now).tails }
+    {
+        if self.is_lost {
+            return 0;
+        }
+        match &self.tails {
+            Some(tails) => tails.memory(),
+            None => 0,
         }
     }
 
@@ -126,6 +151,22 @@ impl Parts {
             Ok(()) => Ok(()),
             Err(fault) => Err(self.fail(self.unreadable(Refusal::Frame(fault)))),
         }
+    }
+
+    /// Ends the connection with an Abort that says what is too much, unless the vat is closed.
+    pub fn abort(&mut self, excess: Excess)
+        requires keeps { KeepsUp self.old }
+        ensures keeps { KeepsUp self.new }
+        ensures aborts { Aborts (link_of self.old) excess (link_of self.new) }
+    {
+        if self.is_shut() {
+            return;
+        }
+        let fault = match self.agenda.abort(self.alloc, excess) {
+            Ok(()) => ConnectionFault::Closed,
+            Err(_) => ConnectionFault::OutOfMemory,
+        };
+        self.let_go(fault);
     }
 
     /// Gives the fault of a connection that ended.
@@ -393,6 +434,25 @@ impl Parts {
         self.agenda.go_back(mark);
         self.is_lost = true;
         self.fail(ConnectionFault::OutOfMemory)
+    }
+
+    /// Whether the vat is closed, or counts as closed.
+    fn is_shut(&self) -> bool
+        ensures { result ≡ (link_of self.now).vat.is_closed }
+    {
+        self.is_lost || self.vat.is_closed()
+    }
+
+    /// Ends the connection for this fault, unless it ended before. What the vat, tail calls and the open frame keep goes.
+    fn let_go(&mut self, fault: ConnectionFault)
+        ensures { LetsGo self.old fault self.new }
+    {
+        self.fault = Some(self.fault.unwrap_or(fault));
+        self.is_lost = true;
+        let frames = FrameReader::new(self.alloc, self.agenda.mode, self.limits);
+        drop(mem::replace(&mut self.frames, frames));
+        drop(mem::replace(&mut self.vat, Vat::new(self.alloc, None)));
+        drop(mem::replace(&mut self.tails, None));
     }
 
     /// A refusal of the vat's. Where memory ran out, the connection ends.

@@ -5,3 +5,4 @@ pub mod Rounds
 pub mod Idle
 pub mod Receiving
 pub mod WorkOf
+pub mod Noticed

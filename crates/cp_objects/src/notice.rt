@@ -1,7 +1,12 @@
 //! What happens on a connection that is no object's business.
 
+ghost use Rattle.std.specs.Prelude.{◌≡◌};
+ghost use Rattle.cp_refs.specs.Memory.{counted};
+ghost use Rattle.cp_objects.specs.Noticed.{notice_memory, noticed_memory};
+
 use cp_refs::Outcome;
 use cp_vat_machine::Reason;
+use std::collections::VecDeque;
 
 /// What the user of a connection is told beside its objects, in the order in which it happened.
 /// It is kept, and not given to a function of the driver's: one loop serves all drivers, and nothing comes between two polls.
@@ -11,4 +16,25 @@ pub enum Notice {
     Settled { question: u32, outcome: Outcome },
     /// The vat closed, for this reason. It is the last notice.
     Closed(Reason),
+}
+
+/// The bytes of memory that the contents of notices take.
+pub(crate) fn noticed_memory(notices: &VecDeque<Notice>) -> u64
+    ensures { result ≡ counted (noticed_memory notices.now.items) }
+{
+    let mut bytes: u64 = 0;
+    for place in 0..notices.len() {
+        bytes = bytes.saturating_add(notice_memory(&notices[place]));
+    }
+    bytes
+}
+
+/// The bytes of memory that the content of one notice takes.
+fn notice_memory(notice: &Notice) -> u64
+    ensures { result ≡ counted (notice_memory notice.now) }
+{
+    match notice {
+        Notice::Settled { outcome, .. } => outcome.memory(),
+        Notice::Closed(_) => 0,
+    }
 }

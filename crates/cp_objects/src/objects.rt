@@ -5,18 +5,20 @@ ghost use Rattle.std.specs.FinMap as map;
 ghost use Rattle.cp_vat_machine.specs.InUse.{caps_of};
 ghost use Rattle.cp_vat_machine.specs.declared.event.Event.TheVariants as events;
 ghost use Rattle.cp_connection.specs.Link.{Link};
+ghost use Rattle.cp_refs.specs.Memory.{counted};
 ghost use Rattle.cp_servants.specs.Outcomes.{bad_outcome, no_such_object};
 ghost use Rattle.cp_servants.specs.declared.servant.Reply.TheVariants.{Now};
 ghost use Rattle.cp_objects.specs.Work.{begun, Answers, Frees, GivesUp, Holds, IsDone, LetsGo, Lives, Notes, Releases, Replies, Stays, Tries, TriesEach, TriesUnheld};
 ghost use Rattle.cp_objects.specs.Calling.{HandsBack, Hears, MakesCall, MakesCalls, NextCall};
 ghost use Rattle.cp_objects.specs.Rounds.{Gives, Handles, HandsOver, PollsFrom, Rounds, Settles, WorksOff};
 ghost use Rattle.cp_objects.specs.Idle.{ReleasesIdle};
+ghost use Rattle.cp_objects.specs.Noticed.{noticed_memory};
 ghost use Rattle.cp_objects.specs.Receiving.{GivesLent, HandlesLent, IsCutShort, Receives};
 ghost use Rattle.cp_objects.specs.WorkOf.{work_of};
 
 use crate::asker::Asker;
 use crate::holders::ImportHolders;
-use crate::notice::Notice;
+use crate::notice::{Notice, noticed_memory};
 use cp_connection::{Connection, ConnectionFault, Happening};
 use cp_refs::{Caps, Origin, Outcome, Request};
 use cp_servants::{
@@ -218,6 +220,13 @@ impl Objects {
         ensures { (link : Link) → result ≡ map.len (work_of self.now link).held }
     {
         self.holders.len()
+    }
+
+    /// The bytes of memory that the contents of the notices that weren't taken take. It goes over these.
+    pub fn noticed_memory(&self) -> u64
+        ensures { (link : Link) → result ≡ counted (noticed_memory (work_of self.now link).notices) }
+    {
+        noticed_memory(&self.notices)
     }
 
     /// Hands out the first notice that wasn't taken.
