@@ -1,6 +1,7 @@
 -- What follows of a test, and of a slice that was lent.
-use Rattle.std.proofs.Common.{◌≡◌, ◌<◌, ◌≤◌, ◌↔◌, ◌⊎◌, ◌++◌, ◌∙◌, ℕ, List, Bool, true, false, IsTrue, Result, Ok, Err, IfOk, IfErr, OnOk, OnErr, inl, inr, refl, ap, subst, sym, take, drop, length, arith}
+use Rattle.std.proofs.Common.{◌≡◌, ◌==◌, ◌<◌, ◌≤◌, ◌↔◌, ◌⊎◌, ◌++◌, ◌∙◌, ℕ, List, Bool, true, false, IsTrue, Result, Ok, Err, IfOk, IfErr, OnOk, OnErr, inl, inr, refl, ap, subst, sym, take, drop, length, arith}
 use Rattle.std.proofs.Math.Seq.{take-append_seam}
+use Rattle.std.proofs.lemmas.Bool.Decides.{nat_tests}
 use Rattle.cp_session.specs.Search.{from_then}
 
 -- what follows from a fact of a success
@@ -44,6 +45,10 @@ either_second {P = P} {Q = Q} b not h = (λ t. inr (h.0 t), λ s. the_second s)
     the_second : P ⊎ Q → IsTrue b
     the_second (inl p) = absurd (not p)
     the_second (inr q) = h.1 q
+
+-- a number that isn't 0 is more
+pub more_than_none : (b : Bool) (n : ℕ) → b ≡ (n == 0) → b ≡ false → 0 < n
+more_than_none b n is not = grind (arith, nat_tests)
 
 -- the order of two numbers that aren't ordered so
 pub less_unless : (a b : ℕ) → (a ≤ b → ⊥) → b < a

@@ -19,4 +19,4 @@ nobody_serves kind k ticket call reply old new others (by_none few is same left)
 pub written_first : {A : Type 0} (kind : Kind A) → WrittenFirst kind
 written_first kind old new piece now count (drops draining all same) none not_draining some = absurd (not_draining draining)
 written_first kind old new piece now count (holds_up drains why is same) none not_draining some = absurd (omega (arith, is, some))
-written_first kind old new piece now count (takes mid may front settles) none not_draining some = nil_from_length _ (omega (arith, may.few, none))
+written_first kind old new piece now count (takes mid may some front settles) none not_draining more = nil_from_length _ (omega (arith, may.few, none))

@@ -3,20 +3,24 @@ use Rattle.std.proofs.Common.{◌≡◌, ◌∙◌, ◌++◌, ℕ, List, [], ◌
 use Rattle.cp_connection.specs.declared.fault.ConnectionFault.{ConnectionFault}
 use Rattle.cp_connection.specs.declared.happening.Happening.{Happening}
 use Rattle.cp_connection.specs.Link.{Link}
-use Rattle.cp_connection.specs.Lives.{Life}
+use Rattle.cp_connection.specs.declared.excess.Excess.{Excess}
+use Rattle.cp_connection.specs.Excess.{excess_of}
+use Rattle.cp_connection.specs.Lives.{Course}
 use Rattle.cp_connection.specs.Lives as life
 use Rattle.cp_connection.specs.Receiving as connection
 use Rattle.cp_objects.specs.declared.notice.Notice.{Notice}
 use Rattle.cp_objects.specs.Receiving.{IsCutShort, is_unreceived, ran_out}
 use Rattle.cp_objects.specs.Rounds.{HandsOver}
 use Rattle.cp_objects.specs.Work.{Work, Lives}
-use Rattle.cp_objects.proofs.Living.{life_both, lives_none}
+use Rattle.cp_objects.proofs.Living.{lives_none}
 use Rattle.cp_servants.specs.Servant.{Kind}
 use Rattle.cp_session.specs.declared.progress.Phase.{Phase}
 use Rattle.cp_session.specs.declared.progress.Phase.TheVariants as phases
 use Rattle.cp_session.specs.Doing as doing
 use Rattle.cp_session.specs.Laws.{LivesOn}
 use Rattle.cp_session.specs.Progress.{IsDraining}
+use Rattle.cp_session.specs.Refusing.{Refuses}
+use Rattle.cp_session.proofs.Courses.{course_both, course_then}
 use Rattle.cp_session.specs.Runs.{Deed, Does, Runs, taken_by, taken_in}
 use Rattle.cp_session.specs.Runs as runs
 use Rattle.cp_session.specs.Serves.{Ends, Follows, IsUnended, Takes}
@@ -26,11 +30,11 @@ use Rattle.cp_session.specs.State.{State, link_of}
 
 -- a connection took these bytes, and was told that those were written
 abbrev IsLife : Link → List ℕ → List ℕ → Link → Type 0
-IsLife old taken written new = (handed : List Happening) × Life old taken written handed new
+IsLife old taken written new = (handed : List Happening) × Course old taken written handed new
 
 -- no byte more
 life_then : {a b c : Link} {taken written : List ℕ} → IsLife a taken written b → Lives b c → IsLife a taken written c
-life_then {taken = taken} {written = written} h k = rw (← append-nil taken, ← append-nil written) (h.0 ++ k.0, life_both h.1 k.1)
+life_then {taken = taken} {written = written} h k = rw (← append-nil taken, ← append-nil written) (h.0 ++ k.0, course_then h.1 k.1)
 
 life_same : {a b c : Link} {taken written : List ℕ} → IsLife a taken written b → c ≡ b → IsLife a taken written c
 life_same {a = a} {taken = taken} {written = written} h e = subst (λ (l : Link). IsLife a taken written l) (sym e) h
@@ -41,11 +45,20 @@ life_taking {a = a} {b = b} h e = subst (λ (bytes : List ℕ). IsLife a bytes [
 life_of_deed : {a b : Link} {deed other : Deed} → deed ≡ other → IsLife a other.taken other.written b → IsLife a deed.taken deed.written b
 life_of_deed {a = a} {b = b} e h = subst (λ (d : Deed). IsLife a d.taken d.written b) (sym e) h
 
+life_of : {a b : Link} → Lives a b → IsLife a [] [] b
+life_of h = (h.0, life.lives h.1)
+
 life_none : (a : Link) → IsLife a [] [] a
-life_none a = ([], life.begins)
+life_none a = ([], life.lives life.begins)
 
 life_one : {a b : Link} {taken written : List ℕ} → life.Calls a taken written [] b → IsLife a taken written b
-life_one call = ([], life.goes_on life.begins call refl refl refl)
+life_one call = ([], life.lives (life.goes_on life.begins call refl refl refl))
+
+-- where something is too much the connection is aborted
+life_refused : {a b c : Link} {taken written : List ℕ} → IsLife a taken written b → (told : Option Excess) → Refuses told b c → IsLife a taken written c
+life_refused h None same = life_same h same
+life_refused {taken = taken} {written = written} h (Some excess) aborts =
+    (h.0, life.aborts excess h.1 aborts life.begins (sym (append-nil taken)) (sym (append-nil written)) (sym (append-nil h.0)))
 
 -- what a session is told of time, and that it is left, is nothing to its connection
 left_link : {A : Type 0} {kind : Kind A} {old new : State A} {now : ℕ} → doing.Leaves kind old now new → link_of new ≡ link_of old
@@ -102,7 +115,7 @@ receives_life {A = A} {old = old} piece now count (doing.drops draining all same
 receives_life {A = A} {old = old} piece now count (doing.holds_up drains why none same) =
     life_taking (life_same (life_none (link_of old)) (ap (λ (s : State A). link_of s) same))
     (ap (λ (n : ℕ). taken_in old.progress.phase (take n piece)) none ∙ taken_none old.progress.phase)
-receives_life {old = old} piece now count (doing.takes mid may taken settles) =
+receives_life {old = old} piece now count (doing.takes mid may some taken settles) =
     life_taking (life_same (takes_life piece count taken.takes) (settles_link settles)) (ap (λ (p : Phase). taken_in p (take count piece)) may.serves)
 
 ends_bytes_life : {A : Type 0} {kind : Kind A} {old new : State A} {now : ℕ} → doing.EndsBytes kind old now new → IsLife (link_of old) [] [] (link_of new)
@@ -112,21 +125,22 @@ ends_bytes_life {A = A} {old = old} (doing.is_known mid serves known settles) =
 
 polls_life : {A : Type 0} {kind : Kind A} {old new : State A} {now : ℕ} → doing.PollsOn kind old now new → IsLife (link_of old) [] [] (link_of new)
 polls_life {A = A} {old = old} (doing.rests why same) = life_same (life_none (link_of old)) (ap (λ (s : State A). link_of s) same)
-polls_life (doing.polls mid more done settles) = life_same done.works.lives (settles_link settles)
+polls_life (doing.polls mid more done settles) = life_same (life_of done.works.lives) (settles_link settles)
 
 -- one call of a session, and one after another
 does_life : {A : Type 0} {kind : Kind A} {old new : State A} {deed : Deed} → Does kind old deed new → IsLife (link_of old) deed.taken deed.written (link_of new)
 does_life (runs.receives piece now count done is) = life_of_deed is (receives_life piece now count done)
-does_life (runs.fails piece now fault cut is) = life_of_deed is (life_same (cut_life cut.cut.cut) (settles_link cut.settles))
+does_life (runs.fails piece now fault cut is) =
+    life_of_deed is (life_same (life_refused (cut_life cut.cut.cut) (excess_of fault) cut.cut.refuses) (settles_link cut.settles))
 does_life (runs.ends now done is) = life_of_deed is (ends_bytes_life done)
 does_life (runs.ends_inside now fault cut is) = life_of_deed is (life_same (unended_life cut.unfinished.unended) (settles_link cut.settles))
 does_life (runs.polls now done is) = life_of_deed is (polls_life done)
-does_life (runs.runs_out now out is) = life_of_deed is (life_same out.unworked.lives (settles_link out.settles))
+does_life (runs.runs_out now out is) = life_of_deed is (life_same (life_of out.unworked.lives) (settles_link out.settles))
 does_life {A = A} {old = old} (runs.writes count now wrote is) =
     life_of_deed is
     (life_same (life_one (life.writes count wrote.wrote refl)) (settles_link wrote.settles ∙ ap (λ (s : State A). link_of s) wrote.moves))
-does_life {A = A} {old = old} (runs.ticks now ticked is) =
-    life_of_deed is (life_same (life_none (link_of old)) (settles_link ticked.settles ∙ ap (λ (s : State A). link_of s) ticked.same))
+does_life {old = old} (runs.ticks now ticked is) =
+    life_of_deed is (life_same (life_refused (life_none (link_of old)) ticked.told ticked.refuses) (settles_link ticked.settles))
 does_life {A = A} {old = old} (runs.tells event told is) =
     life_of_deed is
     (life_same (life_none (link_of old)) (ap (λ (s : State A). link_of s) told.rest ∙ handed_link told.notice old.service.work told.work told.hands))
@@ -138,7 +152,7 @@ runs_life {first = first} runs.begins = life_none (link_of first)
 runs_life (runs.goes_on before_it does is) =
     let h = runs_life before_it in
     let k = does_life does in
-    life_of_deed is (h.0 ++ k.0, life_both h.1 k.1)
+    life_of_deed is (h.0 ++ k.0, course_both h.1 k.1)
 
 pub lives_on : {A : Type 0} (kind : Kind A) → LivesOn kind
 lives_on kind first last deed run = runs_life run

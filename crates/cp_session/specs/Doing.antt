@@ -7,7 +7,9 @@ use Rattle.cp_vat_machine.specs.declared.event.Event as machine
 use Rattle.cp_vat_machine.specs.declared.event.Value.{Value}
 use Rattle.cp_connection.specs.declared.fault.ConnectionFault.{ConnectionFault}
 use Rattle.cp_connection.specs.declared.fault.ConnectionFault.TheVariants as faults
+use Rattle.cp_connection.specs.declared.excess.Excess.{Excess}
 use Rattle.cp_connection.specs.Doing.{Acts}
+use Rattle.cp_connection.specs.Excess.{excess_of}
 use Rattle.cp_connection.specs.Link.{Link}
 use Rattle.cp_connection.specs.Receiving.{Wrote}
 use Rattle.cp_objects.specs.declared.notice.Notice.{Notice}
@@ -24,6 +26,7 @@ use Rattle.cp_session.specs.declared.progress.Phase.{Phase}
 use Rattle.cp_session.specs.declared.progress.Phase.TheVariants as phases
 use Rattle.cp_session.specs.declared.progress.Progress.{Progress}
 use Rattle.cp_session.specs.Kept.{kept_of}
+use Rattle.cp_session.specs.Refusing.{Refuses}
 use Rattle.cp_session.specs.Progress.{ended_again, failed, finished, heeding, left, taken_at, IsDraining, TicksTo}
 use Rattle.cp_session.specs.Serves.{Ends, HasGiven, IsUnended, MayGive, Takes, WorksOn}
 use Rattle.cp_session.specs.Service.{Service}
@@ -105,22 +108,25 @@ module _ {A : Type 0} (kind : Kind A) where
     pub limits : new.limits ≡ old.limits
     pub progress : new.progress ≡ taken_at old.progress now (taken_of (link_of new).reading)
 
-  -- Why they weren't. Nothing more is taken then.
+  -- Why they weren't. Nothing more is taken then, and where something is too much the peer is told so.
   pub record IsCut (old : State A) (piece : List ℕ) (now : ℕ) (fault : ConnectionFault) (new : State A) : Type 0 where
-    pub cut : IsCutShort (link_of old) piece fault (link_of new) old.objects new.objects
+    pub link : Link
+    pub cut : IsCutShort (link_of old) piece fault link old.objects new.objects
+    pub refuses : Refuses (excess_of fault) link (link_of new)
     pub limits : new.limits ≡ old.limits
-    pub progress : new.progress ≡ failed (taken_at old.progress now (taken_of (link_of new).reading)) fault
+    pub progress : new.progress ≡ failed (taken_at old.progress now (taken_of link.reading)) fault
 
   -- Bytes of the peer are given. While its close is waited for they are dropped. None is taken where there is none, or while too much waits to be written, or
   -- once nothing more is taken. Else they are taken up to the end of a message, and what that asks of the objects is done.
   pub data Receives (old : State A) (piece : List ℕ) (now count : ℕ) (new : State A) : Type 0 where
     drops : IsDraining old.progress.phase → count ≡ length piece → new ≡ old → Receives old piece now count new
     holds_up : (IsDraining old.progress.phase → ⊥) → (length piece ≡ 0) ⊎ (MayTake old → ⊥) → count ≡ 0 → new ≡ old → Receives old piece now count new
-    takes : (mid : State A) → MayTake old → TakesIn old piece now count mid → Settles mid now new → Receives old piece now count new
+    takes : (mid : State A) → MayTake old → 0 < length piece → TakesIn old piece now count mid → Settles mid now new → Receives old piece now count new
 
   -- why bytes aren't taken to the end of a message and what follows of it
   pub record IsUntaken (old : State A) (piece : List ℕ) (now : ℕ) (fault : ConnectionFault) (new : State A) : Type 0 where
     pub may_take : MayTake old
+    pub some : 0 < length piece
     pub mid : State A
     pub cut : IsCut old piece now fault mid
     pub settles : Settles mid now new
@@ -190,11 +196,13 @@ module _ {A : Type 0} (kind : Kind A) where
     pub moves : mid ≡ with_progress (linked old link) (record old.progress { moved = now })
     pub settles : Settles mid now new
 
-  -- Time passed. Where a limit is met the session is over.
+  -- Time passed. Where a limit is met nothing more is taken. Where that is as too much is kept, the peer is told so; else the session is over.
   pub record Ticks (old : State A) (now : ℕ) (new : State A) : Type 0 where
+    pub told : Option Excess
     pub mid : State A
-    pub ticks : TicksTo old.limits old.progress (kept_of (link_of old)) now mid.progress
-    pub same : mid ≡ with_progress old mid.progress
+    pub ticks : TicksTo old.limits old.progress (kept_of old.service.work) now told mid.progress
+    pub refuses : Refuses told (link_of old) (link_of mid)
+    pub same : mid ≡ with_progress (linked old (link_of mid)) mid.progress
     pub settles : Settles mid now new
 
 -- what is told of a notice, or where there is none

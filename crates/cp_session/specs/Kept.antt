@@ -1,13 +1,15 @@
 -- How much a session keeps.
-use Rattle.std.specs.Prelude.{ℕ, ◌+◌, ◌*◌, ◌-◌, ◌^◌, min, length}
+use Rattle.std.specs.Prelude.{ℕ, ◌+◌, ◌*◌, length}
+use Rattle.std.specs.FinMap.{len}
 use Rattle.cp_frame.specs.Reader.{taken_of}
+use Rattle.cp_refs.specs.Memory.{counted}
 use Rattle.cp_vat.specs.Kept.{entries_of}
-use Rattle.cp_connection.specs.Link.{Link}
+use Rattle.cp_connection.specs.Contents.{happened_memory, kept_contents}
+use Rattle.cp_objects.specs.Noticed.{noticed_memory}
+use Rattle.cp_objects.specs.Work.{Work}
 
--- the greatest number of bytes that is counted
-abbrev pub most : ℕ
-most = 2 ^ 64 - 1
-
--- The bytes that are kept: of the open message, of what waits to be written, and 640 for each entry of the vat.
-abbrev pub kept_of : Link → ℕ
-kept_of link = min (min (taken_of link.reading + length link.unwritten) most + min (entries_of link.vat * 640) most) most
+-- The bytes that are kept: of the open message, of what waits to be written, 640 for each entry of the vat and 272 for each promise, and of the contents
+-- that the vat keeps and that weren't taken.
+abbrev pub kept_of : Work → ℕ
+kept_of work =
+    counted (taken_of work.link.reading + length work.link.unwritten + entries_of work.link.vat * 640 + len work.link.vat.values.promises * 272 + kept_contents work.link + happened_memory work.link.happened + noticed_memory work.notices)

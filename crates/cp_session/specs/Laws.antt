@@ -1,7 +1,7 @@
 -- What follows of what is done with a session.
 use Rattle.std.specs.Prelude.{◌≡◌, ℕ, ◌<◌, List, []}
 use Rattle.cp_connection.specs.declared.happening.Happening.{Happening}
-use Rattle.cp_connection.specs.Lives.{Life}
+use Rattle.cp_connection.specs.Lives.{Course}
 use Rattle.cp_refs.specs.declared.call.Request.{Request}
 use Rattle.cp_objects.specs.Rounds.{Gives}
 use Rattle.cp_objects.specs.Work.{Work}
@@ -31,4 +31,4 @@ module _ {A : Type 0} (kind : Kind A) where
   abbrev pub LivesOn : Type 0
   LivesOn =
       (first last : State A) (deed : Deed) → Runs kind first deed last
-      → (handed : List Happening) × Life (link_of first) deed.taken deed.written handed (link_of last)
+      → (handed : List Happening) × Course (link_of first) deed.taken deed.written handed (link_of last)

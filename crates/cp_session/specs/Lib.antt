@@ -2,9 +2,11 @@ pub mod Limits
 pub mod Progress
 pub mod Service
 pub mod Search
+pub mod Refusing
 pub mod Serves
 pub mod State
 pub mod Kept
 pub mod Doing
 pub mod Runs
 pub mod Laws
+pub mod Budget

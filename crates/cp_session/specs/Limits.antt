@@ -4,7 +4,7 @@ use Rattle.cp_session.specs.declared.limits.SessionLimits.{SessionLimits}
 
 -- the limits where nothing else is asked for
 abbrev pub standard : SessionLimits
-standard = record { message = 30000; idle = 300000; closing = 5000; ahead = 65536; kept = 4194304 }
+standard = record { message = 30000; idle = 300000; closing = 5000; ahead = 65536; kept = 268435456 }
 
 -- no limits, but that all is written before more is taken
 abbrev pub unlimited : SessionLimits

@@ -1,5 +1,7 @@
 -- How far a session is, and which of its limits it meets.
 use Rattle.std.specs.Prelude.{◌≡◌, ℕ, ◌+◌, ◌-◌, ◌<◌, ◌≤◌, ◌^◌, nat_lt, min, if◌then◌else◌, Bool, true, false, Option, Some, None}
+use Rattle.cp_connection.specs.declared.excess.Excess.{Excess}
+use Rattle.cp_connection.specs.declared.excess.Excess.TheVariants as excesses
 use Rattle.cp_connection.specs.declared.fault.ConnectionFault.{ConnectionFault}
 use Rattle.cp_session.specs.declared.limits.SessionLimits.{SessionLimits}
 use Rattle.cp_session.specs.declared.progress.Limit.{Limit}
@@ -104,10 +106,28 @@ Meets allowed progress kept now limits.Idle = IsAtWork progress.phase × WentBy 
 Meets allowed progress kept now limits.Closing = (since : ℕ) × (progress.phase ≡ phases.Draining since) × WentBy since allowed.closing now
 Meets allowed progress kept now limits.Kept = IsAtWork progress.phase × (allowed.kept < kept)
 
--- Time passed, and this many bytes are kept: where a limit is met nothing is left to be done.
-pub data TicksTo (allowed : SessionLimits) (old : Progress) (kept now : ℕ) (new : Progress) : Type 0 where
-  meets : (limit : Limit) → Meets allowed old kept now limit → new ≡ over (record old { limit = Some limit }) → TicksTo allowed old kept now new
-  meets_none : ((limit : Limit) → Meets allowed old kept now limit → ⊥) → new ≡ old → TicksTo allowed old kept now new
+-- what is too much where this limit is met, and is told to the peer: that too much is kept, while its bytes are taken
+abbrev pub kept_excess : Phase → Option Excess
+kept_excess phases.Serving = Some excesses.Kept
+kept_excess other = None
+
+abbrev pub excess_by : Limit → Phase → Option Excess
+excess_by limits.Kept phase = kept_excess phase
+excess_by other phase = None
+
+-- nothing more is taken where the peer is told what is too much; else nothing is left to be done
+abbrev pub ended_by : Option Excess → Progress → Progress
+ended_by (Some excess) progress = stopped progress
+ended_by None progress = over progress
+
+-- this limit is met
+abbrev pub met : Limit → Progress → Progress
+met limit progress = ended_by (excess_by limit progress.phase) (record progress { limit = Some limit })
+
+-- Time passed, and this many bytes are kept: a limit is met, and of that this excess is told to the peer; or none is met, and nothing is told.
+pub data TicksTo (allowed : SessionLimits) (old : Progress) (kept now : ℕ) (told : Option Excess) (new : Progress) : Type 0 where
+  meets : (limit : Limit) → Meets allowed old kept now limit → told ≡ excess_by limit old.phase → new ≡ met limit old → TicksTo allowed old kept now told new
+  meets_none : ((limit : Limit) → Meets allowed old kept now limit → ⊥) → told ≡ None → new ≡ old → TicksTo allowed old kept now told new
 
 -- the time so much later, if a clock gets there
 abbrev pub after : ℕ → ℕ → Option ℕ

@@ -8,18 +8,21 @@ ghost use Rattle.cp_connection.specs.Link.{Link};
 ghost use Rattle.cp_frame.specs.Reader.{taken_of};
 ghost use Rattle.cp_session.specs.Kept.{kept_of};
 ghost use Rattle.cp_session.specs.Search.{IsDue, Seeks};
+ghost use Rattle.cp_session.specs.Refusing.{Refuses};
 ghost use Rattle.cp_session.specs.Serves.{Ends, Follows, HasGiven, IsUnended, MayGive, Polls, Takes, WorksOn};
 ghost use Rattle.cp_session.specs.Service.{first_search, new_service, service_of};
 
 use crate::options::SessionOptions;
 use crate::search::Search;
-use cp_connection::{Connection, ConnectionFault};
+use cp_connection::{Connection, ConnectionFault, Excess};
 use cp_objects::Objects;
 use cp_servants::{Servant, any_again};
 use std::alloc::{AllocError, Global};
 
-/// The bytes that an entry of a vat takes at most, its content aside.
+/// The bytes that an entry of a vat takes at most, its content aside, and those that a promise takes.
 const ENTRY: u64 = 640;
+
+const PROMISE: u64 = 272;
 
 /// A connection, with what is still to be done for its objects.
 #[derive(Drop)]
@@ -85,6 +88,17 @@ impl Endpoint {
         self.round(objects)
     }
 
+    /// Tells the peer what is too much, if something is: the connection is aborted for that.
+    pub(crate) fn refuse(&mut self, excess: Option<Excess>)
+        ensures refuses { Refuses excess self.old.connection self.new.connection }
+        ensures same { self.new ≡ record self.old { connection = self.new.connection } }
+    {
+        match excess {
+            Some(excess) => self.connection.abort(excess),
+            None => {}
+        }
+    }
+
     /// Whether a poll may give more, though nothing more comes.
     pub(crate) fn has_more<O: Servant>(&self, objects: &[O]) -> bool
         ensures more { result ≡ true → MayGive O.kind (service_of self.now) objects.now }
@@ -107,14 +121,20 @@ impl Endpoint {
         self.connection.held().came > 0
     }
 
-    /// The bytes that are kept: of the open message, of what waits to be written, and `ENTRY` for each entry of the vat.
+    /// The bytes that are kept: of the open message, of what waits to be written, `ENTRY` for each entry of the vat and `PROMISE` for
+    /// each promise, and of the contents that the vat keeps and that weren't taken.
     pub(crate) fn kept(&self) -> u64
-        ensures { result ≡ kept_of self.now.connection }
+        ensures { result ≡ kept_of (service_of self.now).work }
     {
         let held = self.connection.held();
-        let entries = (held.entries as u64).saturating_mul(ENTRY);
         let bytes = held.came.saturating_add(held.unwritten as u64);
-        bytes.saturating_add(entries)
+        let entries = (held.entries as u64).saturating_mul(ENTRY);
+        let promises = (held.promises as u64).saturating_mul(PROMISE);
+        let tables = entries.saturating_add(promises);
+        let happened = self.connection.happened_memory();
+        let untaken = happened.saturating_add(self.work.noticed_memory());
+        let contents = held.contents.saturating_add(untaken);
+        bytes.saturating_add(tables).saturating_add(contents)
     }
 
     /// Where a message ended, polls each object once.

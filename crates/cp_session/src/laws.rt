@@ -1,5 +1,6 @@
 //! What follows of what is done with a session, whatever it is.
 
+ghost use Rattle.cp_session.specs.Budget.{KeepNoMore, StaysWithin};
 ghost use Rattle.cp_session.specs.Laws.{LivesOn, NobodyServes, WrittenFirst};
 
 use cp_servants::Servant;
@@ -15,8 +16,18 @@ pub fn written_first<O: Servant>()
 {}
 
 /// Whatever is done with a session, its connection took the bytes that it was given, but those that were dropped, and was told which
-/// were written. With what holds of each connection (`cp_connection::lives_behind`) that says which messages came, and that
+/// were written. With what holds of each connection (`cp_connection::lives_behind_until_abort`) that says which messages came, and that
 /// nothing was written but what was sent. (`export` adds an object, and does nothing with the connection.)
 pub fn lives<O: Servant>()
     ensures { LivesOn O.kind }
+{}
+
+/// Where sessions are within their budget, all together keep no more than a share each and the pool.
+pub fn keep_no_more()
+    ensures { KeepNoMore }
+{}
+
+/// Where sessions are within their budget and one comes to keep no more than it may, they still are; so they are where one ends.
+pub fn stays_within()
+    ensures { StaysWithin }
 {}

@@ -2,6 +2,7 @@
 //! and the next deadline go out.
 #![tactic(auto)]
 
+mod budget;
 mod endpoint;
 mod event;
 mod laws;
@@ -11,8 +12,9 @@ mod progress;
 mod search;
 mod session;
 
+pub use budget::Budget;
 pub use event::SessionEvent;
-pub use laws::{lives, nobody_serves, written_first};
+pub use laws::{keep_no_more, lives, nobody_serves, stays_within, written_first};
 pub use limits::SessionLimits;
 pub use options::SessionOptions;
 pub use progress::Limit;

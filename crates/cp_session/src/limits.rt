@@ -15,13 +15,14 @@ pub struct SessionLimits {
     /// The bytes that may wait to be written while more is taken from the peer. With 0 nothing is taken before all was written; so
     /// two ends that only write would stop each other.
     pub ahead: usize,
-    /// The most bytes that are kept: of the open message, of what waits to be written, and of what the vat has entries for.
+    /// The most bytes that are kept: of the open message, of what waits to be written, and of what the vat has entries for, with the
+    /// contents of calls that wait and of results.
     pub kept: u64,
 }
 
 impl SessionLimits {
     /// 30 seconds for a message, five minutes without a byte, 5 seconds for the peer's close; 64 KiB that wait to be written while
-    /// more is taken, and 4 MiB that are kept.
+    /// more is taken, and 256 MiB that are kept, as large messages need.
     pub fn standard() -> SessionLimits
         ensures { result ≡ standard }
     {
@@ -30,7 +31,7 @@ impl SessionLimits {
             idle: 300_000,
             closing: 5_000,
             ahead: 65_536,
-            kept: 4_194_304,
+            kept: 268_435_456,
         }
     }
 

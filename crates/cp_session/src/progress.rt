@@ -1,12 +1,12 @@
 //! How far a session is, and which of its limits it meets.
 
 ghost use Rattle.std.specs.Prelude.{◌≡◌, ◌↔◌, true, Some, IsTrue, IfSome, IfNone};
-ghost use Rattle.cp_session.specs.Progress.{begun, opened_by, stopped, finished, failed, heeding, ended_again, left, over, IsAtWork, IsDraining, Meets, TicksTo, WentBy, IsSlow, deadline_of, message_deadline, earlier};
+ghost use Rattle.cp_session.specs.Progress.{begun, opened_by, stopped, finished, failed, heeding, ended_again, left, over, met, ended_by, excess_by, kept_excess, IsAtWork, IsDraining, Meets, TicksTo, WentBy, IsSlow, deadline_of, message_deadline, earlier};
 ghost use Rattle.cp_session.specs.declared.progress.Limit.{Limit};
 ghost use Rattle.cp_session.specs.declared.progress.Phase.TheVariants as phases;
 
 use crate::limits::SessionLimits;
-use cp_connection::ConnectionFault;
+use cp_connection::{ConnectionFault, Excess};
 
 /// A limit that a session met.
 #[derive(Clone, Copy, PartialEq, Eq)]
@@ -180,13 +180,13 @@ impl Progress {
         }
     }
 
-    /// Nothing is left to be done if a limit is met at this time, where this many bytes are kept.
-    pub(crate) fn tick(&mut self, limits: &SessionLimits, kept: u64, now: u64)
-        ensures { TicksTo limits.now self.old kept now self.new }
+    /// Nothing more is taken if a limit is met at this time, where this many bytes are kept. Gives what the peer is to be told.
+    pub(crate) fn tick(&mut self, limits: &SessionLimits, kept: u64, now: u64) -> Option<Excess>
+        ensures { TicksTo limits.now self.old kept now result self.new }
     {
         match self.limit_met(limits, kept, now) {
             Some(limit) => self.meet(limit),
-            None => {}
+            None => None,
         }
     }
 
@@ -204,12 +204,25 @@ impl Progress {
         }
     }
 
-    /// Nothing is left to be done, as a limit is met.
-    fn meet(&mut self, limit: Limit)
-        ensures { self.new ≡ over (record self.old { limit = Some limit }) }
+    /// A limit is met: nothing is left to be done, unless the peer is to be told what is too much.
+    fn meet(&mut self, limit: Limit) -> Option<Excess>
+        ensures told { result ≡ excess_by limit self.old.phase }
+        ensures met { self.new ≡ met limit self.old }
     {
         self.limit = Some(limit);
-        self.close();
+        let excess = excess_by(limit, self.phase);
+        self.end_by(excess);
+        excess
+    }
+
+    /// Nothing more is taken, and nothing is left to be done unless the peer is told what is too much.
+    fn end_by(&mut self, excess: Option<Excess>)
+        ensures { self.new ≡ ended_by excess self.old }
+    {
+        match excess {
+            Some(_) => self.stop(),
+            None => self.close(),
+        }
     }
 
     /// The limit that is met at this time, where this many bytes are kept.
@@ -263,6 +276,26 @@ impl Progress {
         ensures { result ≡ message_deadline limits.now self.now.opened }
     {
         self.opened?.checked_add(limits.message)
+    }
+}
+
+/// What is too much where this limit is met, and is told to the peer.
+fn excess_by(limit: Limit, phase: Phase) -> Option<Excess>
+    ensures { result ≡ excess_by limit phase }
+{
+    match limit {
+        Limit::Kept => kept_excess(phase),
+        Limit::Message | Limit::Idle | Limit::Closing => None,
+    }
+}
+
+/// What is told to the peer where too much is kept: only while its bytes are taken, as an Abort is the last that goes out.
+fn kept_excess(phase: Phase) -> Option<Excess>
+    ensures { result ≡ kept_excess phase }
+{
+    match phase {
+        Phase::Serving => Some(Excess::Kept),
+        Phase::Ending | Phase::Draining { .. } | Phase::Over => None,
     }
 }
 

@@ -6,6 +6,7 @@ ghost use Rattle.cp_vat_machine.specs.declared.event.Value.TheVariants as values
 ghost use Rattle.cp_connection.specs.Doing.{answered};
 ghost use Rattle.cp_objects.specs.declared.notice.Notice.TheVariants as notices;
 ghost use Rattle.cp_session.specs.Doing.{Did, EndsBytes, EndsCut, Finishes, GivesMore, GivesNone, GoesOn, HasMore, HasNone, IsCut, IsUnfinished, IsSettled, IsStopped, IsUnsettled, IsUntaken, IsUnworked, MayTake, PollsOn, Receives, RunsOut, Settles, TakesIn, Tells, Ticks, Writes, ending_by, exporting, fault_of, knows_by, next_cap, told_of};
+ghost use Rattle.cp_session.specs.Kept.{kept_of};
 ghost use Rattle.cp_session.specs.Progress.{IsDraining, deadline_of};
 ghost use Rattle.cp_session.specs.State.{State, link_of, new_state, state_of};
 ghost use Rattle.cp_session.specs.declared.event.SessionEvent.TheVariants as events;
@@ -45,7 +46,8 @@ const MOST: usize = 0xffff_ffff;
 ///
 /// The vat closes; the peer's bytes can't be read on; memory runs out; a limit is met; or the peer's bytes end, the objects give
 /// no more, and all was written. One event says which, and it is the last. Nothing more is taken from then on: what the peer still
-/// sends before it closes is dropped, so that it can read what it was sent.
+/// sends before it closes is dropped, so that it can read what it was sent. What is too large is refused by an Abort: a frame
+/// past the reader's limits, and what makes a session keep too much.
 ///
 /// # Errors
 ///
@@ -86,7 +88,8 @@ impl<O: Servant> Session<O> {
     ///
     /// # Errors
     ///
-    /// Those of `Connection::receive`, or memory ran out for what the message leads to. The session ends, and an event says why.
+    /// Those of `Connection::receive`, or memory ran out for what the message leads to. The session ends, and an event says why. Where
+    /// a frame is too large, an Abort says so to the peer.
     pub fn receive(&mut self, piece: &[u8], now: u64) -> Result<usize, ConnectionFault>
         ensures receives { IfOk result (λ count. Receives O.kind (state_of self.old) piece.now now count (state_of self.new)) }
         ensures few { IfOk result (λ count. count ≤ length piece.now) }
@@ -142,13 +145,21 @@ impl<O: Servant> Session<O> {
         polled
     }
 
-    /// Time passed: the session ends if it meets a limit at this time.
+    /// Time passed: the session ends if it meets a limit at this time. Where too much is kept, an Abort says so to the peer first.
     pub fn tick(&mut self, now: u64)
         ensures { Ticks O.kind (state_of self.old) now (state_of self.new) }
     {
         let kept = self.endpoint.kept();
-        self.progress.tick(&self.limits, kept, now);
+        let excess = self.progress.tick(&self.limits, kept, now);
+        self.endpoint.refuse(excess);
         self.settle(now);
+    }
+
+    /// How many bytes are kept for it, as its limit counts them: so that a host can keep all its sessions within a budget.
+    pub fn kept(&self) -> u64
+        ensures { result ≡ kept_of (state_of self.now).service.work }
+    {
+        self.endpoint.kept()
     }
 
     /// When the next limit of time is met, if no byte moves before.
@@ -317,6 +328,7 @@ impl<O: Servant> Session<O> {
             Ok(count) => Ok(count),
             Err(fault) => {
                 self.progress.fail(fault);
+                self.endpoint.refuse(fault.excess());
                 Err(fault)
             }
         }

@@ -24,8 +24,10 @@ returns-in-Err-clause-cut g c =
     let long : c.args.self.now.objects.len ≡ length c.receive-taken.new.objects = omega (arith, c.as_mut_slice.ensures.len, c.receive-taken.auto.objects) in
     let back = lent_back c.args.self.now.objects.items c.receive-taken.new.objects c.args.self.now.objects.len long in
     record {
+      link = c.receive-taken.new.self.connection;
       cut = lent_to (λ os others. IsCutShort c.args.self.now.endpoint.connection c.args.piece.now c.in-Err.fault c.receive-taken.new.self.connection os others)
           c.as_mut_slice.result.now _ c.receive-taken.new.objects _ c.as_mut_slice.ensures.value back c.in-Err.ensures.cut;
+      refuses = rw (← c.excess.ensures) c.refuse.ensures.refuses;
       limits = refl;
       progress =
           c.fail.ensures

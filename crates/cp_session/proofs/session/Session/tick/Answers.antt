@@ -1,11 +1,16 @@
-use Rattle.std.proofs.Common.{refl}
-use Rattle.cp_session.specs.State.{state_of, with_progress}
+use Rattle.std.proofs.Common.{refl, ap}
+use Rattle.cp_session.specs.Service.{Service, service_of}
+use Rattle.cp_session.specs.State.{state_of}
 use Rattle.cp_session.proofs.session.Session.tick.Goals as goal
 
 pub returns : goal.returns
-returns g c = record {
-  mid = with_progress (state_of c.args.self.now) c.tick.new.self;
-  ticks = rw (← c.kept-kept.ensures) c.tick.ensures;
-  same = refl;
-  settles = c.settle.ensures;
-}
+returns g c =
+    let old = state_of c.args.self.now in
+    record {
+      told = c.tick-excess.result;
+      mid = record old { service = service_of c.refuse.new.self; progress = c.tick-excess.new.self };
+      ticks = rw (← c.kept-kept.ensures) c.tick-excess.ensures;
+      refuses = c.refuse.ensures.refuses;
+      same = ap (λ (s : Service). record old { service = s; progress = c.tick-excess.new.self }) (ap service_of c.refuse.ensures.same);
+      settles = c.settle.ensures;
+    }
