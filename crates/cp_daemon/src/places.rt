@@ -134,7 +134,7 @@ fn hear<E: Write>(alloc: Global, host: &mut Host<Sample>, news: &News, err: &mut
 
 /// Serves the connection that came last with a Desk and a Cell.
 fn admit(alloc: Global, host: &mut Host<Sample>) -> io::Result<()> {
-    let mut objects = Vec::new(alloc);
+    let mut objects = Vec::with_capacity(alloc, 2)?;
     objects.push(Sample::Desk(Desk::new(alloc)))?;
     objects.push(Sample::Cell(Cell::new(alloc)))?;
     host.admit(objects)

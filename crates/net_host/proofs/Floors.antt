@@ -5,6 +5,7 @@ use Rattle.std.proofs.lemmas.Bool.{cases_eq}
 use Rattle.slab.specs.Slab.{Slab, Updates, get, with_value}
 use Rattle.slab.proofs.SlabLemmas.{Updates-with_value}
 use Rattle.cp_servants.specs.Servant.{Kind}
+use Rattle.cp_session.specs.Budget.{Keeping}
 use Rattle.net_sockets.specs.declared.listener.Peer.{Peer}
 use Rattle.net_host.specs.declared.end.End.{End}
 use Rattle.net_host.specs.declared.end.Ended.{Ended}
@@ -27,7 +28,7 @@ module _ {A : Type 0} {kind : Kind A} where
   reports_after news c h k = (k.0, rounds_both h k.1, k.2)
 
 pub rests_none : {A : Type 0} (floor : Floor A) → Rests floor floor
-rests_none floor = record { same = λ key. refl; ended = refl }
+rests_none floor = record { same = λ key. refl; ended = refl; budget = refl }
 
 module _ {O : Type 0} where
   -- a key has another connection, or none
@@ -70,17 +71,17 @@ tells_accepted old new (all_news.Refused peer) floor next accepts e = e
 tells_accepted old new (all_news.Ended number peer end) floor next accepts e = absurd accepts
 
 -- there was no news of an end to give
-pub rests_unended : {O : Type 0} (old new : EventLoop O) → new.guests ≡ old.guests → old.ended.items ≡ new.ended.items → Rests (floor_of old) (floor_of new)
-rests_unended old new same first = record { same = λ key. ap (λ guests. seen guests key) same; ended = sym first }
+pub rests_unended : {O : Type 0} (old new : EventLoop O) → new.guests ≡ old.guests → new.budget ≡ old.budget → old.ended.items ≡ new.ended.items → Rests (floor_of old) (floor_of new)
+rests_unended old new same budget first = record { same = λ key. ap (λ guests. seen guests key) same; ended = sym first; budget = budget }
 
 -- nothing was done with any connection where the event loop is the same
 pub rests_same : {O : Type 0} (old new : EventLoop O) → new ≡ old → Rests (floor_of old) (floor_of new)
-rests_same old new e = record { same = λ key. ap (λ event_loop. seen event_loop.guests key) e; ended = ap (λ event_loop. event_loop.ended.items) e }
+rests_same old new e = record { same = λ key. ap (λ event_loop. seen event_loop.guests key) e; ended = ap (λ event_loop. event_loop.ended.items) e; budget = ap (λ event_loop. event_loop.budget) e }
 
 -- news of an end is of the first of those of which there was none
-pub tells_ended : {O : Type 0} (old new : EventLoop O) (ended : Ended) (news : News) → new.guests ≡ old.guests → old.ended.items ≡ ended ∷ new.ended.items
+pub tells_ended : {O : Type 0} (old new : EventLoop O) (ended : Ended) (news : News) → new.guests ≡ old.guests → new.budget ≡ old.budget → old.ended.items ≡ ended ∷ new.ended.items
     → news ≡ all_news.Ended ended.number ended.peer ended.end → Tells (floor_of old) (Some news) (floor_of new)
-tells_ended old new ended news same first is = rw is (ap (λ guests. seen guests) same, first)
+tells_ended old new ended news same budget first is = rw is (ap (λ guests. seen guests) same, first, budget)
 
 module _ {O : Type 0} where
   -- more room changes no connection
@@ -88,16 +89,17 @@ module _ {O : Type 0} where
   kept_in_room guests mid e key = ap (λ (s : Slab (Guest O)). seen s key) e
 
   -- a connection more, once there is room
-  pub begins_in_room : (guests mid after : Slab (Guest O)) (ended later : List Ended) (key : ℕ) (guest : Guest O) (one : Served O) → mid ≡ record guests { capacity = mid.capacity }
-      → get mid key ≡ None → Updates mid after key (Some guest) → served_of guest ≡ one → later ≡ ended
-      → Begins (record { served = seen guests; ended = ended }) one (record { served = seen after; ended = later })
-  begins_in_room guests mid after ended later key guest one room vacant updates is same =
+  pub begins_in_room : (guests mid after : Slab (Guest O)) (ended later : List Ended) (budget after_budget : Keeping) (key : ℕ) (guest : Guest O) (one : Served O) → mid ≡ record guests { capacity = mid.capacity }
+      → get mid key ≡ None → Updates mid after key (Some guest) → served_of guest ≡ one → later ≡ ended → after_budget ≡ budget
+      → Begins (record { served = seen guests; ended = ended; budget = budget }) one (record { served = seen after; ended = later; budget = after_budget })
+  begins_in_room guests mid after ended later budget after_budget key guest one room vacant updates is same as_much =
       let puts = seen_puts mid after key (Some guest) updates in
       record {
         key = key;
         free = sym (kept_in_room guests mid room key) ∙ ap (λ o. option_map served_of o) vacant;
         puts = record { here = puts.here ∙ ap (λ x. Some x) is; elsewhere = λ other differs. puts.elsewhere other differs ∙ kept_in_room guests mid room other };
         ended = same;
+        budget = as_much;
       }
 
 -- the end of a connection that kept its number and peer

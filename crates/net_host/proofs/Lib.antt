@@ -2,5 +2,8 @@ pub mod Deciding
 pub mod Fed
 pub mod Floors
 pub mod Once
+pub mod Overdue
 pub mod Rosters
 pub mod Serving
+pub mod Sharing
+pub mod Unfailed

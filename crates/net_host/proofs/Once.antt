@@ -6,6 +6,7 @@ use Rattle.cp_servants.specs.Servant.{Kind}
 use Rattle.net_host.specs.declared.end.Ended.{Ended}
 use Rattle.net_host.specs.declared.host.News.{News}
 use Rattle.net_host.specs.declared.host.News.TheVariants as all_news
+use Rattle.net_host.proofs.Serving.{stays_on}
 use Rattle.net_host.specs.Floor.{Begins, Floor, Puts, Rounds, Tells, Turns, begins, ends, goes_on, rests, turns}
 use Rattle.net_host.specs.Guests.{Served}
 use Rattle.net_host.specs.Once.{Has, IsGone, IsGoneBy, IsOnce, ends_of}
@@ -67,9 +68,9 @@ module _ {A : Type 0} {kind : Kind A} where
   once_turn : (old new : Floor A) (number : ℕ) → Turns kind old new → IsOnce old number → IsOnce new number
   once_turn old new number (rests r) once =
       once_by old new number (λ key has. subst (λ (slot : Option (Served A)). Has slot number) (r.same key) has) r.ended once
-  once_turn old new number (goes_on key one next was proceeds puts same) once =
-      once_by old new number (back_over old.served new.served key one next number was proceeds.1.number puts) same once
-  once_turn old new number (ends key one end was by puts ended) once =
+  once_turn old new number (goes_on key now one next was stays puts same noted) once =
+      once_by old new number (back_over old.served new.served key one next number was (stays_on stays).1.number puts) same once
+  once_turn old new number (ends key one end was by puts ended forgotten) once =
       let count : ends_of number new.ended ≡ ends_of number old.ended + cond (eqb one.number number) 1 0 = ap (λ es. ends_of number es) ended ∙ ends_of-push number old.ended _ in
       elim (cases_eq one.number number) [
         | inl named ↦
@@ -92,9 +93,9 @@ module _ {A : Type 0} {kind : Kind A} where
   gone_turn : (old new : Floor A) (number : ℕ) → Turns kind old new → IsGone old number → IsGone new number
   gone_turn old new number (rests r) gone =
       gone_by old new number (λ key has. subst (λ (slot : Option (Served A)). Has slot number) (r.same key) has) r.ended gone
-  gone_turn old new number (goes_on key one next was proceeds puts same) gone =
-      gone_by old new number (back_over old.served new.served key one next number was proceeds.1.number puts) same gone
-  gone_turn old new number (ends key one end was by puts ended) gone =
+  gone_turn old new number (goes_on key now one next was stays puts same noted) gone =
+      gone_by old new number (back_over old.served new.served key one next number was (stays_on stays).1.number puts) same gone
+  gone_turn old new number (ends key one end was by puts ended forgotten) gone =
       let other : one.number ≢ number = λ named. gone.unserved key (record { one = one; there = was; named = named }) in
       let count : ends_of number new.ended ≡ ends_of number old.ended + cond (eqb one.number number) 1 0 = ap (λ es. ends_of number es) ended ∙ ends_of-push number old.ended _ in
       record {

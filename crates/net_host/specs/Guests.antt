@@ -1,18 +1,25 @@
 -- A connection of a host, and what is done with it.
-use Rattle.std.specs.Prelude.{◌≡◌, ◌≢◌, ◌⊎◌, ℕ, true, List, [], ◌∷◌, ◌++◌, Option, Some, None, take}
+use Rattle.std.specs.Prelude.{◌≡◌, ◌≢◌, ◌≤◌, ◌<◌, ◌⊎◌, ℕ, ℤ, true, List, [], ◌∷◌, ◌++◌, Option, Some, None, take}
+use Rattle.std.specs.FinMap as map
+use Rattle.std.specs.IoError.{error_kind, raw_os_error}
 use Rattle.std.specs.declared.io.Error.{Error}
+use Rattle.std.specs.declared.io.ErrorKind.TheVariants as kinds
 use Rattle.cp_servants.specs.Servant.{Kind}
 use Rattle.cp_session.specs.declared.event.SessionEvent.{SessionEvent}
+use Rattle.cp_session.specs.Budget.{Keeping}
 use Rattle.cp_session.specs.declared.event.SessionEvent.TheVariants as events
+use Rattle.cp_session.specs.declared.progress.Limit.{Limit}
+use Rattle.cp_session.specs.declared.progress.Limit.TheVariants as limits
 use Rattle.cp_session.specs.declared.progress.Phase.TheVariants as phases
-use Rattle.cp_session.specs.Doing.{MayTake, Writes}
-use Rattle.cp_session.specs.Progress.{IsDraining}
+use Rattle.cp_session.specs.Doing.{MayTake, Ticks, Writes}
+use Rattle.cp_session.specs.Kept.{kept_of}
+use Rattle.cp_session.specs.Progress.{IsDraining, Meets, deadline_of}
 use Rattle.cp_session.specs.Runs.{Deed, Runs, nothing}
 use Rattle.cp_session.specs.State.{State, link_of, state_of}
 use Rattle.net_sockets.specs.declared.listener.Peer.{Peer}
 use Rattle.net_sockets.specs.declared.nonblocking_stream.Got.{Got}
 use Rattle.net_sockets.specs.declared.nonblocking_stream.Got.TheVariants as gots
-use Rattle.net_sockets.specs.Reading.{may_read, may_write}
+use Rattle.net_sockets.specs.Reading.{failure_of, may_read, may_write}
 use Rattle.net_host.specs.declared.end.End.{End}
 use Rattle.net_host.specs.declared.end.End.TheVariants as ends
 use Rattle.net_host.specs.declared.guest.Guest.{Guest}
@@ -20,13 +27,15 @@ use Rattle.net_host.specs.declared.pending.PendingConnection.{PendingConnection}
 use Rattle.net_host.specs.declared.guest.Turn.{Turn}
 use Rattle.net_host.specs.declared.guest.Turn.TheVariants as turns
 
--- A connection: its number, its peer, its session, what was read of its stream and not taken, and how it ended, once an event said so.
+-- A connection: its number, its peer, its session, what was read of its stream and not taken, how it ended, once an event said so, and the system's code of the
+-- error that its stream gave last, if it gave one and that had a code.
 pub record Served (A : Type 0) : Type 0 where
   pub number : ℕ
   pub peer : Peer
   pub session : State A
   pub rest : List ℕ
   pub end : Option End
+  pub failure : Option (Option ℤ)
 
 -- a connection by its parts
 abbrev pub served_of : {O : Type 0} → Guest O → Served O
@@ -36,7 +45,12 @@ served_of guest = record {
   session = state_of guest.session;
   rest = guest.rest.items;
   end = guest.end;
+  failure = failure_of guest.stream;
 }
+
+-- how many bytes are kept for it
+abbrev pub kept_by : {A : Type 0} → Served A → ℕ
+kept_by served = kept_of served.session.service.work
 
 -- something waits to be written, and its stream may take bytes
 abbrev pub CanWrite : {O : Type 0} → Guest O → Type 0
@@ -54,7 +68,15 @@ CanTake guest =
 
 -- a connection of which nothing was read
 abbrev pub new_served : {A : Type 0} → PendingConnection → State A → Served A
-new_served pending session = record { number = pending.number; peer = pending.peer; session = session; rest = []; end = None }
+new_served pending session = record { number = pending.number; peer = pending.peer; session = session; rest = []; end = None; failure = failure_of pending.stream }
+
+-- a limit of time is met by now, unless a byte moves
+abbrev pub IsOverdue : {A : Type 0} → State A → ℕ → Type 0
+IsOverdue session now = (deadline : ℕ) × (deadline_of session.limits session.progress session.progress.phase ≡ Some deadline) × (deadline ≤ now)
+
+-- more is kept for it than its own limit while its peer's bytes are taken, and its peer is told so
+abbrev pub IsTooMuch : {A : Type 0} → State A → Type 0
+IsTooMuch session = (session.progress.phase ≡ phases.Serving) × (session.limits.kept < kept_of session.service.work)
 
 -- how a connection ended, if an event says so
 abbrev pub end_of : SessionEvent → Option End
@@ -89,10 +111,16 @@ came_by (gots.Bytes count) piece = take count piece
 came_by gots.Nothing piece = []
 came_by gots.End piece = []
 
--- Why a connection is closed: its stream failed; or its session is over. What events said before comes first.
-pub data IsWhy {A : Type 0} (last : Served A) (end : End) : Type 0 where
-  fails : (error : Error) → end ≡ end_or last.end (ends.Failed error) → IsWhy last end
-  is_over : last.session.progress.phase ≡ phases.Over → end ≡ end_or last.end ends.Ended → IsWhy last end
+-- this is the error that its stream gave last, or memory ran out
+abbrev pub HasFailed : {A : Type 0} → Served A → Error → Type 0
+HasFailed last error = (last.failure ≡ Some (raw_os_error error)) ⊎ (error_kind error ≡ kinds.OutOfMemory)
+
+-- Why a connection is closed that may keep so many bytes: its stream failed, or memory ran out; its session is over; or more is kept for it. What events said
+-- before comes first.
+pub data IsWhy {A : Type 0} (most : ℕ) (last : Served A) (end : End) : Type 0 where
+  fails : (error : Error) → HasFailed last error → end ≡ end_or last.end (ends.Failed error) → IsWhy most last end
+  is_over : last.session.progress.phase ≡ phases.Over → end ≡ end_or last.end ends.Ended → IsWhy most last end
+  is_full : most < kept_by last → end ≡ end_or last.end (ends.Limit limits.Kept) → IsWhy most last end
 
 module _ {A : Type 0} (kind : Kind A) where
   -- A connection went on. Its session was given what was left of its stream and what came of it, in order and each byte once, but what is left now. Nothing else
@@ -106,23 +134,31 @@ module _ {A : Type 0} (kind : Kind A) where
     pub in_order : old.rest ++ came ≡ deed.given ++ left
     pub end : new.end ≡ end_after old.end deed.told
 
-  -- it went on, and keeps what is left
+  -- it went on, keeps what is left, and its stream didn't fail
   abbrev pub Proceeds : Served A → Served A → Type 0
-  Proceeds old new = (came : List ℕ) × Serves old came new.rest new
+  Proceeds old new = (came : List ℕ) × Serves old came new.rest new × (new.failure ≡ old.failure)
 
   -- it went on for the last time, with what came of its stream
   abbrev pub StopsAfter : Served A → List ℕ → Served A → Type 0
   StopsAfter old came new = (left : List ℕ) × Serves old came left new
 
+  -- it did, as memory ran out
+  abbrev pub StopsShort : Served A → List ℕ → Error → Served A → Type 0
+  StopsShort old came error new = StopsAfter old came new × (error_kind error ≡ kinds.OutOfMemory)
+
   -- it went on for the last time
   abbrev pub Stops : Served A → Served A → Type 0
   Stops old new = (came : List ℕ) × StopsAfter old came new
+
+  -- it went on for the last time, as its stream failed with this error, or memory ran out
+  abbrev pub Fails : Served A → Error → Served A → Type 0
+  Fails old error new = Stops old new × HasFailed new error
 
   -- Events of its session were handed out, and nothing else was done. What is known of its end is what they said.
   abbrev pub Hears : Served A → Served A → Type 0
   Hears old new =
       (told : List SessionEvent) × Runs kind old.session (record nothing { told = told }) new.session
-      × (new ≡ record old { session = new.session; end = end_after old.end told })
+      × (new.session.progress.phase ≡ old.session.progress.phase) × (new ≡ record old { session = new.session; end = end_after old.end told })
 
   -- its stream took this many of the bytes that waited, at this time
   pub data Sends (old : Served A) (count now : ℕ) (new : Served A) : Type 0 where
@@ -130,11 +166,38 @@ module _ {A : Type 0} (kind : Kind A) where
     some : Writes kind old.session count now new.session → new ≡ record old { session = new.session } → Sends old count now new
 
   -- it went on for the last time, and this is how it ended
-  abbrev pub EndsBy : Served A → End → Type 0
-  EndsBy old end = (last : Served A) × Stops old last × IsWhy last end
+  abbrev pub EndsBy : ℕ → Served A → End → Type 0
+  EndsBy most old end = (last : Served A) × Stops old last × IsWhy most last end
 
-  -- what a turn does with it
-  abbrev pub Visits : Served A → Turn → Served A → Type 0
-  Visits old (turns.Over end) new = (new.number ≡ old.number) × (new.peer ≡ old.peer) × EndsBy old end
-  Visits old turns.More new = Proceeds old new
-  Visits old turns.Waits new = Proceeds old new
+  -- It went on; by this time its session met no limit, but the one of which its peer is told; and events were handed out. No more is kept for it than this.
+  pub record Stays (most now : ℕ) (old new : Served A) : Type 0 where
+    pub worked : Served A
+    pub proceeds : Proceeds old worked
+    pub ticked : State A
+    pub ticks : Ticks kind worked.session now ticked
+    pub unmet : (limit : Limit) → Meets worked.session.limits worked.session.progress (kept_by worked) now limit → IsTooMuch worked.session
+    pub hears : Hears (record worked { session = ticked }) new
+    pub within : kept_by new ≤ most
+
+  -- it is closed, and has its number and its peer
+  abbrev pub Closes : ℕ → Served A → End → Served A → Type 0
+  Closes most old end new = (new.number ≡ old.number) × (new.peer ≡ old.peer) × EndsBy most old end
+
+  -- what a turn at this time does with it, where so many bytes may be kept for it
+  abbrev pub Visits : ℕ → ℕ → Served A → Turn → Served A → Type 0
+  Visits most now old (turns.Over end) new = Closes most old end new
+  Visits most now old turns.More new = Stays most now old new
+  Visits most now old turns.Waits new = Stays most now old new
+
+-- a budget notes how much is kept for the connection of this number, or forgets it
+abbrev pub noting : Keeping → ℕ → ℕ → Keeping
+noting budget number bytes = record budget { kept = map.insert budget.kept number bytes }
+
+abbrev pub forgetting : Keeping → ℕ → Keeping
+forgetting budget number = record budget { kept = map.remove budget.kept number }
+
+-- a turn's budget has what is kept for a connection that goes on, and forgets one that ended
+abbrev pub Accounts : Turn → ℕ → ℕ → Keeping → Keeping → Type 0
+Accounts (turns.Over end) number bytes old new = new ≡ forgetting old number
+Accounts turns.More number bytes old new = new ≡ noting old number bytes
+Accounts turns.Waits number bytes old new = new ≡ noting old number bytes

@@ -1,13 +1,20 @@
 -- What a host allows.
-use Rattle.std.specs.Prelude.{ℕ, ◌<◌}
+use Rattle.std.specs.Prelude.{ℕ, ◌<◌, ◌/◌, max}
 use Rattle.cp_session.specs.Limits as session
 use Rattle.net_host.specs.declared.limits.Crowd.TheVariants as crowds
 use Rattle.net_host.specs.declared.limits.HostLimits.{HostLimits}
 
 -- the limits where nothing else is asked for
 abbrev pub standard : HostLimits
-standard = record { connections = 1000; crowd = crowds.Refuse; messages = 64; session = session.standard }
+standard = record { connections = 1000; crowd = crowds.Refuse; messages = 64; memory = 4294967296; session = session.standard }
 
 -- one more connection may be served beside this many
 abbrev pub HasRoom : HostLimits → ℕ → Type 0
 HasRoom limits connections = connections < limits.connections
+
+-- Of the bytes for all connections half are shared out among them, and half are for what they keep beyond that.
+abbrev pub share_of : HostLimits → ℕ
+share_of limits = limits.memory / 2 / max limits.connections 1
+
+abbrev pub pool_of : HostLimits → ℕ
+pool_of limits = limits.memory / 2

@@ -1,5 +1,5 @@
 -- Each connection is reported once.
-use Rattle.std.specs.Prelude.{◌≡◌, ℕ, ◌+◌, ◌≤◌, ◌==◌, if◌then◌else◌, List, [], ◌∷◌, Option, Some}
+use Rattle.std.specs.Prelude.{◌≡◌, ℕ, ◌+◌, ◌≤◌, ◌==◌, if◌then◌else◌, List, [], ◌∷◌, Option, Some, None}
 use Rattle.cp_servants.specs.Servant.{Kind}
 use Rattle.net_host.specs.declared.end.Ended.{Ended}
 use Rattle.net_host.specs.declared.host.News.{News}
@@ -46,3 +46,21 @@ module _ {A : Type 0} (kind : Kind A) where
   -- a connection that begins is the only one of its number, if none had it
   abbrev pub BeginsOnce : Type 0
   BeginsOnce = (old new : Floor A) (one : Served A) → Begins old one new → IsGone old one.number → IsOnce new one.number
+
+-- the stream of a connection, if there is one, didn't fail
+abbrev pub IsUnfailed : {A : Type 0} → Option (Served A) → Type 0
+IsUnfailed None = Unit {0}
+IsUnfailed (Some one) = one.failure ≡ None
+
+-- no connection is served whose stream failed
+abbrev pub NoneFailed : {A : Type 0} → Floor A → Type 0
+NoneFailed floor = (key : ℕ) → IsUnfailed (floor.served key)
+
+module _ {A : Type 0} (kind : Kind A) where
+  -- Whatever turns and news there are, it stays so that no connection is served whose stream failed: where one fails, it ends by that turn.
+  abbrev pub StaysUnfailed : Type 0
+  StaysUnfailed = (old new : Floor A) (news : Option News) → Reports kind old news new → NoneFailed old → NoneFailed new
+
+  -- it stays so where one begins whose stream didn't fail
+  abbrev pub BeginsUnfailed : Type 0
+  BeginsUnfailed = (old new : Floor A) (one : Served A) → Begins old one new → one.failure ≡ None → NoneFailed old → NoneFailed new

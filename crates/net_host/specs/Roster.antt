@@ -1,11 +1,12 @@
 -- What a host knows of the number of its connections.
-use Rattle.std.specs.Prelude.{◌≡◌, ℕ, ◌+◌, ◌≤◌, Option, Some, None}
+use Rattle.std.specs.Prelude.{◌≡◌, ◌⊎◌, ℕ, ◌+◌, ◌≤◌, Option, Some, None}
 use Rattle.net_host.specs.Limits.{HasRoom}
 use Rattle.net_sockets.specs.Incoming.{most}
 use Rattle.net_host.specs.declared.host.News.{News}
 use Rattle.net_host.specs.declared.host.News.TheVariants as all_news
 use Rattle.net_host.specs.declared.host.Look.{Look}
 use Rattle.net_host.specs.declared.host.Look.TheVariants as looks
+use Rattle.net_host.specs.declared.limits.Crowd.TheVariants as crowds
 use Rattle.net_host.specs.declared.plan.HostPlan.{HostPlan}
 
 -- The plan, how many are to come, how many came, how many are served, and the number of the one that waits for its objects.
@@ -37,6 +38,14 @@ pub record Comes (old : Roster) (number : ℕ) (new : Roster) : Type 0 where
 abbrev pub IsCrowded : Roster → Type 0
 IsCrowded r = HasRoom r.plan.limits r.served → ⊥
 
+-- one more may be served, or is to be refused
+abbrev pub IsOpen : Roster → Type 0
+IsOpen r = HasRoom r.plan.limits r.served ⊎ (r.plan.limits.crowd ≡ crowds.Refuse)
+
+-- no more may be served, and one more is to be refused
+abbrev pub Refuses : Roster → Type 0
+Refuses r = IsCrowded r × (r.plan.limits.crowd ≡ crowds.Refuse)
+
 -- all that were to come have come and ended
 abbrev pub IsOver : Roster → Type 0
 IsOver r = (r.served ≡ 0) × (r.count ≤ r.came)
@@ -44,7 +53,7 @@ IsOver r = (r.served ≡ 0) × (r.count ≤ r.came)
 -- what is so once a host gave this news, or none
 abbrev pub Hears : Roster → Option News → Roster → Type 0
 Hears old (Some (all_news.Came number peer)) new = Comes old number new
-Hears old (Some (all_news.Refused peer)) new = GoesOn old new × IsCrowded new
+Hears old (Some (all_news.Refused peer)) new = GoesOn old new × Refuses new
 Hears old (Some (all_news.Ended number peer end)) new = GoesOn old new
 Hears old None new = GoesOn old new × IsOver new
 
@@ -62,7 +71,7 @@ abbrev pub Accepts : Roster → Option News → Roster → Type 0
 Accepts old None new = new ≡ old
 Accepts old (Some (all_news.Came number peer)) new =
     (number ≡ old.came + 1) × (new ≡ record old { came = number; awaits = Some number }) × HasRoom old.plan.limits old.served
-Accepts old (Some (all_news.Refused peer)) new = (new ≡ old) × IsCrowded old
+Accepts old (Some (all_news.Refused peer)) new = (new ≡ old) × Refuses old
 Accepts old (Some (all_news.Ended number peer end)) new = ⊥
 
 -- a round of turns, by which some may have ended

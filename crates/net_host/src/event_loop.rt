@@ -1,10 +1,13 @@
 //! The connections that a host serves, and their turns.
 
-ghost use Rattle.std.specs.Prelude.{◌≡◌, ◌≤◌, ◌+◌, ℕ, [], ◌++◌, Some, IfOk, OnOk, OnErr, option_to_list};
-ghost use Rattle.slab.specs.Slab.{HasRoomFor, slab_len};
+ghost use Rattle.std.specs.Prelude.{◌≡◌, ◌<◌, ◌≤◌, ◌+◌, ℕ, [], ◌∷◌, ◌++◌, Some, None, IfOk, OnOk, OnErr, option_to_list};
+ghost use Rattle.std.specs.VecDeque.{deque_capacity, deque_len};
+ghost use Rattle.slab.specs.Slab.{HasRoomFor, Updates, slab_len};
 ghost use Rattle.net_sockets.specs.Incoming.{Keeps};
-ghost use Rattle.net_host.specs.Floor.{Rests, Rounds, Seats, Turns, floor_of, nobody, seen};
+ghost use Rattle.net_sockets.specs.Reading.{failure_of};
+ghost use Rattle.net_host.specs.Floor.{HasOverdue, IsDue, Rests, Rounds, Seats, Turns, floor_of, nobody, number_of, seen};
 
+use crate::allowance::Allowance;
 use crate::end::Ended;
 use crate::guest::{Guest, Turn};
 use crate::limits::HostLimits;
@@ -12,7 +15,7 @@ use crate::pending::PendingConnection;
 use crate::plan::HostPlan;
 use crate::time::Time;
 use cp_servants::Servant;
-use cp_session::Session;
+use cp_session::{Budget, Session};
 use mio::event::Event;
 use mio::{Events, Poll, Token};
 use net_sockets::{Incoming, NonblockingStream};
@@ -29,6 +32,10 @@ const LISTENER: Token = Token(usize::MAX);
 /// The most events that one wait reports.
 const EVENTS: usize = 256;
 
+/// The most connections for which room is made at the start. Room takes memory only as it is used, and a slab that grows leaves blocks
+/// behind.
+const ROOM: usize = 1_024;
+
 /// The bytes that are read at once.
 const PIECE: usize = 65_536;
 
@@ -39,6 +46,8 @@ pub(crate) struct EventLoop<O> {
     poll: Poll,
     events: Events,
     guests: Slab<Guest<O>>,
+    /// What is kept for each, by the numbers of their keys.
+    budget: Budget,
     /// The keys of those that can go on at once.
     queue: VecDeque<usize>,
     /// Those that ended, of which there was no news yet.
@@ -51,10 +60,11 @@ impl<O: Servant> EventLoop<O> {
     /// No connection is served. Those that come are reported.
     pub(crate) fn new<N: Net + Clock + AllocGlobal>(
         rt: &N,
+        limits: &HostLimits,
         incoming: &mut Incoming,
     ) -> io::Result<EventLoop<O>>
         ensures nobody { IfOk result (λ it. slab_len it.guests ≡ 0) }
-        ensures empty { IfOk result (λ it. Rests nobody (floor_of it)) }
+        ensures empty { IfOk result (λ it. Rests (nobody limits.now) (floor_of it)) }
         ensures same { Keeps incoming.old incoming.new }
     {
         let poll = Poll::new(rt)?;
@@ -62,12 +72,14 @@ impl<O: Servant> EventLoop<O> {
         let alloc = rt.alloc();
         let events = Events::with_capacity(alloc, EVENTS)?;
         let piece = vec![in alloc; 0u8; PIECE]?;
+        let guests = Slab::with_capacity(alloc, limits.connections.min(ROOM))?;
         let time = Time::start(rt)?;
         Ok(EventLoop {
             alloc,
             poll,
             events,
-            guests: Slab::new(alloc),
+            guests,
+            budget: Budget::new(alloc, limits.share(), limits.pool()),
             queue: VecDeque::new(alloc),
             ended: VecDeque::new(alloc),
             piece,
@@ -90,6 +102,7 @@ impl<O: Servant> EventLoop<O> {
     /// The first of those that ended of which there was no news.
     pub(crate) fn next_end(&mut self) -> Option<Ended>
         ensures same { self.new.guests ≡ self.old.guests }
+        ensures budget { self.new.budget ≡ self.old.budget }
         ensures first { self.old.ended.items ≡ option_to_list result ++ self.new.ended.items }
     {
         self.ended.pop_front()
@@ -127,6 +140,8 @@ impl<O: Servant> EventLoop<O> {
         ensures room { OnOk result (HasRoomFor self.new.guests 1) }
         ensures same { self.new.guests ≡ record self.old.guests { capacity = self.new.guests.capacity } }
         ensures ended { self.new.ended ≡ self.old.ended }
+        ensures budget { self.new.budget ≡ self.old.budget }
+        ensures stream { failure_of stream.new ≡ failure_of stream.old }
     {
         let key = self.guests.vacant_key();
         // A key in the queue that names no connection is passed over.
@@ -146,6 +161,8 @@ impl<O: Servant> EventLoop<O> {
         ensures len { slab_len self.new.guests ≡ slab_len self.old.guests }
         ensures rests { Rests (floor_of self.old) (floor_of self.new) }
     {
+        // Before the events are taken, of which none comes again.
+        self.queue.reserve(EVENTS)?;
         self.poll.poll(&mut self.events, wait)?;
         self.time.look(rt)?;
         note_events(&self.events, &mut self.guests, &mut self.queue)
@@ -154,7 +171,7 @@ impl<O: Servant> EventLoop<O> {
     /// Gives each connection that can go on a turn.
     pub(crate) fn round(&mut self, limits: &HostLimits) -> io::Result<()>
         ensures len { slab_len self.new.guests ≤ slab_len self.old.guests }
-        ensures turns { OnOk result (Rounds O.kind (floor_of self.old) (floor_of self.new)) }
+        ensures turns { Rounds O.kind (floor_of self.old) (floor_of self.new) }
     {
         // One piece or one round of polls each, so that a fast peer delays the others by a piece.
         for _ in 0..self.queue.len() {
@@ -163,48 +180,90 @@ impl<O: Servant> EventLoop<O> {
         self.sweep(limits)
     }
 
-    /// Gives the first connection in the queue a turn.
+    /// Gives the first connection in the queue a turn. Where this fails, none had one.
     fn turn(&mut self, limits: &HostLimits) -> io::Result<()>
         ensures len { slab_len self.new.guests ≤ slab_len self.old.guests }
-        ensures turns { OnOk result (Turns O.kind (floor_of self.old) (floor_of self.new)) }
+        ensures turns { Turns O.kind (floor_of self.old) (floor_of self.new) }
     {
+        // Nothing fails once a connection had its turn: so its end is reported.
+        self.ended.reserve(1)?;
         let Some(key) = self.queue.pop_front() else {
             return Ok(());
         };
         let Some(guest) = self.guests.get_mut(key) else {
             return Ok(());
         };
-        match guest.turn(&mut self.piece, limits, self.time.now()) {
+        let account = number_of(key);
+        let allowed = Allowance {
+            messages: limits.messages,
+            kept: self.budget.allowed(account),
+            account,
+            now: self.time.now(),
+        };
+        match guest.turn(&mut self.piece, &mut self.budget, allowed) {
             Turn::More => {
-                self.queue.push_back(key)?;
+                self.queue.push_back_reserved(key);
                 Ok(())
             }
             Turn::Waits => Ok(()),
             Turn::Over(end) => {
-                self.ended.push_back(guest.ended(end))?;
-                // This closes its stream.
-                drop(self.guests.try_remove(key));
+                let ended = guest.ended(end);
+                self.close(key, ended);
                 Ok(())
             }
         }
     }
 
-    /// Gives those that meet a limit a turn, which closes them.
+    /// Serves the connection under a key no more, as it ended so.
+    fn close(&mut self, key: usize, ended: Ended)
+        requires { deque_len self.old.ended < deque_capacity self.old.ended }
+        ensures len { slab_len self.new.guests ≤ slab_len self.old.guests }
+        ensures updates { Updates self.old.guests self.new.guests key None }
+        ensures ended { self.new.ended.items ≡ self.old.ended.items ++ ended ∷ [] }
+        ensures budget { self.new.budget ≡ self.old.budget }
+    {
+        self.ended.push_back_reserved(ended);
+        // This closes its stream.
+        drop(self.guests.try_remove(key));
+    }
+
+    /// Gives those that meet a limit of time a turn, which closes them.
     fn sweep(&mut self, limits: &HostLimits) -> io::Result<()>
         ensures guests { self.new.guests ≡ self.old.guests }
         ensures ended { self.new.ended ≡ self.old.ended }
+        ensures budget { self.new.budget ≡ self.old.budget }
+        ensures swept { OnOk result (IsDue self.old.time → HasOverdue self.new.guests self.old.time.at self.new.queue.items) }
     {
         if !self.time.is_due(limits.session.tick()) {
             return Ok(());
         }
-        let now = self.time.now();
-        for (key, guest) in &self.guests {
-            if guest.is_overdue(now) {
-                self.queue.push_back(key)?;
-            }
-        }
-        Ok(())
+        queue_overdue(&self.guests, self.time.now(), &mut self.queue)
     }
+}
+
+/// Puts those into the queue that meet a limit of time.
+fn queue_overdue<O: Servant>(
+    guests: &Slab<Guest<O>>,
+    now: u64,
+    queue: &mut VecDeque<usize>,
+) -> io::Result<()>
+    ensures { OnOk result (HasOverdue guests.now now queue.new.items) }
+{
+    for entry in guests {
+        let (key, guest) = entry;
+        if guest.is_overdue(now) {
+            queue.push_back(key)?;
+        }
+    }
+    Ok(())
+}
+
+/// The number under which a budget has what is kept for a connection. There is no memory for 2^32 connections, whose numbers would
+/// be those of others.
+fn number_of(key: usize) -> u32
+    ensures { result ≡ number_of key }
+{
+    (key % 0x1_0000_0000) as u32
 }
 
 /// Notes what events say of connections, and puts those into the queue that weren't in it. Says whether the listener had an event.

@@ -1,20 +1,21 @@
 //! A connection that a host serves.
 
-ghost use Rattle.std.specs.Prelude.{◌≡◌, ◌≤◌, ◌↔◌, [], IsTrue, None, IfOk, OnOk, OnErr, length, take};
+ghost use Rattle.std.specs.Prelude.{◌≡◌, ◌≤◌, ◌↔◌, [], IsTrue, Some, None, IfSome, IfNone, IfOk, IfErr, OnOk, length, take};
+ghost use Rattle.std.specs.IoError.{raw_os_error};
 ghost use Rattle.cp_session.specs.State.{state_of};
 ghost use Rattle.net_sockets.specs.Reading.{Fits};
 ghost use Rattle.net_host.specs.Feeding.{IsFed};
-ghost use Rattle.net_host.specs.Guests.{CanTake, CanWrite, Hears, MayHaveBytes, Proceeds, Sends, Serves, Stops, StopsAfter, Visits, came_by, end_or, heard, new_served, served_of};
+ghost use Rattle.net_host.specs.Guests.{Accounts, CanTake, CanWrite, Closes, Fails, Hears, IsOverdue, MayHaveBytes, Proceeds, Sends, Serves, Stays, StopsShort, Visits, came_by, end_or, heard, kept_by, new_served, served_of};
 
+use crate::allowance::Allowance;
 use crate::end::{End, Ended};
-use crate::limits::HostLimits;
 use crate::pending::PendingConnection;
 use cp_servants::Servant;
-use cp_session::{Session, SessionEvent};
+use cp_session::{Budget, Limit, Session, SessionEvent};
 use mio::event::Event;
 use net_sockets::{Got, NonblockingStream, Peer};
 use std::alloc::Global;
-use std::io;
+use std::io::{self, ErrorKind};
 
 /// What is left to do for a connection.
 #[derive(Drop)]
@@ -84,28 +85,35 @@ impl<O: Servant> Guest<O> {
     }
 
     /// Whether it meets a limit of time.
-    pub(crate) fn is_overdue(&self, now: u64) -> bool {
+    pub(crate) fn is_overdue(&self, now: u64) -> bool
+        ensures { IsTrue result ↔ IsOverdue (state_of self.now.session) now }
+    {
         match self.session.deadline() {
             Some(deadline) => deadline <= now,
             None => false,
         }
     }
 
-    /// Writes what waits to be written, takes one piece or polls the objects once, and writes what that leads to.
-    pub(crate) fn turn(&mut self, piece: &mut [u8], limits: &HostLimits, now: u64) -> Turn
-        ensures { Visits O.kind (served_of self.old) result (served_of self.new) }
+    /// How many bytes are kept for it.
+    pub(crate) fn kept(&self) -> u64
+        ensures { result ≡ kept_by (served_of self.now) }
     {
-        if let Err(error) = self.move_on(piece, limits.messages, now) {
-            // What happened before the stream failed counts.
-            self.note_events();
-            return Turn::Over(self.end_or(End::Failed(error)));
+        self.session.kept()
+    }
+
+    /// Has a turn. A budget notes how much is kept for it then, or forgets it where it ended. Where it can't be noted, it ends.
+    pub(crate) fn turn(&mut self, piece: &mut [u8], budget: &mut Budget, allowed: Allowance) -> Turn
+        ensures visits { Visits O.kind allowed.kept allowed.now (served_of self.old) result (served_of self.new) }
+        ensures accounts { Accounts result allowed.account (kept_by (served_of self.new)) budget.old budget.new }
+    {
+        if let Some(end) = self.visit(piece, allowed) {
+            budget.forget(allowed.account);
+            return Turn::Over(end);
         }
-        // At once and without an Abort: a vat has no call that sends one, and who meets a limit isn't owed an answer.
-        self.session.tick(now);
-        self.note_events();
-        self.shut();
-        if self.session.is_over() {
-            return Turn::Over(self.end_or(End::Ended));
+        if budget.note(allowed.account, self.kept()).is_err() {
+            budget.forget(allowed.account);
+            let error = io::Error::from(ErrorKind::OutOfMemory);
+            return Turn::Over(self.end_or(End::Failed(error)));
         }
         self.queued = self.can_go_on();
         if !self.queued {
@@ -114,32 +122,55 @@ impl<O: Servant> Guest<O> {
         Turn::More
     }
 
-    /// Goes on by one piece.
-    fn move_on(&mut self, piece: &mut [u8], messages: u32, now: u64) -> io::Result<()>
+    /// Goes on by one piece. Says how it ended, where its stream failed, its session is over, or more is kept for it than it is allowed.
+    fn visit(&mut self, piece: &mut [u8], allowed: Allowance) -> Option<End>
+        ensures closes { IfSome result (λ end. Closes O.kind allowed.kept (served_of self.old) end (served_of self.new)) }
+        ensures stays { IfNone result (Stays O.kind allowed.kept allowed.now (served_of self.old) (served_of self.new)) }
+    {
+        if let Err(error) = self.move_on(piece, allowed) {
+            // What happened before the stream failed counts.
+            self.note_events();
+            return Some(self.end_or(End::Failed(error)));
+        }
+        // A limit of time ends it at once. One that keeps too much is told so first.
+        self.session.tick(allowed.now);
+        self.note_events();
+        self.shut();
+        if self.session.is_over() {
+            return Some(self.end_or(End::Ended));
+        }
+        if self.kept() > allowed.kept {
+            return Some(self.end_or(End::Limit(Limit::Kept)));
+        }
+        None
+    }
+
+    /// Writes what waits to be written, takes one piece or polls the objects once, and writes what that leads to.
+    fn move_on(&mut self, piece: &mut [u8], allowed: Allowance) -> io::Result<()>
         ensures goes_on { OnOk result (Proceeds O.kind (served_of self.old) (served_of self.new)) }
-        ensures stops { OnErr result (Stops O.kind (served_of self.old) (served_of self.new)) }
+        ensures fails { IfErr result (λ error. Fails O.kind (served_of self.old) error (served_of self.new)) }
     {
         // First what waits, so that more may be taken.
-        self.write(now)?;
-        self.go_on(piece, messages, now)?;
-        self.write(now)
+        self.write(allowed.now)?;
+        self.go_on(piece, allowed)?;
+        self.write(allowed.now)
     }
 
     /// Takes what is left of a piece, or the next one, or polls the objects.
-    fn go_on(&mut self, piece: &mut [u8], messages: u32, now: u64) -> io::Result<()>
+    fn go_on(&mut self, piece: &mut [u8], allowed: Allowance) -> io::Result<()>
         ensures goes_on { OnOk result (Proceeds O.kind (served_of self.old) (served_of self.new)) }
-        ensures stops { OnErr result (Stops O.kind (served_of self.old) (served_of self.new)) }
+        ensures fails { IfErr result (λ error. Fails O.kind (served_of self.old) error (served_of self.new)) }
     {
         if !self.can_take() {
             // Why it failed an event says.
-            let _ = self.session.poll(now);
+            let _ = self.session.poll(allowed.now);
             return Ok(());
         }
         if self.rest.is_empty() {
-            return self.read(piece, messages, now);
+            return self.read(piece, allowed);
         }
         let left = self.rest.as_slice();
-        let count = feed(&mut self.session, left, messages, now);
+        let count = feed(&mut self.session, left, allowed);
         // A new vector, so that the memory of a long rest goes back.
         let rest = Vec::from_slice(self.alloc, &left[count..])?;
         self.rest = rest;
@@ -147,33 +178,34 @@ impl<O: Servant> Guest<O> {
     }
 
     /// Reads a piece, takes of it what may be taken, and keeps the rest.
-    fn read(&mut self, piece: &mut [u8], messages: u32, now: u64) -> io::Result<()>
+    fn read(&mut self, piece: &mut [u8], allowed: Allowance) -> io::Result<()>
         requires { self.old.rest.items ≡ [] }
         ensures goes_on { OnOk result (Proceeds O.kind (served_of self.old) (served_of self.new)) }
-        ensures stops { OnErr result (Stops O.kind (served_of self.old) (served_of self.new)) }
+        ensures fails { IfErr result (λ error. Fails O.kind (served_of self.old) error (served_of self.new)) }
     {
         let got = self.stream.read(piece)?;
-        self.take(got, piece, messages, now)
+        self.take(got, piece, allowed)
     }
 
     /// Takes what a read gave, as far as it may be taken, and keeps the rest.
-    fn take(&mut self, got: Got, piece: &[u8], messages: u32, now: u64) -> io::Result<()>
+    fn take(&mut self, got: Got, piece: &[u8], allowed: Allowance) -> io::Result<()>
         requires empty { self.old.rest.items ≡ [] }
         requires fits { Fits got (length piece.now) }
         ensures goes_on { OnOk result (Serves O.kind (served_of self.old) (came_by got piece.now) self.new.rest.items (served_of self.new)) }
-        ensures stops { OnErr result (StopsAfter O.kind (served_of self.old) (came_by got piece.now) (served_of self.new)) }
+        ensures stops { IfErr result (λ error. StopsShort O.kind (served_of self.old) (came_by got piece.now) error (served_of self.new)) }
+        ensures same { self.new.stream ≡ self.old.stream }
     {
         match got {
             Got::Bytes(length) => {
                 let came = &piece[..length];
-                let count = feed(&mut self.session, came, messages, now);
+                let count = feed(&mut self.session, came, allowed);
                 self.rest.extend_from_slice(&came[count..])?;
                 Ok(())
             }
             Got::Nothing => Ok(()),
             Got::End => {
                 // Why it failed an event says.
-                let _ = self.session.end(now);
+                let _ = self.session.end(allowed.now);
                 Ok(())
             }
         }
@@ -181,7 +213,8 @@ impl<O: Servant> Guest<O> {
 
     /// Writes as much as the stream takes.
     fn write(&mut self, now: u64) -> io::Result<()>
-        ensures { Proceeds O.kind (served_of self.old) (served_of self.new) }
+        ensures goes_on { OnOk result (Proceeds O.kind (served_of self.old) (served_of self.new)) }
+        ensures fails { IfErr result (λ error. Fails O.kind (served_of self.old) error (served_of self.new)) }
     {
         for _ in 0..u64::MAX {
             if !self.can_write() {
@@ -195,7 +228,7 @@ impl<O: Servant> Guest<O> {
     /// Offers the stream what waits, and says how much it took.
     fn write_some(&mut self, now: u64) -> io::Result<usize>
         ensures sends { IfOk result (λ count. Sends O.kind (served_of self.old) count now (served_of self.new)) }
-        ensures unsent { OnErr result (served_of self.new ≡ served_of self.old) }
+        ensures unsent { IfErr result (λ error. served_of self.new ≡ record (served_of self.old) { failure = Some (raw_os_error error) }) }
     {
         let count = self.stream.write(self.session.outgoing())?;
         if count == 0 {
@@ -293,17 +326,18 @@ impl<O: Servant> Guest<O> {
     }
 }
 
-/// Gives a session these bytes, within so many messages, and says how many were taken.
-fn feed<O: Servant>(session: &mut Session<O>, piece: &[u8], messages: u32, now: u64) -> usize
+/// Gives a session these bytes, within so many messages and until more is kept for it than it is allowed, and says how many were taken.
+fn feed<O: Servant>(session: &mut Session<O>, piece: &[u8], allowed: Allowance) -> usize
     ensures few { result ≤ length piece.now }
     ensures fed { IsFed O.kind (state_of session.old) (take result piece.now) (state_of session.new) }
 {
     let mut left = piece;
-    for _ in 0..messages {
-        if left.is_empty() || !session.takes_bytes() {
+    for _ in 0..allowed.messages {
+        // Looked at after each message, so that no more is kept beyond that than one message leads to.
+        if left.is_empty() || !session.takes_bytes() || session.kept() > allowed.kept {
             break;
         }
-        let count = feed_next(session, left, now);
+        let count = feed_next(session, left, allowed.now);
         left = &left[count..];
     }
     piece.len() - left.len()

@@ -3,9 +3,9 @@
 ghost use Rattle.std.specs.Prelude.{◌≡◌, ◌<◌, ◌↔◌, None, IsTrue, IfOk, OnOk, OnErr};
 ghost use Rattle.net_sockets.specs.Incoming.{came_of, count_of};
 ghost use Rattle.net_host.specs.Floor as floor;
-ghost use Rattle.net_host.specs.Floor.{LooksOn, Reports, Rests, Seats, connections_of, nobody};
+ghost use Rattle.net_host.specs.Floor.{IsFresh, LooksOn, Reports, Rests, Seats, connections_of, nobody};
 ghost use Rattle.net_host.specs.Limits.{HasRoom};
-ghost use Rattle.net_host.specs.Roster.{begun, Accepts, Admits, GoesOn, Hears, IsOver, Looks, Rounds};
+ghost use Rattle.net_host.specs.Roster.{begun, Accepts, Admits, GoesOn, Hears, IsOpen, IsOver, Looks, Rounds};
 ghost use Rattle.net_host.specs.RosterOf.{roster};
 ghost use Rattle.net_host.specs.declared.host.News.TheVariants as all_news;
 
@@ -71,15 +71,16 @@ enum Look {
 ///   64 KiB is read and taken, or so many of its messages as the limits say. After each message each object is polled once. While
 ///   an object says that it may give more, it is polled at each turn.
 /// - Nothing is read of a peer while more than `ahead` bytes wait for it, so a peer that doesn't read is not served on.
-/// - A limit that is met closes the connection. What is reported says which.
+/// - A limit that is met closes the connection. What is reported says which. So does one that is met by what all connections keep
+///   together: it closes the connection that came to keep more than its share, where the other ones leave no more.
 /// - After an Abort that the peer gets for its fault, and after bytes of it that are refused, the stream is closed for writing, and
 ///   what comes is dropped, until the peer closes or its time is over: so it can read what it was sent. After an Abort of the peer's its
 ///   close is waited for likewise. After the end of its messages all that the objects give is written, and it is closed.
 ///
 /// # Errors
 ///
-/// An error of `next` is one of the listener's set of sockets, or says that memory ran out for it. Of a connection that fails the
-/// news says so, and the others go on.
+/// An error of `next` is one of the listener's set of sockets, or says that memory ran out for it. Each end is still reported then, by
+/// a further call. Of a connection that fails the news says so, and the others go on.
 pub struct Host<O> {
     plan: HostPlan,
     incoming: Incoming,
@@ -106,10 +107,10 @@ impl<O: Servant> Host<O> {
         listener: Listener,
     ) -> io::Result<Host<O>>
         ensures begun { IfOk result (λ host. roster host ≡ begun plan) }
-        ensures empty { IfOk result (λ host. Rests nobody (connections_of host)) }
+        ensures empty { IfOk result (λ host. Rests (nobody plan.limits) (connections_of host)) }
     {
         let mut incoming = Incoming::new(listener, plan.count);
-        let event_loop = EventLoop::new(rt, &mut incoming)?;
+        let event_loop = EventLoop::new(rt, &plan.limits, &mut incoming)?;
         Ok(Host {
             plan,
             incoming,
@@ -123,8 +124,10 @@ impl<O: Servant> Host<O> {
     /// A connection that came last, and got no objects, is closed.
     pub fn next<N: Net + Clock>(&mut self, rt: &N) -> io::Result<Option<News>>
         ensures hears { IfOk result (λ news. Hears (roster self.old) news (roster self.new)) }
+        ensures fresh { OnOk result (IsFresh self.new.pending) }
         ensures unheard { OnErr result (GoesOn (roster self.old) (roster self.new)) }
         ensures reports { IfOk result (λ news. Reports O.kind (connections_of self.old) news (connections_of self.new)) }
+        ensures unreported { OnErr result (floor.Rounds O.kind (connections_of self.old) (connections_of self.new)) }
     {
         // A connection that got no objects is closed by this.
         self.pending = None;
@@ -156,8 +159,10 @@ impl<O: Servant> Host<O> {
     fn look<N: Net + Clock>(&mut self, rt: &N) -> io::Result<Look>
         requires { self.old.pending ≡ None }
         ensures looks { IfOk result (λ it. Looks (roster self.old) it (roster self.new)) }
+        ensures fresh { OnOk result (IsFresh self.new.pending) }
         ensures unheard { OnErr result (GoesOn (roster self.old) (roster self.new)) }
         ensures reports { IfOk result (λ it. LooksOn O.kind (connections_of self.old) it (connections_of self.new)) }
+        ensures unreported { OnErr result (floor.Rounds O.kind (connections_of self.old) (connections_of self.new)) }
     {
         if let Some(ended) = self.event_loop.next_end() {
             return Ok(Look::News(News::ended(ended)));
@@ -177,7 +182,8 @@ impl<O: Servant> Host<O> {
 
     /// Whether a connection may be waiting, and is wanted.
     fn can_accept(&self) -> bool
-        ensures { IsTrue result → came_of self.now.incoming < count_of self.now.incoming }
+        ensures wanted { IsTrue result → came_of self.now.incoming < count_of self.now.incoming }
+        ensures open { IsTrue result → IsOpen (roster self.now) }
     {
         self.incoming.may_accept() && (self.has_room() || self.plan.limits.crowd == Crowd::Refuse)
     }
@@ -198,8 +204,10 @@ impl<O: Servant> Host<O> {
 
     /// Takes the next connection that waits, if one does, or closes it where there are as many as are allowed.
     fn accept(&mut self) -> Option<News>
-        requires { came_of self.old.incoming < count_of self.old.incoming }
+        requires wanted { came_of self.old.incoming < count_of self.old.incoming }
+        requires open { IsOpen (roster self.old) }
         ensures accepts { Accepts (roster self.old) result (roster self.new) }
+        ensures fresh { IsFresh self.old.pending → IsFresh self.new.pending }
         ensures same { self.new.event_loop ≡ self.old.event_loop }
     {
         let (stream, peer) = self.incoming.accept()?;
@@ -220,7 +228,7 @@ impl<O: Servant> Host<O> {
     /// Waits for events, and gives each connection that can go on a turn.
     fn round<N: Net + Clock>(&mut self, rt: &N) -> io::Result<()>
         ensures rounds { Rounds (roster self.old) (roster self.new) }
-        ensures turns { OnOk result (floor.Rounds O.kind (connections_of self.old) (connections_of self.new)) }
+        ensures turns { floor.Rounds O.kind (connections_of self.old) (connections_of self.new) }
     {
         let wait = self.wait();
         let has_event = self.event_loop.wait(rt, wait)?;

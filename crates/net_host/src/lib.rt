@@ -1,6 +1,7 @@
 //! Many connections in one process, each with objects of its own.
 #![tactic(auto)]
 
+mod allowance;
 mod end;
 mod event_loop;
 mod guest;
@@ -13,6 +14,6 @@ mod time;
 
 pub use end::End;
 pub use host::{Host, News};
-pub use laws::reported_once;
+pub use laws::{fails_once, keeps_within, reported_once};
 pub use limits::{Crowd, HostLimits};
 pub use plan::HostPlan;

@@ -104,7 +104,6 @@ pub(crate) enum PairTurn {
 }
 
 /// A connection that was accepted, and the one to the target.
-#[derive(Drop)]
 pub(crate) struct Pair<'r> {
     guard: Option<PairGuard<'r>>,
     near: NonblockingStream,
@@ -119,6 +118,23 @@ pub(crate) struct Pair<'r> {
     queued: bool,
 }
 
+// Not derived: who lets one go calls this function, and need not prove the drop of what it holds.
+impl<'r> Drop for Pair<'r> {
+    fn drop(self) {
+        let Pair {
+            guard: _,
+            near: _,
+            far: _,
+            there: _,
+            back: _,
+            far_is_shut: _,
+            near_is_shut: _,
+            number: _,
+            queued: _,
+        } = self;
+    }
+}
+
 impl<'r> Pair<'r> {
     /// A pair of streams, of which nothing was read.
     pub(crate) fn new(
@@ -128,17 +144,24 @@ impl<'r> Pair<'r> {
         far: NonblockingStream,
         number: u64,
     ) -> Result<Pair<'r>, AllocError> {
-        Ok(Pair {
-            guard: plan.guard(alloc),
-            near,
-            far,
-            there: Direction::new(alloc, plan.there(alloc), true)?,
-            back: Direction::new(alloc, plan.back(alloc), false)?,
-            far_is_shut: false,
-            near_is_shut: false,
-            number,
-            queued: false,
-        })
+        match directions(alloc, plan) {
+            Ok((there, back)) => Ok(Pair {
+                guard: plan.guard(alloc),
+                near,
+                far,
+                there,
+                back,
+                far_is_shut: false,
+                near_is_shut: false,
+                number,
+                queued: false,
+            }),
+            Err(error) => {
+                drop(near);
+                drop(far);
+                Err(error)
+            }
+        }
     }
 
     /// Its number, from 1 on.
@@ -235,6 +258,18 @@ impl<'r> Pair<'r> {
         }
         let one = there.or(back)?;
         if one.ends_both() { Some(one) } else { None }
+    }
+}
+
+/// Both directions of a pair, of which nothing was read.
+fn directions(alloc: Global, plan: &RelayPlan<'_>) -> Result<(Direction, Direction), AllocError> {
+    let there = Direction::new(alloc, plan.there(alloc), true)?;
+    match Direction::new(alloc, plan.back(alloc), false) {
+        Ok(back) => Ok((there, back)),
+        Err(error) => {
+            drop(there);
+            Err(error)
+        }
     }
 }
 

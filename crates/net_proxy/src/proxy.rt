@@ -206,10 +206,20 @@ impl<'a, 'p, 'r> Proxy<'a, 'p, 'r> {
 
     /// Makes the pair of a connection. Where this fails both its streams are closed.
     fn admit<N: Net>(&mut self, rt: &N, near: NonblockingStream, number: u64) -> io::Result<()> {
-        let far = self.target.connect(rt)?;
+        let far = match self.target.connect(rt) {
+            Ok(far) => far,
+            Err(error) => {
+                drop(near);
+                return Err(error);
+            }
+        };
         let mut pair = Pair::new(self.alloc, self.plan, near, far, number)?;
         let key = self.pairs.vacant_key();
-        pair.register(self.poll.registry(), Token(key.wrapping_mul(2)))?;
+        let registered = pair.register(self.poll.registry(), Token(key.wrapping_mul(2)));
+        if registered.is_err() {
+            drop(pair);
+            return registered;
+        }
         self.pairs.insert(pair)?;
         Ok(())
     }

@@ -1,7 +1,8 @@
 //! The connections that come to a listener.
 
-ghost use Rattle.std.specs.Prelude.{◌≡◌, ◌<◌, ◌≤◌, ◌+◌, ◌↔◌, IsTrue};
+ghost use Rattle.std.specs.Prelude.{◌≡◌, ◌<◌, ◌≤◌, ◌+◌, ◌↔◌, None, IsTrue, IfSome};
 ghost use Rattle.net_sockets.specs.Incoming.{most, came_of, count_of, Keeps};
+ghost use Rattle.net_sockets.specs.Reading.{failure_of};
 
 use crate::listener::{Listener, Peer};
 use crate::nonblocking_stream::NonblockingStream;
@@ -87,7 +88,8 @@ impl Incoming {
 
     /// Takes the next connection that waits, if one does.
     pub fn accept(&mut self) -> Option<(NonblockingStream, Peer)>
-        ensures { Keeps self.old self.new }
+        ensures same { Keeps self.old self.new }
+        ensures unfailed { IfSome result (λ one. failure_of one.0 ≡ None) }
     {
         self.burst = self.burst.saturating_add(1);
         match self.listener.accept() {

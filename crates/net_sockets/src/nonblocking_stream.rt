@@ -1,7 +1,8 @@
 //! A stream, and what is known of it.
 
-ghost use Rattle.std.specs.Prelude.{◌≡◌, ◌≤◌, IfOk, length};
-ghost use Rattle.net_sockets.specs.Reading.{Fits, may_read, may_write};
+ghost use Rattle.std.specs.Prelude.{◌≡◌, ◌≤◌, Some, None, IfOk, IfErr, OnOk, length};
+ghost use Rattle.std.specs.IoError.{raw_os_error};
+ghost use Rattle.net_sockets.specs.Reading.{Fits, failure_of, may_read, may_write};
 
 use crate::stream::StreamSocket;
 use mio::event::Event;
@@ -29,6 +30,8 @@ pub struct NonblockingStream {
     writable: bool,
     /// The peer sends no more, or the stream failed: a short read needn't be the last one.
     closed: bool,
+    /// The system's code of the error that a read or a write gave last, if one did and had a code.
+    failure: Option<Option<i32>>,
 }
 
 impl NonblockingStream {
@@ -39,6 +42,7 @@ impl NonblockingStream {
             readable: false,
             writable: false,
             closed: false,
+            failure: None,
         })
     }
 
@@ -58,22 +62,29 @@ impl NonblockingStream {
     }
 
     /// A stream of which nothing is known.
-    pub(crate) fn new(stream: StreamSocket) -> NonblockingStream {
+    pub(crate) fn new(stream: StreamSocket) -> NonblockingStream
+        ensures { failure_of result ≡ None }
+    {
         NonblockingStream {
             stream,
             readable: true,
             writable: true,
             closed: false,
+            failure: None,
         }
     }
 
     /// Has its readiness reported under a token.
-    pub fn register(&mut self, registry: &Registry, token: Token) -> io::Result<()> {
+    pub fn register(&mut self, registry: &Registry, token: Token) -> io::Result<()>
+        ensures { failure_of self.new ≡ failure_of self.old }
+    {
         self.stream.register(registry, token)
     }
 
     /// What an event says of it.
-    pub fn mark(&mut self, event: &Event) {
+    pub fn mark(&mut self, event: &Event)
+        ensures { failure_of self.new ≡ failure_of self.old }
+    {
         let closed = event.is_read_closed() || event.is_error();
         self.closed = self.closed || closed;
         self.readable = self.readable || event.is_readable() || closed;
@@ -99,7 +110,9 @@ impl NonblockingStream {
 
     /// Reads a piece.
     pub fn read(&mut self, piece: &mut [u8]) -> io::Result<Got>
-        ensures { IfOk result (λ got. Fits got (length piece.new)) }
+        ensures fits { IfOk result (λ got. Fits got (length piece.new)) }
+        ensures failed { IfErr result (λ error. failure_of self.new ≡ Some (raw_os_error error)) }
+        ensures went_well { OnOk result (failure_of self.new ≡ failure_of self.old) }
     {
         match self.stream.read(piece) {
             Ok(0) => Ok(Got::End),
@@ -115,17 +128,19 @@ impl NonblockingStream {
                 }
                 // The stream still counts as readable, so the caller comes again.
                 ErrorKind::Interrupted => Ok(Got::Nothing),
-                _ => Err(error),
+                _ => Err(self.fail(error)),
             },
         }
     }
 
     /// Writes the first of these bytes, which aren't none, and says how many.
     pub fn write(&mut self, bytes: &[u8]) -> io::Result<usize>
-        ensures { IfOk result (λ count. count ≤ length bytes.now) }
+        ensures few { IfOk result (λ count. count ≤ length bytes.now) }
+        ensures failed { IfErr result (λ error. failure_of self.new ≡ Some (raw_os_error error)) }
+        ensures went_well { OnOk result (failure_of self.new ≡ failure_of self.old) }
     {
         match self.stream.write(bytes) {
-            Ok(0) => Err(io::Error::from(ErrorKind::WriteZero)),
+            Ok(0) => Err(self.fail(io::Error::from(ErrorKind::WriteZero))),
             Ok(count) => Ok(count),
             Err(error) => match error.kind() {
                 ErrorKind::WouldBlock => {
@@ -133,7 +148,7 @@ impl NonblockingStream {
                     Ok(0)
                 }
                 ErrorKind::Interrupted => Ok(0),
-                _ => Err(error),
+                _ => Err(self.fail(error)),
             },
         }
     }
@@ -141,5 +156,14 @@ impl NonblockingStream {
     /// Tells the peer that nothing more comes. One that is gone isn't told.
     pub fn shut(&self) {
         let _ = self.stream.shut();
+    }
+
+    /// Keeps that it failed with this error.
+    fn fail(&mut self, error: io::Error) -> io::Error
+        ensures same { result ≡ error }
+        ensures kept { failure_of self.new ≡ Some (raw_os_error error) }
+    {
+        self.failure = Some(error.raw_os_error());
+        error
     }
 }

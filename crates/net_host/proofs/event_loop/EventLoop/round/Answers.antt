@@ -1,5 +1,4 @@
 use Rattle.std.proofs.Common.{arith}
-use Rattle.net_host.proofs.Deciding.{ok_so}
 use Rattle.net_host.specs.Floor.{begins, turns}
 use Rattle.net_host.proofs.event_loop.EventLoop.round.Goals as goal
 
@@ -7,7 +6,10 @@ pub loop-init : goal.loop-init
 loop-init g c = record { no_more = omega arith; turns = begins }
 
 pub loop-preserved : goal.loop-preserved
-loop-preserved g c = record { no_more = omega arith; turns = turns c.loop.invariant.turns c.in_ok-turn.ensures.turns }
+loop-preserved g c = record { no_more = omega arith; turns = turns c.loop.invariant.turns c.turn.ensures.turns }
+
+pub returns-in_err-turn-clause-turns : goal.returns-in_err-turn-clause-turns
+returns-in_err-turn-clause-turns g c = turns c.loop.invariant.turns c.turn.ensures.turns
 
 pub returns-clause-turns : goal.returns-clause-turns
-returns-clause-turns g c = rw (c.sweep.ensures.guests, c.sweep.ensures.ended) (ok_so c.sweep.result c.loop.invariant.turns)
+returns-clause-turns g c = rw (c.sweep.ensures.guests, c.sweep.ensures.ended, c.sweep.ensures.budget) c.loop.invariant.turns

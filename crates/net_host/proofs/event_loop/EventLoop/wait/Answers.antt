@@ -4,7 +4,7 @@ use Rattle.net_host.specs.Floor.{floor_of}
 use Rattle.net_host.proofs.event_loop.EventLoop.wait.Goals as goal
 
 pub returns-clause-rests : goal.returns-clause-rests
-returns-clause-rests g c = record { same = c.note_events.ensures.same; ended = refl }
+returns-clause-rests g c = record { same = c.note_events.ensures.same; ended = refl; budget = refl }
 
 pub returns-in_err-poll-clause-rests : goal.returns-in_err-poll-clause-rests
 returns-in_err-poll-clause-rests g c = rests_none (floor_of c.args.self.now)

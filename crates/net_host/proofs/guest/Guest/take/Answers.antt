@@ -1,4 +1,4 @@
-use Rattle.net_host.proofs.Deciding.{err_so}
+use Rattle.net_host.proofs.Deciding.{err_from}
 use Rattle.net_host.proofs.Fed.{parts}
 use Rattle.net_host.proofs.Serving.{serves_added, serves_came, serves_ended, serves_none, stops_after}
 use Rattle.net_host.specs.Guests.{served_of}
@@ -6,7 +6,9 @@ use Rattle.net_host.proofs.guest.Guest.take.Goals as goal
 
 pub returns-in_err-extend_from_slice-in-Bytes-clause-stops : goal.returns-in_err-extend_from_slice-in-Bytes-clause-stops
 returns-in_err-extend_from_slice-in-Bytes-clause-stops g c =
-    rw c.in-Bytes.is (err_so _ (stops_after (serves_came (served_of c.args.self.now) _ _ _ _ _ c.requires.empty (parts _ c.feed-count.result) c.feed-count.ensures.fed)))
+    rw c.in-Bytes.is
+    (err_from c.from_residual.result c.from_residual.ensures
+    (λ error ran_out. (stops_after (serves_came (served_of c.args.self.now) _ _ _ _ _ c.requires.empty (parts _ c.feed-count.result) c.feed-count.ensures.fed), ran_out)))
 
 pub returns-in_ok-extend_from_slice-in-Bytes-clause-goes_on : goal.returns-in_ok-extend_from_slice-in-Bytes-clause-goes_on
 returns-in_ok-extend_from_slice-in-Bytes-clause-goes_on g c =

@@ -1,4 +1,5 @@
-use Rattle.net_host.proofs.Serving.{proceeds_as, proceeds_both, proceeds_none, proceeds_sent}
+use Rattle.net_host.proofs.Deciding.{err_same}
+use Rattle.net_host.proofs.Serving.{fails_now, proceeds_both, proceeds_none, proceeds_sent}
 use Rattle.net_host.specs.Guests.{served_of}
 use Rattle.net_host.proofs.guest.Guest.write.Goals as goal
 
@@ -8,5 +9,7 @@ loop-init g c = proceeds_none (served_of c.args.self.now)
 pub loop-preserved : goal.loop-preserved
 loop-preserved g c = proceeds_both c.loop.invariant (proceeds_sent _ _ _ _ c.in_ok-write_some.ensures.sends)
 
-pub returns-in_err-write_some : goal.returns-in_err-write_some
-returns-in_err-write_some g c = proceeds_as c.loop.invariant c.in_err-write_some.ensures.unsent
+pub returns-in_err-write_some-clause-fails : goal.returns-in_err-write_some-clause-fails
+returns-in_err-write_some-clause-fails g c =
+    let error = c.in_err-write_some.field-0.0 in
+    err_same _ error c.from_residual.result c.from_residual.ensures (fails_now error c.loop.invariant c.in_err-write_some.ensures.unsent)

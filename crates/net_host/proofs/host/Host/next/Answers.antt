@@ -18,6 +18,9 @@ loop-preserved g c = record {
 pub returns-in_err-look-clause-unheard : goal.returns-in_err-look-clause-unheard
 returns-in_err-look-clause-unheard g c = err_so _ (goes_both c.loop.invariant.goes_on c.in_err-look.ensures.unheard)
 
+pub returns-in_err-look-clause-unreported : goal.returns-in_err-look-clause-unreported
+returns-in_err-look-clause-unreported g c = err_so _ (rounds_both c.loop.invariant.turns c.in_err-look.ensures.unreported)
+
 pub returns-in-News-clause-hears : goal.returns-in-News-clause-hears
 returns-in-News-clause-hears g c =
     hears_after (Some c.in-News.news) (roster c.look.new.self) c.loop.invariant.goes_on (rw c.in-News.is at c.in_ok-look.ensures.looks)
