@@ -1,5 +1,5 @@
-// For libFuzzer: the input is a program of calls on two readers, each call a byte and what it takes. What is lent is read through, and what a call
-// answers is one of its faults.
+// For libFuzzer: the input is a program of calls on two readers and a relay, each call a byte and what it takes. What is lent is read through,
+// and what a call answers is one of its faults.
 #include "jamdrosek.h"
 #include <stdlib.h>
 
@@ -37,6 +37,7 @@ static void told(uint32_t code, const struct jd_spot *spot) {
 
 int LLVMFuzzerTestOneInput(const uint8_t *data, size_t count) {
     struct jd_reader readers[2] = {{0}, {0}};
+    struct jd_relay relay = {0};
     struct jd_limits standard = JD_STANDARD_LIMITS, small = {4, 64, 4, 64};
     left = data;
     size = count;
@@ -50,9 +51,11 @@ int LLVMFuzzerTestOneInput(const uint8_t *data, size_t count) {
         struct jd_checked checked;
         uint8_t out[16];
         uint64_t words[16];
+        struct jd_method methods[2] = {{1, 0}, {2, 1}};
         size_t len, number;
+        uint64_t gone;
         bool was_open = reader->is_open;
-        switch (what % 12) {
+        switch (what % 16) {
         case 0: told(jd_reader_open(reader, what & 16, what & 32 ? &small : &standard), &nowhere); break;
         case 1: case 2: case 3: {
             const uint8_t *at = piece(&len);
@@ -98,10 +101,24 @@ int LLVMFuzzerTestOneInput(const uint8_t *data, size_t count) {
             expect(!jd_unpack(packed, packed_len, again, 16, &len) && len == number);
             break;
         }
+        case 11: told(jd_relay_open(&relay, what & 16, byte() % 3, &standard, methods, what & 32 ? 2 : 0, what & 64), &nowhere); break;
+        case 12: case 13: {
+            const uint8_t *at = piece(&len);
+            uint32_t code = jd_relay_feed(&relay, at, len, &bytes, &gone, &spot);
+            told(code, &spot);
+            expect(code > JD_CLOSED || !gone);
+            look(&bytes);
+            break;
+        }
+        case 14:
+            told(jd_relay_end(&relay, &gone, &spot), &spot);
+            if (what & 16) jd_relay_close(&relay);
+            break;
         default: expect(jd_reader_needs(reader) == 0 || was_open); jd_reader_close(reader); expect(!reader->is_open);
         }
     }
     jd_reader_close(&readers[0]);
     jd_reader_close(&readers[1]);
+    jd_relay_close(&relay);
     return 0;
 }

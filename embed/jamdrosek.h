@@ -1,12 +1,13 @@
 /*
- * Jamdrosek for C: Cap'n Proto streams, read and checked by code that is proved. docs/EMBEDDING.md says how to link it.
+ * Jamdrosek for C: Cap'n Proto streams, connections of two-party RPC, and a relay, by code that is proved. docs/EMBEDDING.md says how to
+ * link it.
  *
  * WHAT C OWES
  *
  * Nothing checks C, so the proofs hold only for a program that keeps to this:
  *
- * - A handle (`struct jd_reader`) is all zeros, or what an earlier call left in it. It isn't copied, and C reads and
- *   writes none of its fields.
+ * - A handle (`struct jd_reader`, `struct jd_connection`, `struct jd_relay`) is all zeros, or what an earlier call left in it. It isn't
+ *   copied, and C reads and writes none of its fields.
  * - A handle is in one call at a time, and all of its calls are on one thread. Two handles share nothing.
  * - A pointer with a length leads to that much memory, which nobody writes during the call. At a length of 0 any pointer
  *   that isn't null will do. Other pointers are never null, and lead to a value of their type.
@@ -42,6 +43,10 @@ enum {
     JD_CLOSED = 1,           /* The handle is closed. */
     JD_LIMITS = 2,           /* A limit is out of its range. */
     JD_NO_FRAME = 3,         /* No frame has come since the last call that takes bytes. */
+    JD_ARGUMENT = 4,         /* A kind, a path or a text that the call was given is none, or bytes follow its frame. */
+    JD_NO_CONTENT = 5,       /* The event has no such part. */
+    JD_ENDED = 6,            /* The connection is closed, as the event JD_CLOSING said. */
+    JD_FORBIDDEN = 7,        /* A rule of the relay forbids a message. */
     /* Of a stream. */
     JD_TOO_MANY_SEGMENTS = 101, /* F1: a frame has more segments than the limit. */
     JD_FRAME_TOO_LARGE = 102,   /* F2: a frame has more words than the limit. */
@@ -68,7 +73,19 @@ enum {
     JD_TOO_DEEP = 401,      /* B1: structs and lists nest deeper than the limit. */
     JD_TOO_COSTLY = 402,    /* B2: the tree costs more than the limit, or a list is too long. */
     JD_WRITE_MEMORY = 403,  /* B3: memory ran out. */
-    JD_TOO_MANY_WORDS = 404 /* B4: the segments have more words than the limit. */
+    JD_TOO_MANY_WORDS = 404, /* B4: the segments have more words than the limit. */
+    /* Of a call of a connection, which is refused and changes nothing; but JD_VAT_MEMORY ends the connection. */
+    JD_UNKNOWN_QUESTION = 501, /* V1: no question of this end's, or a finished one; or a call that wasn't delivered, or was answered. */
+    JD_UNKNOWN_PROMISE = 502,  /* V2: no promise, or one that this end didn't make. */
+    JD_ALREADY_RESOLVED = 503, /* V3: the promise was resolved before. */
+    JD_PROMISE_CYCLE = 504,    /* V4: the value leads back to its own promise. */
+    JD_UNSETTLED = 505,        /* V5: an open promise, or a pipelined capability where none is allowed. */
+    JD_IN_USE = 506,           /* V6: the question, import or promise is in use. */
+    JD_TOO_LARGE = 507,        /* V7: a content, a table, a path or a text is past the limits. */
+    JD_FULL = 508,             /* V8: what the call opens doesn't fit. */
+    JD_VAT_CLOSED = 509,       /* V9: the vat is closed. */
+    JD_VAT_MEMORY = 510,       /* V10: memory ran out. */
+    JD_UNKNOWN_IMPORT = 511    /* V11: no import. */
 };
 
 /*
@@ -196,6 +213,183 @@ size_t jd_reader_copy(struct jd_reader *reader, size_t from, uint8_t *out, size_
 
 /* Lets go of the reader, if there is one. The handle is closed then. */
 void jd_reader_close(struct jd_reader *reader);
+
+/* ---- A connection: one end of two-party RPC, levels 0 and 1, without its devices ---- */
+
+/*
+ * The program drives it: it gives the bytes of the peer, takes what happens, and writes what is to go out.
+ *
+ *   1. jd_connection_open, for a new connection to a peer.
+ *   2. jd_connection_receive with bytes of the peer as they come, until it has taken all; jd_connection_end where they end.
+ *   3. After each of these, and after each call below, jd_connection_next until nothing happened; do what each event asks.
+ *   4. jd_connection_outgoing; write these bytes to the peer before waiting for more of its own; jd_connection_wrote.
+ *
+ * Objects of the program are numbers that it chooses. Params and results are plain frames, whose root is the content; a capability
+ * in them is the place of an entry in a table of `struct jd_cap`, which comes and goes with the frame. Tail calls of the peer are served.
+ */
+struct jd_connection {
+    void *at;
+    bool is_open;
+};
+
+/* A capability as this end names it. */
+struct jd_cap {
+    uint32_t kind;     /* one of the following */
+    uint32_t number;   /* the object, the promise, the import or the question */
+    size_t fields;     /* JD_CAP_PIPELINED: the length of the path, at most 16 */
+    uint16_t path[16]; /* JD_CAP_PIPELINED: pointer fields from the results' root on */
+};
+
+enum {
+    JD_CAP_NONE = 0,
+    JD_CAP_OBJECT = 1,    /* an object of this end */
+    JD_CAP_PROMISE = 2,   /* a promise of this end */
+    JD_CAP_IMPORT = 3,    /* a capability of the peer */
+    JD_CAP_PIPELINED = 4, /* what a question will give at a path */
+    JD_CAP_BROKEN = 5     /* one whose calls fail */
+};
+
+/* Whom the answer of a call is for. It is given back as it came. */
+struct jd_origin {
+    bool is_own;
+    uint32_t number;
+};
+
+struct jd_method {
+    uint64_t interface;
+    uint16_t method;
+};
+
+enum { JD_NOTHING = 0, JD_DELIVERED = 1, JD_SETTLED = 2, JD_CLOSING = 3 };
+enum { JD_RESULTS = 0, JD_EXCEPTION = 1, JD_CANCELED = 2 };
+
+/* What happened. What a kind hasn't is 0. */
+struct jd_event {
+    uint32_t kind;
+    uint32_t object;         /* delivered: the object that is called. Answer it once, now or later, by its origin. */
+    struct jd_origin origin; /* delivered */
+    uint64_t ticket;         /* delivered: the call's place in the order of calls */
+    uint64_t interface;      /* delivered */
+    uint16_t method;         /* delivered */
+    uint32_t question;       /* settled: finish it when none of its paths is needed any more */
+    uint32_t outcome;        /* settled: JD_RESULTS, JD_EXCEPTION, JD_CANCELED; closing: 0 the peer aborted, else n of its fault Pn */
+    uint32_t exception;      /* an exception's type (rpc.capnp): 0 failed, 1 overloaded, 2 disconnected, 3 unimplemented */
+    size_t caps;             /* delivered, or settled as results: the length of the table */
+};
+
+/*
+ * Opens a connection whose peer's messages keep to these limits, in the packed form or the plain one. The peer's Bootstrap gets the
+ * object `bootstrap`, if there is one. A connection that the handle had is let go.
+ *   JD_LIMITS, JD_OUT_OF_MEMORY: the handle is as it was.
+ */
+uint32_t jd_connection_open(struct jd_connection *connection, bool packed, const struct jd_limits *limits, bool has_bootstrap, uint32_t bootstrap);
+
+/*
+ * Takes bytes of the peer up to the end of the next message, and says how many: one at least, where there is one.
+ *   F1, F2, F4, G1 to G9, S1, S2: the peer's bytes can't be read on, and the connection has ended: each later call answers this fault.
+ *   JD_VAT_MEMORY, JD_ENDED.
+ */
+uint32_t jd_connection_receive(struct jd_connection *connection, const uint8_t *piece, size_t len, size_t *taken);
+
+/* Ends the bytes of the peer. This end may still call. JD_TRUNCATED: they ended inside a frame, and the connection has ended. */
+uint32_t jd_connection_end(struct jd_connection *connection);
+
+/* Lends the bytes that are to go out, in order. */
+uint32_t jd_connection_outgoing(struct jd_connection *connection, struct jd_bytes *bytes);
+
+/* Notes that the first `count` of them were written, or all where there are fewer. */
+uint32_t jd_connection_wrote(struct jd_connection *connection, size_t count);
+
+/* Takes what happened first of what wasn't taken; JD_NOTHING where there is none. What the event before had is let go. */
+uint32_t jd_connection_next(struct jd_connection *connection, struct jd_event *event);
+
+/* Lends the content of the event's params or results: a plain frame whose root it is. JD_NO_CONTENT; B1 to B4, F6: nothing is lent. */
+uint32_t jd_connection_content(struct jd_connection *connection, struct jd_bytes *bytes);
+
+/* The capability at a place of the event's table. JD_NO_CONTENT: there is none. */
+uint32_t jd_connection_cap(struct jd_connection *connection, size_t place, struct jd_cap *cap);
+
+/* Lends the reason of the event's exception, or of the peer's Abort; there is no zero byte after it. JD_NO_CONTENT, JD_OUT_OF_MEMORY. */
+uint32_t jd_connection_reason(struct jd_connection *connection, struct jd_bytes *bytes);
+
+/* Asks for the peer's bootstrap capability, and gives the question's number. JD_FULL. */
+uint32_t jd_connection_bootstrap(struct jd_connection *connection, uint32_t *question);
+
+/*
+ * Calls a capability with the struct of a plain frame as params (no bytes: null) and this table, and gives the question's number.
+ *   F1 to F3, G1 to G10, JD_ARGUMENT: of the frame or the table. V1, V2, V7, V8, V11: the call is refused.
+ */
+uint32_t jd_connection_call(struct jd_connection *connection, const struct jd_cap *target, const struct jd_method *method, const uint8_t *params,
+                            size_t len, const struct jd_cap *caps, size_t caps_len, uint32_t *question);
+
+/* Answers a call that was delivered with the struct of a plain frame as results (no bytes: null) and this table. Faults as of a call. */
+uint32_t jd_connection_answer(struct jd_connection *connection, const struct jd_origin *origin, const uint8_t *results, size_t len,
+                              const struct jd_cap *caps, size_t caps_len);
+
+/* Answers a call that was delivered with an exception of this type and reason. JD_ARGUMENT: the reason isn't UTF-8. V1, V7. */
+uint32_t jd_connection_fail(struct jd_connection *connection, const struct jd_origin *origin, uint16_t type, const char *reason, size_t len);
+
+/* Gives a question up. V1, V6. */
+uint32_t jd_connection_finish(struct jd_connection *connection, uint32_t question);
+
+/* Gives an import back, with its whole count. V6, V11. */
+uint32_t jd_connection_release(struct jd_connection *connection, uint32_t import);
+
+/* Makes an open promise, and gives its number. V8. */
+uint32_t jd_connection_promise(struct jd_connection *connection, uint32_t *promise);
+
+/* Settles a promise that this end made. V1 to V5, V7, V8, V11. */
+uint32_t jd_connection_resolve(struct jd_connection *connection, uint32_t promise, const struct jd_cap *value);
+
+/* Drops a settled promise. V2, V5, V6. */
+uint32_t jd_connection_forget(struct jd_connection *connection, uint32_t promise);
+
+/*
+ * Whether the connection refers to an object of this end. Once it doesn't, the peer has dropped it, and the object may go. An event that
+ * wasn't taken may name it too.
+ */
+uint32_t jd_connection_uses(struct jd_connection *connection, uint32_t object, bool *uses);
+
+/*
+ * The fault that ended the connection, or JD_OK where it goes on; where bytes of the peer had it, also how many bytes the messages before
+ * them took, and what is to blame.
+ */
+uint32_t jd_connection_fault(struct jd_connection *connection, uint64_t *at, struct jd_spot *spot);
+
+/* Lets go of the connection, if there is one. Nothing is written to the peer. */
+void jd_connection_close(struct jd_connection *connection);
+
+/* ---- A relay: one direction of a connection, and which of its messages may go ---- */
+
+/* All zeros at first. */
+struct jd_relay {
+    void *at;
+    bool is_open;
+};
+
+/* What goes out for a message: the bytes of its frame as they came, or the same message anew in one segment. */
+enum { JD_AS_READ = 0, JD_ANEW_PLAIN = 1, JD_ANEW_PACKED = 2 };
+
+/*
+ * Opens a relay of a stream in the packed form or the plain one, of which nothing has come. `methods` are the only ones that may be
+ * called, or, where `only` is false, those that may not. A relay that the handle had is let go.
+ *   JD_LIMITS, JD_OUT_OF_MEMORY: the handle is as it was.
+ */
+uint32_t jd_relay_open(struct jd_relay *relay, bool packed, uint8_t output, const struct jd_limits *limits, const struct jd_method *methods, size_t len,
+                       bool only);
+
+/*
+ * Takes the next piece of the stream, all of it, and lends what goes out: the messages that end in it, each whole. All but calls go.
+ *   JD_FORBIDDEN; F1, F2, F4, F6, G1 to G9, S1 to S3, B1 to B4: what came before this message goes out, and the relay has stopped. Each
+ *   later call answers this fault. `at` says how many bytes of the stream went through, and `spot` what is to blame.
+ */
+uint32_t jd_relay_feed(struct jd_relay *relay, const uint8_t *piece, size_t len, struct jd_bytes *bytes, uint64_t *at, struct jd_spot *spot);
+
+/* Ends the stream. JD_TRUNCATED: it ended inside a frame. */
+uint32_t jd_relay_end(struct jd_relay *relay, uint64_t *at, struct jd_spot *spot);
+
+/* Lets go of the relay, if there is one. */
+void jd_relay_close(struct jd_relay *relay);
 
 /* ---- Whole buffers ---- */
 

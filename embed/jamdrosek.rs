@@ -2,6 +2,8 @@
 //! next call, as the borrow checker sees it.
 //!
 //! The reader is neither `Send` nor `Sync`, since its handle holds a pointer: so it stays on its thread.
+pub mod connection;
+
 use std::ffi::{c_char, c_void};
 use std::fmt;
 

@@ -17,5 +17,25 @@ int main(void) {
     wrong += SAME(jd_reader_write(&closed, false, &bytes), JD_CLOSED) + SAME(bytes.len, 0);
     wrong += SAME(jd_reader_end(&closed), JD_CLOSED) + SAME(jd_reader_needs(&closed), 0);
     jd_reader_close(&closed);
+
+    struct jd_connection none = {0};
+    struct jd_event event = {1, 1, {true, 1}, 1, 1, 1, 1, 1, 1, 1};
+    struct jd_cap cap = {1, 1, 1, {1}};
+    uint32_t number = 1;
+    uint64_t at = 1;
+    size_t taken = 1;
+    wrong += SAME(sizeof none, 16) + SAME(sizeof event, 56) + SAME(sizeof cap, 48) + SAME(sizeof(struct jd_origin), 8) + SAME(sizeof(struct jd_method), 16);
+    wrong += SAME(jd_connection_receive(&none, (const uint8_t *)"x", 1, &taken), JD_CLOSED) + SAME(taken, 0);
+    wrong += SAME(jd_connection_next(&none, &event), JD_CLOSED) + SAME(event.kind, 0) + SAME(event.caps, 0) + SAME(event.origin.is_own, false);
+    wrong += SAME(jd_connection_bootstrap(&none, &number), JD_CLOSED) + SAME(number, 0) + SAME(jd_connection_cap(&none, 0, &cap), JD_CLOSED) + SAME(cap.path[0], 0);
+    wrong += SAME(jd_connection_outgoing(&none, &bytes), JD_CLOSED) + SAME(bytes.len, 0) + SAME(jd_connection_fault(&none, &at, &spot), JD_CLOSED) + SAME(at, 0);
+    bool uses = true;
+    wrong += SAME(jd_connection_uses(&none, 0, &uses), JD_CLOSED) + SAME(uses, false);
+    jd_connection_close(&none);
+
+    struct jd_relay shut = {0};
+    wrong += SAME(sizeof shut, 16) + SAME(jd_relay_feed(&shut, (const uint8_t *)"x", 1, &bytes, &at, &spot), JD_CLOSED) + SAME(bytes.len, 0);
+    wrong += SAME(jd_relay_end(&shut, &at, &spot), JD_CLOSED) + SAME(at, 0);
+    jd_relay_close(&shut);
     return wrong != 0;
 }

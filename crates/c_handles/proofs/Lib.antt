@@ -2,3 +2,4 @@ pub mod ReaderHandles
 pub mod Values
 pub mod Reading
 pub mod Counting
+pub mod RelayHandles

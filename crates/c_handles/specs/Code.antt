@@ -13,6 +13,8 @@ use Rattle.cp_tree.specs.declared.fault.WriteFault.{WriteFault}
 use Rattle.cp_tree.specs.declared.fault.WriteFault.TheVariants as writes
 use Rattle.cp_stream.specs.declared.fault.Refusal.{Refusal}
 use Rattle.cp_stream.specs.declared.fault.Refusal.TheVariants as refusals
+use Rattle.cp_vat_machine.specs.declared.fault.VatFault.{VatFault}
+use Rattle.cp_vat_machine.specs.declared.fault.VatFault.TheVariants as vats
 use Rattle.c_handles.specs.declared.code.CallFault.{CallFault}
 use Rattle.c_handles.specs.declared.code.CallFault.TheVariants as faults
 use Rattle.c_handles.specs.declared.code.Spot.{Spot}
@@ -52,6 +54,20 @@ write_code writes.TooCostly = 402
 write_code writes.OutOfMemory = 403
 write_code writes.TooManyWords = 404
 
+-- V1 to V11
+abbrev pub vat_code : VatFault → ℕ
+vat_code vats.UnknownQuestion = 501
+vat_code vats.UnknownPromise = 502
+vat_code vats.AlreadyResolved = 503
+vat_code vats.PromiseCycle = 504
+vat_code vats.Unsettled = 505
+vat_code vats.InUse = 506
+vat_code vats.TooLarge = 507
+vat_code vats.Full = 508
+vat_code vats.Closed = 509
+vat_code vats.OutOfMemory = 510
+vat_code vats.UnknownImport = 511
+
 abbrev pub refusal_code : Refusal → ℕ
 refusal_code (refusals.Frame fault) = frame_code fault
 refusal_code (refusals.Tree fault) = tree_code fault
@@ -63,7 +79,12 @@ abbrev pub code_of : CallFault → ℕ
 code_of faults.Closed = 1
 code_of faults.Limits = 2
 code_of faults.NoFrame = 3
+code_of faults.Argument = 4
+code_of faults.NoContent = 5
+code_of faults.Ended = 6
+code_of faults.Forbidden = 7
 code_of (faults.Refused refusal) = refusal_code refusal
+code_of (faults.Vat fault) = vat_code fault
 
 -- no word and no field
 abbrev pub nowhere : Spot

@@ -6,3 +6,5 @@ pub mod Check
 pub mod Kept
 pub mod Reader
 pub mod ReaderOwned
+pub mod Rules
+pub mod RelayOwned

@@ -4,13 +4,14 @@ ghost use Rattle.std.specs.Prelude.{◌≡◌};
 ghost use Rattle.cp_frame.specs.declared.fault.FrameFault.TheVariants as frames;
 ghost use Rattle.cp_stream.specs.declared.fault.Refusal.TheVariants as refusals;
 ghost use Rattle.c_handles.specs.declared.code.CallFault.TheVariants.{Refused};
-ghost use Rattle.c_handles.specs.Code.{code_of, frame_code, tree_code, schema_code, write_code, refusal_code, spot_of, tree_spot, schema_spot, nowhere, at_place, in_field, field_number};
+ghost use Rattle.c_handles.specs.Code.{code_of, frame_code, tree_code, schema_code, write_code, vat_code, refusal_code, spot_of, tree_spot, schema_spot, nowhere, at_place, in_field, field_number};
 
 use cp_frame::FrameFault;
 use cp_reading::TreeFault;
 use cp_rpc::{Field, SchemaFault};
 use cp_stream::Refusal;
 use cp_tree::WriteFault;
+use cp_vat_machine::VatFault;
 use cp_words::Place;
 use std::alloc::AllocError;
 use std::error::Error;
@@ -25,8 +26,18 @@ pub enum CallFault {
     Limits,
     /// No frame has come since the last call that takes bytes.
     NoFrame,
+    /// A kind, a path or a text that the call was given is none, or bytes follow its frame.
+    Argument,
+    /// The event has no such part.
+    NoContent,
+    /// The connection is closed.
+    Ended,
+    /// A rule of the relay forbids a message.
+    Forbidden,
     /// F1 to F6, G1 to G10, S1 to S3, B1 to B4.
     Refused(Refusal),
+    /// V1 to V11.
+    Vat(VatFault),
 }
 
 /// Which pointer word of a frame is to blame (G1 to G9), or which field of rpc.capnp (S1, S2), from 1 on. Else all are 0.
@@ -46,7 +57,7 @@ pub const NOWHERE: Spot = Spot {
 };
 
 impl CallFault {
-    /// Its number for C, from 1 on: 100 and n for Fn, 200 and n for Gn, 300 and n for Sn, 400 and n for Bn.
+    /// Its number for C, from 1 on: 100 and n for Fn, 200 and n for Gn, 300 and n for Sn, 400 and n for Bn, 500 and n for Vn.
     pub fn code(self) -> u32
         ensures { result ≡ code_of self }
     {
@@ -54,7 +65,12 @@ impl CallFault {
             CallFault::Closed => 1,
             CallFault::Limits => 2,
             CallFault::NoFrame => 3,
+            CallFault::Argument => 4,
+            CallFault::NoContent => 5,
+            CallFault::Ended => 6,
+            CallFault::Forbidden => 7,
             CallFault::Refused(refusal) => refusal_code(refusal),
+            CallFault::Vat(fault) => vat_code(fault),
         }
     }
 
@@ -77,7 +93,12 @@ impl fmt::Display for CallFault {
             CallFault::Closed => f.write_str("the handle is closed"),
             CallFault::Limits => f.write_str("a limit is out of its range"),
             CallFault::NoFrame => f.write_str("no frame has come"),
+            CallFault::Argument => f.write_str("an argument is out of its range"),
+            CallFault::NoContent => f.write_str("the event has no such part"),
+            CallFault::Ended => f.write_str("the connection is closed"),
+            CallFault::Forbidden => f.write_str("a rule forbids the message"),
             CallFault::Refused(refusal) => refusal.fmt(f),
+            CallFault::Vat(fault) => fault.fmt(f),
         }
     }
 }
@@ -188,6 +209,25 @@ fn write_code(fault: WriteFault) -> u32
         WriteFault::TooCostly => 402,
         WriteFault::OutOfMemory => 403,
         WriteFault::TooManyWords => 404,
+    }
+}
+
+/// V1 to V11.
+fn vat_code(fault: VatFault) -> u32
+    ensures { result ≡ vat_code fault }
+{
+    match fault {
+        VatFault::UnknownQuestion => 501,
+        VatFault::UnknownPromise => 502,
+        VatFault::AlreadyResolved => 503,
+        VatFault::PromiseCycle => 504,
+        VatFault::Unsettled => 505,
+        VatFault::InUse => 506,
+        VatFault::TooLarge => 507,
+        VatFault::Full => 508,
+        VatFault::Closed => 509,
+        VatFault::OutOfMemory => 510,
+        VatFault::UnknownImport => 511,
     }
 }
 

@@ -6,6 +6,7 @@ use cp_reading::TreeFault;
 use cp_rpc::{Field, SchemaFault};
 use cp_stream::Refusal;
 use cp_tree::WriteFault;
+use cp_vat_machine::VatFault;
 use cp_words::Place;
 
 impl CallFault {
@@ -15,10 +16,15 @@ impl CallFault {
             1 => CallFault::Closed,
             2 => CallFault::Limits,
             3 => CallFault::NoFrame,
+            4 => CallFault::Argument,
+            5 => CallFault::NoContent,
+            6 => CallFault::Ended,
+            7 => CallFault::Forbidden,
             101..=106 => CallFault::Refused(Refusal::Frame(frame_fault(code)?)),
             201..=210 => CallFault::Refused(Refusal::Tree(tree_fault(code, spot)?)),
             301..=303 => CallFault::Refused(Refusal::Schema(schema_fault(code, spot)?)),
             401..=404 => CallFault::Refused(Refusal::Write(write_fault(code)?)),
+            501..=511 => CallFault::Vat(vat_fault(code)?),
             _ => return None,
         })
     }
@@ -75,6 +81,24 @@ fn write_fault(code: u32) -> Option<WriteFault> {
         402 => WriteFault::TooCostly,
         403 => WriteFault::OutOfMemory,
         404 => WriteFault::TooManyWords,
+        _ => return None,
+    })
+}
+
+/// V1 to V11.
+fn vat_fault(code: u32) -> Option<VatFault> {
+    Some(match code {
+        501 => VatFault::UnknownQuestion,
+        502 => VatFault::UnknownPromise,
+        503 => VatFault::AlreadyResolved,
+        504 => VatFault::PromiseCycle,
+        505 => VatFault::Unsettled,
+        506 => VatFault::InUse,
+        507 => VatFault::TooLarge,
+        508 => VatFault::Full,
+        509 => VatFault::Closed,
+        510 => VatFault::OutOfMemory,
+        511 => VatFault::UnknownImport,
         _ => return None,
     })
 }

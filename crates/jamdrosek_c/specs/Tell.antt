@@ -33,6 +33,11 @@ pub record Tells (done : Result (Unit {0}) CallFault) (spot : Spot) (code : ℕ)
   pub code_is : code ≡ done_code done
   pub spot_is : spot ≡ done_spot done
 
+-- a number, or 0 and the fault's number
+abbrev pub TellsNumber : Result ℕ CallFault → ℕ → ℕ → Type 0
+TellsNumber (Ok number) out code = (out ≡ number) × (code ≡ 0)
+TellsNumber (Err fault) out code = (out ≡ 0) × (code ≡ code_of fault)
+
 -- the numbers of a message; or none, the fault's number, and what is to blame
 abbrev pub TellsNumbers : Result MessageNumbers CallFault → MessageNumbers → Spot → ℕ → Type 0
 TellsNumbers (Ok numbers) message spot code = (message ≡ numbers) × (spot ≡ nowhere) × (code ≡ 0)

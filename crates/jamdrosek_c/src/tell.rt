@@ -2,8 +2,10 @@
 
 ghost use Rattle.std.specs.Prelude.{◌≡◌};
 ghost use Rattle.jamdrosek_c.specs.Reader.{mode_of};
-ghost use Rattle.jamdrosek_c.specs.Tell.{Tells, TellsStep, TellsNumbers, end_code, done_code};
+ghost use Rattle.jamdrosek_c.specs.Connection.{TellsCap};
+ghost use Rattle.jamdrosek_c.specs.Tell.{Tells, TellsStep, TellsNumber, TellsNumbers, end_code, done_code};
 
+use c_connections::CapNumbers;
 use c_handles::{CallFault, MessageNumbers, NOWHERE, Spot};
 use cp_frame::{FrameFault, Mode};
 
@@ -118,6 +120,54 @@ pub(crate) fn tell_numbers(
         Err(fault) => {
             *message = NO_NUMBERS;
             *spot = fault.spot();
+            fault.code()
+        }
+    }
+}
+
+/// A number of bytes, or the fault.
+pub(crate) fn tell_count(count: Result<usize, CallFault>, out: &mut usize) -> u32
+    ensures { TellsNumber count out.new result }
+{
+    match count {
+        Ok(count) => {
+            *out = count;
+            DONE
+        }
+        Err(fault) => {
+            *out = 0;
+            fault.code()
+        }
+    }
+}
+
+/// A question or a promise, or the fault.
+pub(crate) fn tell_number(number: Result<u32, CallFault>, out: &mut u32) -> u32
+    ensures { TellsNumber number out.new result }
+{
+    match number {
+        Ok(number) => {
+            *out = number;
+            DONE
+        }
+        Err(fault) => {
+            *out = 0;
+            fault.code()
+        }
+    }
+}
+
+/// A capability, or the fault.
+pub(crate) fn tell_cap(numbers: Result<CapNumbers, CallFault>, cap: &mut CapNumbers) -> u32
+    ensures { TellsCap numbers cap.new result }
+{
+    match numbers {
+        Ok(numbers) => {
+            *cap = numbers;
+            DONE
+        }
+        Err(fault) => {
+            *cap = CapNumbers::NONE;
             fault.code()
         }
     }

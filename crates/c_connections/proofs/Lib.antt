@@ -1,0 +1,3 @@
+pub mod ConnectionHandles
+pub mod Naming
+pub mod Framing
