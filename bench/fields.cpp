@@ -1,7 +1,7 @@
 // Generated code beside the reference library's: fields [PEOPLE]. Both read the same address book in one process: of each person two texts, a
 // list of phones, and of the phone a text and an enum.
 #include "addressbook.capnp.h"
-#include "bench_c.h"
+#include "cp_probes.h"
 #include <algorithm>
 #include <capnp/serialize.h>
 #include <chrono>

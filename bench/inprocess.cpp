@@ -1,5 +1,6 @@
 // Our library beside the reference library in one process: inprocess FOLDER [MEGABYTES]. The inputs are generate's.
-#include "bench_c.h"
+#include "../embed/jamdrosek.h"
+#include "cp_probes.h"
 #include "owned.hpp"
 #include "whole.hpp"
 #include <algorithm>
@@ -162,11 +163,13 @@ int main(int argc, char** argv) {
       capnp::_::PackedOutputStream(out).write(bytes.data(), bytes.size());
       return out.size();
     };
-    size_t length = pack();
-    expect(cpb_pack(words, back.size(), room.data(), room.size()) == length && !memcmp(room.data(), packed.data(), length), "pack", name);
-    expect(cpb_unpack(packed.data(), length, back.size(), back.data(), back.size()) == back.size() && !memcmp(back.data(), words, bytes.size()), "unpack", name);
-    row("pack", name, bytes.size(), [&] { return cpb_pack(words, back.size(), room.data(), 0); }, pack);
-    row("unpack", name, bytes.size(), [&] { return cpb_unpack(packed.data(), length, back.size(), back.data(), 0); }, [&] {
+    size_t length = pack(), count = 0;
+    auto ours_packs = [&] { return jd_pack(words, back.size(), room.data(), room.size(), &count), count; };
+    auto ours_unpacks = [&] { return jd_unpack(packed.data(), length, back.data(), back.size(), &count), count; };
+    expect(ours_packs() == length && !memcmp(room.data(), packed.data(), length), "pack", name);
+    expect(ours_unpacks() == back.size() && !memcmp(back.data(), words, bytes.size()), "unpack", name);
+    row("pack", name, bytes.size(), ours_packs, pack);
+    row("unpack", name, bytes.size(), ours_unpacks, [&] {
       kj::ArrayInputStream in(kj::arrayPtr(packed.data(), length));
       return capnp::_::PackedInputStream(in).tryRead(back.data(), bytes.size(), bytes.size());
     });

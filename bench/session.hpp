@@ -1,6 +1,6 @@
 // What a peer sends to the server of cpb_serve: a Script, a Cell and a Desk, objects 0 to 2.
 #pragma once
-#include "bench_c.h"
+#include "cp_probes.h"
 #include <capnp/message.h>
 #include <capnp/rpc.capnp.h>
 #include <capnp/serialize.h>

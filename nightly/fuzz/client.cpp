@@ -1,4 +1,4 @@
-// A client in memory and peers that aren't trusted, over the static library bench_c.
+// A client in memory and peers that aren't trusted, over the static library cp_probes.
 // Usage: client SEED INPUTS
 //
 // A conversation is a script of calls, some on what another will give, and what the peer sends: mostly answers that fit what the client

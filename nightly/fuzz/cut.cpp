@@ -1,4 +1,4 @@
-// Sessions of a peer that isn't trusted, served in memory over the static library bench_c, and cut at each byte.
+// Sessions of a peer that isn't trusted, served in memory over the static library cp_probes, and cut at each byte.
 // Usage: cut SEED INPUTS
 //
 // A session is made as for `served`, of 12 messages at most; one of four then has frames dropped, repeated or swapped, and each is

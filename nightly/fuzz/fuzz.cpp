@@ -1,10 +1,11 @@
-// Reading, writing and unpacking of bytes that nobody vouches for, over the static library bench_c.
+// Reading, writing and unpacking of bytes that nobody vouches for, over the static library cp_probes.
 //
 // An input is one byte and the rest. The byte says of what form the rest is (plain frames, packed ones, or words), within
 // which limits it is read, and in segments of how many words it is written again. Besides cutting and joining, as
 // libFuzzer does, inputs are changed by words: a pointer's offset, size or kind, a table's number, a bit. Packed inputs
 // are unpacked for that and packed again, so that the change arrives at the reader.
-#include "../../bench/bench_c.h"
+#include "../../bench/cp_probes.h"
+#include "../../embed/jamdrosek.h"
 #include <chrono>
 #include <cstddef>
 #include <cstdint>
@@ -73,15 +74,28 @@ uint64_t compare(uint64_t views, uint64_t trees) {
   return trees;
 }
 
+// The number of words that packed bytes give, or 0 where they don't unpack into so many at most.
+size_t unpacked(const uint8_t* bytes, size_t length, uint64_t* words, size_t room) {
+  size_t count;
+  jd_unpack(bytes, length, words, room, &count);
+  return count;
+}
+
+size_t packed_size(const uint64_t* words, size_t count, std::vector<uint8_t>& out) {
+  size_t size;
+  jd_pack(words, count, out.data(), out.size(), &size);
+  return size;
+}
+
 uint64_t unpack(const uint8_t* bytes, size_t length) {
   static std::vector<uint64_t> words(LIMIT);
   static std::vector<uint8_t> packed(16 * LIMIT);
-  size_t count = cpb_unpack(bytes, length, LIMIT, words.data(), LIMIT);
+  size_t count = unpacked(bytes, length, words.data(), LIMIT);
   if (count > LIMIT) fail("unpacked past the limit");
-  size_t size = cpb_pack(words.data(), count, packed.data(), packed.size());
+  size_t size = packed_size(words.data(), count, packed);
   if (size > packed.size()) fail("packed too long");
   static std::vector<uint64_t> again(LIMIT);
-  if (cpb_unpack(packed.data(), size, LIMIT, again.data(), LIMIT) != count) fail("packed and unpacked, so many words more or less");
+  if (unpacked(packed.data(), size, again.data(), LIMIT) != count) fail("packed and unpacked, so many words more or less");
   if (std::memcmp(words.data(), again.data(), 8 * count) != 0) fail("packed and unpacked, other words");
   return count;
 }
@@ -90,9 +104,9 @@ uint64_t pack(const uint8_t* bytes, size_t length) {
   static std::vector<uint8_t> packed(16 * LIMIT);
   std::vector<uint64_t> words(length / 8), again(length / 8 + 1);
   if (!words.empty()) std::memcpy(words.data(), bytes, 8 * words.size());
-  size_t size = cpb_pack(words.data(), words.size(), packed.data(), packed.size());
+  size_t size = packed_size(words.data(), words.size(), packed);
   if (size > packed.size()) fail("packed too long");
-  if (cpb_unpack(packed.data(), size, words.size(), again.data(), again.size()) != words.size()) fail("packed and unpacked, so many words more or less");
+  if (unpacked(packed.data(), size, again.data(), words.size()) != words.size()) fail("packed and unpacked, so many words more or less");
   if (!words.empty() && std::memcmp(words.data(), again.data(), 8 * words.size()) != 0) fail("packed and unpacked, other words");
   return size;
 }
@@ -149,7 +163,7 @@ extern "C" size_t LLVMFuzzerCustomMutator(uint8_t* data, size_t size, size_t max
   bool packed = data[0] % Forms == Packed;
   static std::vector<uint64_t> words(LIMIT);
   size_t count = (size - 1) / 8;
-  if (packed) count = cpb_unpack(data + 1, size - 1, LIMIT, words.data(), LIMIT);
+  if (packed) count = unpacked(data + 1, size - 1, words.data(), LIMIT);
   else std::memcpy(words.data(), data + 1, 8 * count);
   if (count == 0) return LLVMFuzzerMutate(data, size, max_size);
   for (unsigned i = 0, turns = 1 + seed / 4 % 3; i < turns; i++) {
@@ -170,7 +184,7 @@ extern "C" size_t LLVMFuzzerCustomMutator(uint8_t* data, size_t size, size_t max
     return length + 1;
   }
   static std::vector<uint8_t> out(16 * LIMIT);
-  size_t length = cpb_pack(words.data(), count, out.data(), out.size());
+  size_t length = packed_size(words.data(), count, out);
   if (length == 0 || length + 1 > max_size) return LLVMFuzzerMutate(data, size, max_size);
   std::memcpy(data + 1, out.data(), length);
   data[0] = first;

@@ -1,11 +1,11 @@
-// Streams through one direction of a relay in memory, over the static library bench_c.
+// Streams through one direction of a relay in memory, over the static library cp_probes.
 // Usage: passed SEED INPUTS
 //
 // A stream is a row of random messages, and one of two has changed bytes. One of eight is cut at each byte in turn, the others at some,
 // plain and packed: what goes out, as it was read or written anew, and the fault that ends it, must be the same each time. What goes out
 // as it was read are the first bytes of the stream, whole messages; the bytes after them hold none. What is written anew are as many
 // messages, or fewer where one can't be written. An input is a stream with its own cut.
-#include "../../bench/bench_c.h"
+#include "../../bench/cp_probes.h"
 #include "answers.hpp"
 #include "cuts.hpp"
 

@@ -1,6 +1,6 @@
-// Conversations of a client in memory, over the static library bench_c: a script of its calls, and what its peer sends.
+// Conversations of a client in memory, over the static library cp_probes: a script of its calls, and what its peer sends.
 #pragma once
-#include "../../bench/bench_c.h"
+#include "../../bench/cp_probes.h"
 #include "answers.hpp"
 #include "cuts.hpp"
 #include <sstream>

@@ -1,6 +1,6 @@
-// Sessions that are served in memory, over the static library bench_c.
+// Sessions that are served in memory, over the static library cp_probes.
 #pragma once
-#include "../../bench/bench_c.h"
+#include "../../bench/cp_probes.h"
 #include "cuts.hpp"
 
 enum How : uint8_t { ENDED, CLOSED, REFUSED, DEVICE, OUT_OF_MEMORY };

@@ -1,4 +1,4 @@
-// Sessions of a peer that isn't trusted, served in memory over the static library bench_c.
+// Sessions of a peer that isn't trusted, served in memory over the static library cp_probes.
 // Usage: served SEED EVENTS
 //
 // A session is a row of random messages. It is made while it is played, so that its numbers mostly fit what came back; one of four

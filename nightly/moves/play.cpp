@@ -3,7 +3,7 @@
 // play: two vats do what the lines of the input tell. `A EVENT` and `B EVENT` are done; `A? EVENT` and `B? EVENT` are tried on a copy, which is
 // dropped; `new` begins anew, with bootstrap object 0 at each end. Each is done twice, with messages taken in as values, and read in place. After
 // the lines of what a line gave comes a line with a point, and before it, where the second gave something else, `= in place` and that.
-#include "../../bench/bench_c.h"
+#include "../../bench/cp_probes.h"
 #include <fstream>
 #include <iostream>
 #include <iterator>

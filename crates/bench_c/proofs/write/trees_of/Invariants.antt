@@ -1,5 +1,0 @@
-use Rattle.bench_c.specs.Kept.{AreFirstTrees}
-use Rattle.bench_c.proofs.write.trees_of.Given as goal
-
-abbrev pub invariant-loop-frame : goal.invariant-loop-frame
-invariant-loop-frame l = AreFirstTrees l.limits l.frames l.frame-index l.trees.items

@@ -1,5 +1,0 @@
-use Rattle.bench_c.specs.Kept.{AreFirstWritten}
-use Rattle.bench_c.proofs.write.write_all.Given as goal
-
-abbrev pub invariant-loop-tree : goal.invariant-loop-tree
-invariant-loop-tree l = AreFirstWritten l.words l.limits l.trees l.tree-index l.out.items
