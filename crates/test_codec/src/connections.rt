@@ -56,7 +56,7 @@ const BOOTSTRAP: [u64; 6] = [
 ];
 
 /// A call on what the bootstrap gives, question 1.
-const FIRST_CALL: [u64; 16] = [
+pub(crate) const FIRST_CALL: [u64; 16] = [
     0x000000000f000000,
     0x0000000001000100,
     0x0200000000000000,
@@ -76,7 +76,7 @@ const FIRST_CALL: [u64; 16] = [
 ];
 
 /// A call on what pointer 0 of its answer gives, question 2, with the number 5.
-const SECOND_CALL: [u64; 19] = [
+pub(crate) const SECOND_CALL: [u64; 19] = [
     0x0000000012000000,
     0x0000000001000100,
     0x0200000000000000,
@@ -108,7 +108,7 @@ const FRAMES: &[&[u64]] = &[
 ];
 
 /// The words' bytes.
-fn bytes_of(rt: &impl Abort, alloc: Global, words: &[u64]) -> Vec<u8> {
+pub(crate) fn bytes_of(rt: &impl Abort, alloc: Global, words: &[u64]) -> Vec<u8> {
     let mut bytes = Vec::new(alloc);
     for word in words {
         bytes

@@ -4,7 +4,9 @@ use cp_frame::FrameFault;
 use cp_reading::TreeFault;
 use cp_rpc::{Field, SchemaFault};
 use cp_stream::{DeviceError, Refusal, StreamFault};
+use cp_tables::TableFault;
 use cp_tree::WriteFault;
+use cp_vat_machine::{PeerFault, VatFault};
 use cp_words::{BadCapability, Place};
 use std::alloc::Global;
 use std::fmt::Display;
@@ -17,7 +19,15 @@ fn expect_texts<F: Display>(rt: &impl Abort, alloc: Global, rows: &[(F, &str)]) 
         let fault = &row.0;
         let text = format!(in alloc; "{fault}").expect(rt, "memory");
         check!(rt; text.as_str() == row.1);
+        drop(text);
     }
+}
+
+/// The longer form of a fault's text.
+fn expect_long<F: Display>(rt: &impl Abort, alloc: Global, fault: &F, wanted: &str) {
+    let text = format!(in alloc; "{fault:#}").expect(rt, "memory");
+    check!(rt; text.as_str() == wanted);
+    drop(text);
 }
 
 #[test]
@@ -31,11 +41,18 @@ fn texts(rt: HostRuntime) {
         "a capability word with one of bits 2 to 31 set",
     )];
     expect_texts(&rt, rt.alloc(), &word);
-    let long = format!(in rt.alloc(); "{DEEP:#}").expect(&rt, "memory");
     let wanted =
         "refused at byte 8: G8 NestingLimit segment 2 word 30: structs and lists nest deeper than the limit, 64 levels by the standard limits";
-    check!(&rt; long.as_str() == wanted);
-    drop(long);
+    expect_long(&rt, rt.alloc(), &DEEP, wanted);
+}
+
+#[test]
+fn texts_of_vats(rt: HostRuntime) {
+    expect_texts(&rt, rt.alloc(), OF_TABLES);
+    expect_texts(&rt, rt.alloc(), OF_VATS);
+    expect_texts(&rt, rt.alloc(), OF_PEERS);
+    let wanted = "V6 InUse: the question, import or promise is in use";
+    expect_long(&rt, rt.alloc(), &VatFault::InUse, wanted);
 }
 
 const AT: Place = Place {
@@ -146,4 +163,31 @@ const OF_STREAMS: &[(StreamFault, &str)] = &[
         }),
         "device failed: broken pipe",
     ),
+];
+
+const OF_TABLES: &[(TableFault, &str)] = &[
+    (TableFault::Taken, "number or note taken"),
+    (TableFault::Unknown, "unknown number"),
+    (TableFault::TooMany, "lowered past the count"),
+    (TableFault::Full, "table or count full"),
+    (TableFault::OutOfMemory, "out of memory"),
+];
+
+const OF_VATS: &[(VatFault, &str)] = &[
+    (VatFault::UnknownQuestion, "V1 UnknownQuestion"),
+    (VatFault::UnknownPromise, "V2 UnknownPromise"),
+    (VatFault::AlreadyResolved, "V3 AlreadyResolved"),
+    (VatFault::PromiseCycle, "V4 PromiseCycle"),
+    (VatFault::Unsettled, "V5 Unsettled"),
+    (VatFault::InUse, "V6 InUse"),
+    (VatFault::TooLarge, "V7 TooLarge"),
+    (VatFault::Full, "V8 Full"),
+    (VatFault::Closed, "V9 Closed"),
+    (VatFault::OutOfMemory, "V10 OutOfMemory"),
+    (VatFault::UnknownImport, "V11 UnknownImport"),
+];
+
+const OF_PEERS: &[(PeerFault, &str)] = &[
+    (PeerFault::QuestionInUse, "P1 question in use"),
+    (PeerFault::PeerLacksLevelOne, "P12 peer lacks level 1"),
 ];

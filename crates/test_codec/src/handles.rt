@@ -1,10 +1,15 @@
 //! What stands behind the handles of C: a reader of a stream, the check of a whole one, and faults as numbers.
 
 use crate::checks::{expect_bytes, expect_number};
+use crate::connections::{FIRST_CALL, SECOND_CALL, bytes_of};
 use crate::samples::{FINISH, KEEPING, PACKED, SHORT_ROOT, TWO_SEGMENTS, joined};
-use c_handles::{CallFault, MessageNumbers, NOWHERE, ReaderState, Spot, Verdict, check_all};
+use c_handles::{
+    CallFault, MessageNumbers, MethodNumbers, MethodRules, NOWHERE, ReaderState, RelayState, Spot,
+    Verdict, check_all,
+};
 use cp_frame::{FrameFault, Mode};
 use cp_reading::TreeFault;
+use cp_relay::{Output, RelayFault, Why};
 use cp_rpc::{Field, SchemaFault};
 use cp_stream::Refusal;
 use cp_tree::WriteFault;
@@ -28,6 +33,10 @@ const NUMBERS: &[(CallFault, u32, (usize, usize, u32))] = &[
     (CallFault::Closed, 1, (0, 0, 0)),
     (CallFault::Limits, 2, (0, 0, 0)),
     (CallFault::NoFrame, 3, (0, 0, 0)),
+    (CallFault::Argument, 4, (0, 0, 0)),
+    (CallFault::NoContent, 5, (0, 0, 0)),
+    (CallFault::Ended, 6, (0, 0, 0)),
+    (CallFault::Forbidden, 7, (0, 0, 0)),
     (
         CallFault::Refused(Refusal::Frame(FrameFault::TooManySegments)),
         101,
@@ -210,4 +219,41 @@ fn whole_streams(rt: HostRuntime) {
         40,
         Some(OUT_OF_BOUNDS),
     );
+}
+
+/// The rules that allow the method of the first call alone.
+fn rules_of(rt: &impl Abort, alloc: Global) -> MethodRules {
+    let first = MethodNumbers {
+        interface: 0xe5a1_0000_0000_0001,
+        method: 1,
+    };
+    let methods = Vec::from_slice(alloc, &[first]).expect(rt, "memory");
+    MethodRules {
+        methods,
+        only: true,
+    }
+}
+
+#[test]
+fn a_relay_stops_at_a_forbidden_call(rt: HostRuntime) {
+    let alloc = rt.alloc();
+    let (first, second) = (
+        bytes_of(&rt, alloc, &FIRST_CALL),
+        bytes_of(&rt, alloc, &SECOND_CALL),
+    );
+    let stream = joined(&rt, alloc, &[&FINISH, &first, &second]);
+    let (limits, rules) = (Limits::standard(), rules_of(&rt, alloc));
+    let mut relay = RelayState::new(alloc, Mode::Plain, Output::AsRead, limits, rules);
+    check!(&rt; relay.feed(stream.get(..50).unwrap_or(&[])) == Ok(()));
+    expect_bytes(&rt, &relay.lent, &FINISH);
+    let forbidden = Err(RelayFault {
+        at: 168,
+        why: Why::Forbidden,
+    });
+    check!(&rt; relay.feed(stream.get(50..).unwrap_or(&[])) == forbidden);
+    expect_bytes(&rt, &relay.lent, &first);
+    check!(&rt; relay.end() == forbidden);
+    drop(relay);
+    drop(second);
+    drop(first);
 }

@@ -1,5 +1,5 @@
 //! Tests of the codec, over its libraries: cp_words, cp_tree, cp_reading, cp_writing, cp_packed, cp_frame, cp_fields, cp_builder, cp_rpc,
-//! cp_stream and cp_relay. They are one crate, since what std and these libraries say is read anew for each. What holds a message, a
+//! cp_stream and cp_relay, and of cp_tables, cp_refs and cp_vat_machine. They are one crate, since what std and these libraries say is read anew for each. What holds a message, a
 //! tree or a reader lets it go by `drop`: where one goes at the end of its scope, each function proves anew what that does.
 #![tactic(auto)]
 
@@ -46,6 +46,8 @@ mod message_samples;
 #[cfg(test)]
 mod messages;
 #[cfg(test)]
+mod outcomes;
+#[cfg(test)]
 mod packed;
 #[cfg(test)]
 mod parts;
@@ -55,6 +57,8 @@ mod relays;
 mod samples;
 #[cfg(test)]
 mod streams;
+#[cfg(test)]
+mod tables;
 #[cfg(test)]
 mod trees;
 #[cfg(test)]

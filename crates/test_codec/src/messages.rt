@@ -3,7 +3,7 @@
 
 use crate::message_samples::ALL_PARTS;
 use cp_fields::Past;
-use cp_rpc::{Message, OtherWhich, SchemaFault, message_of, tree_of};
+use cp_rpc::{Message, OtherWhich, Owned, SchemaFault, Source, message_in, message_of, tree_of};
 use cp_tree::{Object, WriteFault};
 use cp_words::{Limits, Segments};
 use std::alloc::Global;
@@ -47,6 +47,12 @@ fn fault_of(alloc: Global, root: &Object) -> Option<SchemaFault> {
     message_of(alloc, root).err()
 }
 
+/// Whether a root is read where it lies, which takes no memory, and is within the limits, but not within a depth of none.
+fn is_read_in_place(root: &Object) -> bool {
+    let root = Owned::root(root);
+    message_in(&root).is_ok() && root.fits(64, 8_388_608) && !root.fits(0, 8_388_608)
+}
+
 /// Whether a root is read twice, or once that memory ran out.
 fn is_read_again(alloc: Global, root: &Object) -> bool {
     match (fault_of(alloc, root), fault_of(alloc, root)) {
@@ -62,6 +68,7 @@ fn is_read_again(alloc: Global, root: &Object) -> bool {
 fn allocation_failure_while_messages_are_read(rt: HostRuntime) {
     for words in ALL_PARTS {
         let root = root_again(&rt, rt.alloc(), words);
+        check!(&rt; is_read_in_place(&root));
         check!(&rt; is_read_again(rt.alloc(), &root));
         drop(root);
     }

@@ -1,6 +1,6 @@
 //! What stands at a path of an outcome, and of what is kept of it.
 
-use cp_refs::{Cap, Caps, KeptOutcome, Outcome, Path};
+use cp_refs::{Cap, Caps, Gate, KeptOutcome, Origin, Outcome, Path, Request, WaitingCall};
 use cp_rpc::{Exception, ExceptionKind, Text};
 use cp_tree::{Body, Tree, Whole};
 use cp_vat_machine::Ids;
@@ -111,6 +111,49 @@ fn what_failed_gives_its_exception_at_every_path(rt: HostRuntime) {
     let alloc = rt.alloc();
     expect_broken(&rt, alloc, failed(&rt, alloc, "no"), &[3], "no");
     expect_broken(&rt, alloc, Outcome::Canceled, &[0, 1], "canceled");
+}
+
+#[test]
+fn memory_is_counted(rt: HostRuntime) {
+    let alloc = rt.alloc();
+    let outcome = results(&rt, alloc);
+    // Five trees and two capabilities, 96 each.
+    check!(&rt; outcome.memory() == 672);
+    let kept = KeptOutcome::of(alloc, &outcome).expect(&rt, "memory");
+    check!(&rt; kept.memory() == 672);
+    drop(kept);
+    drop(outcome);
+    let outcome = failed(&rt, alloc, "no");
+    check!(&rt; outcome.memory() == 2);
+    drop(outcome);
+    let fields = vec![in alloc; 3, 4].expect(&rt, "memory");
+    let cap = Cap::Pipelined(1, Path::new(fields));
+    check!(&rt; cap.memory() == 100);
+    drop(cap);
+}
+
+/// A call with eight bytes of data that waits for what a question gives at a path of one field.
+fn waiting_call(rt: &impl Abort, alloc: Global) -> WaitingCall {
+    let content = Tree::Bytes(vec![in alloc; 1, 2, 3, 4, 5, 6, 7, 8].expect(rt, "memory"));
+    let fields = vec![in alloc; 3].expect(rt, "memory");
+    WaitingCall {
+        ticket: 0,
+        origin: Origin::Own(0),
+        request: Request {
+            interface: 1,
+            method: 2,
+            content: Whole::new(content).ok().expect(rt, "a whole"),
+            caps: Caps::new(vec![in alloc; Cap::Object(5)].expect(rt, "memory")),
+        },
+        gate: Gate::Question(1, Path::new(fields)),
+    }
+}
+
+#[test]
+fn a_waiting_call_is_counted(rt: HostRuntime) {
+    let call = waiting_call(&rt, rt.alloc());
+    check!(&rt; call.request.memory() == 104 && call.memory() == 298);
+    drop(call);
 }
 
 #[test]
