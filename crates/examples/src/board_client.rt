@@ -29,26 +29,45 @@ pub fn read_and_post<R: Read + Drop, W: Write + Drop>(
     client: &mut Client<R, W, ReaderServant<Lines>>,
 ) -> anyhow::Result<String> {
     let board = BoardClient::new(alloc, client.bootstrap()?.cap(alloc));
+    read(alloc, client, &board)?;
+    let count = post(alloc, client, &board)?;
+    let mut said = format!(in alloc; "note {count} is posted")?;
+    for reader in client.objects() {
+        said.push_str(reader.object.text.as_str())?;
+    }
+    Ok(said)
+}
+
+/// Asks a board to call an object of the client's with each note.
+fn read<R: Read + Drop, W: Write + Drop>(
+    alloc: Global,
+    client: &mut Client<R, W, ReaderServant<Lines>>,
+    board: &BoardClient,
+) -> anyhow::Result<()> {
     let object = Lines {
         alloc,
         text: String::new(alloc),
     };
     let reader = client.export(ReaderServant { alloc, object })?;
     let mut table = Table::new(alloc);
-    let mut read = BoardReadParamsDraft::new(alloc)?;
-    read.set_reader_client(&mut table, ReaderClient::new(alloc, reader))?;
-    board.read(client, read, table)?;
-    let mut post = BoardPostParamsDraft::new(alloc)?;
-    post.set_text(alloc, "hello")?;
-    let posted = board.post(client, post)?;
+    let mut params = BoardReadParamsDraft::new(alloc)?;
+    params.set_reader_client(&mut table, ReaderClient::new(alloc, reader))?;
+    board.read(client, params, table)?;
+    Ok(())
+}
+
+/// Adds a note, and waits for the number of notes.
+fn post<R: Read + Drop, W: Write + Drop>(
+    alloc: Global,
+    client: &mut Client<R, W, ReaderServant<Lines>>,
+    board: &BoardClient,
+) -> anyhow::Result<u32> {
+    let mut params = BoardPostParamsDraft::new(alloc)?;
+    params.set_text(alloc, "hello")?;
+    let posted = board.post(client, params)?;
     let number = posted.question();
     let came = payload_of(client.wait(Question { number })?)?;
-    let count = posted.results(&came)?.count();
-    let mut said = format!(in alloc; "note {count} is posted")?;
-    for reader in client.objects() {
-        said.push_str(reader.object.text.as_str())?;
-    }
-    Ok(said)
+    Ok(posted.results(&came)?.count())
 }
 
 /// The notes with which a reader was called, each on a line.

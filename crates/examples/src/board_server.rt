@@ -2,7 +2,7 @@
 
 use board::{
     BoardPostParamsView, BoardPostResultsDraft, BoardReadParamsView, BoardReadResultsDraft,
-    BoardServant, BoardServer, ReaderNoteParamsDraft,
+    BoardServant, BoardServer, ReaderClient, ReaderNoteParamsDraft,
 };
 use jamdrosek::interfaces::{Answer, MethodCall, MethodFault, ServerObject, failed};
 use jamdrosek::server::Ask;
@@ -28,19 +28,26 @@ pub fn run(rt: &HostRuntime) -> anyhow::Result<()> {
     let notes = Rc::new(alloc, RefCell::new(Vec::new(alloc)))?;
     for _ in 0..u64::MAX {
         match host.next(rt)? {
-            Some(News::Came { .. }) => {
-                let notes = notes.clone()?;
-                let object = Board {
-                    alloc,
-                    notes,
-                    calls: VecDeque::new(alloc),
-                };
-                host.admit(vec![in alloc; BoardServant { alloc, object }]?)?;
-            }
+            Some(News::Came { .. }) => admit(alloc, &mut host, &notes)?,
             Some(_) => {}
             None => break,
         }
     }
+    Ok(())
+}
+
+/// Gives the client that came a board. All boards have the same notes.
+fn admit(
+    alloc: Global,
+    host: &mut Host<BoardServant<Board>>,
+    notes: &Rc<RefCell<Vec<String>>>,
+) -> anyhow::Result<()> {
+    let object = Board {
+        alloc,
+        notes: notes.clone()?,
+        calls: VecDeque::new(alloc),
+    };
+    host.admit(vec![in alloc; BoardServant { alloc, object }]?)?;
     Ok(())
 }
 
@@ -86,12 +93,17 @@ impl BoardServer for Board {
             return Err(MethodFault::from(failed(self.alloc, "the board is in use")?));
         };
         for note in notes.iter() {
-            let mut params = ReaderNoteParamsDraft::new(self.alloc)?;
-            params.set_text(self.alloc, note.as_str())?;
-            self.calls
-                .push_back(reader.target.ask(reader.note_request(params), 0)?)?;
+            let call = call_of(self.alloc, &reader, note.as_str())?;
+            self.calls.push_back(call)?;
         }
         let results = BoardReadResultsDraft::new(self.alloc)?;
         Ok(Answer::of(self.alloc, results).keeping(&reader.target)?)
     }
+}
+
+/// The call by which a reader gets a note.
+fn call_of(alloc: Global, reader: &ReaderClient, note: &str) -> Result<Ask, MethodFault> {
+    let mut params = ReaderNoteParamsDraft::new(alloc)?;
+    params.set_text(alloc, note)?;
+    Ok(reader.target.ask(reader.note_request(params), 0)?)
 }

@@ -27,14 +27,24 @@ fn kept<R: Read + Drop, W: Write + Drop>(
     client: &mut Client<R, W>,
 ) -> anyhow::Result<String> {
     let store = StoreClient::new(alloc, client.bootstrap()?.cap(alloc));
-    let mut put = StorePutParamsDraft::new(alloc)?;
-    put.set_key(alloc, "colour")?;
-    put.set_value(alloc, "blue")?;
-    store.put(client, put)?;
-    let mut get = StoreGetParamsDraft::new(alloc)?;
-    get.set_key(alloc, "colour")?;
-    let got = store.get(client, get)?;
+    store.put(client, blue(alloc)?)?;
+    let got = store.get(client, colour(alloc)?)?;
     let number = got.question();
     let came = payload_of(client.wait(Question { number })?)?;
     Ok(got.results(&came)?.value()?.text(alloc)?)
+}
+
+/// What is put.
+fn blue(alloc: Global) -> anyhow::Result<StorePutParamsDraft> {
+    let mut params = StorePutParamsDraft::new(alloc)?;
+    params.set_key(alloc, "colour")?;
+    params.set_value(alloc, "blue")?;
+    Ok(params)
+}
+
+/// What is asked for.
+fn colour(alloc: Global) -> anyhow::Result<StoreGetParamsDraft> {
+    let mut params = StoreGetParamsDraft::new(alloc)?;
+    params.set_key(alloc, "colour")?;
+    Ok(params)
 }

@@ -21,15 +21,22 @@ fn add(rt: &HostRuntime, client: &mut Connection, server: &mut Connection) -> an
     carry(client, server)?;
     Objects::new(alloc).work_off(server, &mut [Total { alloc, number: 0 }])?;
     carry(server, client)?;
+    println!(rt; "the sum is {}", sum_of(client, asked).unwrap_or(0))?;
+    Ok(())
+}
+
+/// The number that the outcome of a question has, if it came.
+fn sum_of(client: &mut Connection, asked: u32) -> Option<u64> {
+    let mut sum = None;
     for _ in 0..client.held().happenings {
         match client.next() {
             Some(Happening::Settled { question, outcome }) if question == asked => {
-                println!(rt; "the sum is {}", word_at(&outcome, 0).unwrap_or(0))?;
+                sum = word_at(&outcome, 0);
             }
             _ => {}
         }
     }
-    Ok(())
+    sum
 }
 
 /// Carries what one end sends to the other.

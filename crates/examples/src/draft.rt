@@ -32,15 +32,21 @@ fn written(alloc: Global) -> anyhow::Result<Vec<u8>> {
 
 /// A person with a phone, and with what they do.
 fn carol(alloc: Global) -> anyhow::Result<PersonDraft> {
+    let phones = phones(alloc)?;
+    let mut carol = PersonDraft::new(alloc)?;
+    carol.set_phones(phones);
+    carol.set_id(789);
+    carol.set_name(alloc, "Carol")?;
+    carol.set_employment_employer(alloc, "ETH")?;
+    Ok(carol)
+}
+
+/// A list of one phone.
+fn phones(alloc: Global) -> anyhow::Result<PersonPhoneNumberListDraft> {
     let mut phone = PersonPhoneNumberDraft::new(alloc)?;
     phone.set_number(alloc, "555-1414")?;
     phone.set_type(PersonPhoneNumberType::Work);
     let mut phones = PersonPhoneNumberListDraft::new(alloc);
     phones.push(phone)?;
-    let mut carol = PersonDraft::new(alloc)?;
-    carol.set_id(789);
-    carol.set_name(alloc, "Carol")?;
-    carol.set_phones(phones);
-    carol.set_employment_employer(alloc, "ETH")?;
-    Ok(carol)
+    Ok(phones)
 }

@@ -21,15 +21,23 @@ fn add(rt: &HostRuntime, client: &mut Vat, server: &mut Vat) -> anyhow::Result<(
     effects.extend(called.effects.into_effects())?;
     let mut effects = deliver(alloc, effects, server)?;
     answer(alloc, &mut effects, server)?;
-    for effect in deliver(alloc, effects, client)? {
+    let sum = sum_of(deliver(alloc, effects, client)?, called.value);
+    println!(rt; "41 and one is {}", sum.unwrap_or(0))?;
+    Ok(())
+}
+
+/// The number that the outcome of a question has, if it is among these effects.
+fn sum_of(effects: Vec<Effect>, asked: u32) -> Option<u64> {
+    let mut sum = None;
+    for effect in effects {
         match effect {
-            Effect::Settled { question, outcome } if question == called.value => {
-                println!(rt; "41 and one is {}", word_at(&outcome, 0).unwrap_or(0))?;
+            Effect::Settled { question, outcome } if question == asked => {
+                sum = word_at(&outcome, 0);
             }
             _ => {}
         }
     }
-    Ok(())
+    sum
 }
 
 /// Takes the messages among these effects to the other end, and gives its effects.

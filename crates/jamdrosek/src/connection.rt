@@ -7,7 +7,7 @@
 //! them. `work_off` does so for whatever else happened, and `round` polls the objects. A `Notice` is what is left for you.
 //! `receive_lending` and `reuse` are for programs that lend calls themselves (`Lent`).
 
-pub use cp_connection::{Connection, ConnectionFault, Happening, Held, Tally};
+pub use cp_connection::{Connection, ConnectionFault, Excess, Happening, Held, Tally};
 pub use cp_objects::{Notice, Objects};
 pub use cp_servants::any_again;
 pub use cp_vat::Lent;

@@ -80,6 +80,7 @@
 //!
 //! ```rust crates/examples/src/draft.rt
 //! let mut carol = PersonDraft::new(alloc)?;
+//! carol.set_phones(phones);
 //! carol.set_id(789);
 //! carol.set_name(alloc, "Carol")?;
 //! ```
@@ -135,19 +136,13 @@
 //! ..
 //! for _ in 0..u64::MAX {
 //!     match host.next(rt)? {
-//!         Some(News::Came { .. }) => {
-//!             let notes = notes.clone()?;
-//!             let object = Board {
-//!                 alloc,
-//!                 notes,
-//!                 calls: VecDeque::new(alloc),
-//!             };
-//!             host.admit(vec![in alloc; BoardServant { alloc, object }]?)?;
-//!         }
+//!         Some(News::Came { .. }) => admit(alloc, &mut host, &notes)?,
 //!         Some(_) => {}
 //!         None => break,
 //!     }
 //! }
+//! ..
+//! host.admit(vec![in alloc; BoardServant { alloc, object }]?)?;
 //! ```
 //!
 //! # Call an object
@@ -184,16 +179,26 @@
 //!     client: &mut Client<R, W>,
 //! ) -> anyhow::Result<String> {
 //!     let store = StoreClient::new(alloc, client.bootstrap()?.cap(alloc));
-//!     let mut put = StorePutParamsDraft::new(alloc)?;
-//!     put.set_key(alloc, "colour")?;
-//!     put.set_value(alloc, "blue")?;
-//!     store.put(client, put)?;
-//!     let mut get = StoreGetParamsDraft::new(alloc)?;
-//!     get.set_key(alloc, "colour")?;
-//!     let got = store.get(client, get)?;
+//!     store.put(client, blue(alloc)?)?;
+//!     let got = store.get(client, colour(alloc)?)?;
 //!     let number = got.question();
 //!     let came = payload_of(client.wait(Question { number })?)?;
 //!     Ok(got.results(&came)?.value()?.text(alloc)?)
+//! }
+//!
+//! /// What is put.
+//! fn blue(alloc: Global) -> anyhow::Result<StorePutParamsDraft> {
+//!     let mut params = StorePutParamsDraft::new(alloc)?;
+//!     params.set_key(alloc, "colour")?;
+//!     params.set_value(alloc, "blue")?;
+//!     Ok(params)
+//! }
+//!
+//! /// What is asked for.
+//! fn colour(alloc: Global) -> anyhow::Result<StoreGetParamsDraft> {
+//!     let mut params = StoreGetParamsDraft::new(alloc)?;
+//!     params.set_key(alloc, "colour")?;
+//!     Ok(params)
 //! }
 //! ```
 //!
@@ -214,8 +219,8 @@
 //! ```rust crates/examples/src/board_client.rt
 //! let reader = client.export(ReaderServant { alloc, object })?;
 //! ..
-//! read.set_reader_client(&mut table, ReaderClient::new(alloc, reader))?;
-//! board.read(client, read, table)?;
+//! params.set_reader_client(&mut table, ReaderClient::new(alloc, reader))?;
+//! board.read(client, params, table)?;
 //! ```
 //!
 //! An object calls back by `ServerObject::ask`, at a `Host` or at a client.

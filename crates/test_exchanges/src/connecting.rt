@@ -12,6 +12,7 @@ use cp_stream::{Tap, write_message};
 use cp_vat_machine::{Acted, Effect, Effects, Event, Idle, Value, VatFault};
 use cp_words::Limits;
 use std::alloc::Global;
+use std::mem;
 
 /// The lines that a script asks for.
 pub fn wanted(alloc: Global, script: &str) -> Lines {
@@ -40,16 +41,22 @@ const LONGEST: usize = 48;
 /// As `connected`, with pieces of each length up to the longest one: the lines of the first that goes otherwise, or of the last.
 pub fn cut(alloc: Global, bootstrap: Option<u32>, script: &str) -> Lines {
     let wanted = wanted(alloc, script);
-    let mut lines = Lines::new(alloc);
-    for piece in 1..=LONGEST {
+    let piece = first_wrong(alloc, bootstrap, script, wanted.text());
+    drop(wanted);
+    connected(alloc, bootstrap, piece, script)
+}
+
+/// The length of pieces with which what a connection does isn't as wanted, or the longest.
+fn first_wrong(alloc: Global, bootstrap: Option<u32>, script: &str, wanted: Option<&str>) -> usize {
+    for piece in 1..LONGEST {
+        let lines = connected(alloc, bootstrap, piece, script);
+        let is_wanted = lines.text() == wanted;
         drop(lines);
-        lines = connected(alloc, bootstrap, piece, script);
-        if lines.text() != wanted.text() {
-            break;
+        if !is_wanted {
+            return piece;
         }
     }
-    drop(wanted);
-    lines
+    LONGEST
 }
 
 /// The lines of what a new connection does. The bytes of a frame come in pieces of this length.
@@ -67,22 +74,30 @@ pub fn tail_called(alloc: Global, bootstrap: Option<u32>, piece: usize, script: 
 
 fn played_on(alloc: Global, connection: Connection, piece: usize, script: &str) -> Lines {
     let mut wire = Wire::new(alloc, connection, piece);
-    for line in script.lines() {
-        if !is_reported(line) {
-            wire.turn(line);
-        }
-    }
+    wire.play(script);
     wire.into_lines()
 }
 
 /// A connection, and what it did.
-#[derive(Drop)]
 struct Wire {
     alloc: Global,
     piece: usize,
     connection: Connection,
     sent: Lines,
     happened: Lines,
+}
+
+// Not derived: who lets one go calls this function, and need not prove the drop of what it holds.
+impl Drop for Wire {
+    fn drop(self) {
+        let Wire {
+            alloc: _,
+            piece: _,
+            connection: _,
+            sent: _,
+            happened: _,
+        } = self;
+    }
 }
 
 impl Wire {
@@ -93,6 +108,15 @@ impl Wire {
             connection,
             sent: Lines::new(alloc),
             happened: Lines::new(alloc),
+        }
+    }
+
+    /// Plays the events of a script.
+    fn play(&mut self, script: &str) {
+        for line in script.lines() {
+            if !is_reported(line) {
+                self.turn(line);
+            }
         }
     }
 
@@ -161,15 +185,10 @@ impl Wire {
         }
     }
 
-    fn into_lines(self) -> Lines {
-        let Wire {
-            connection,
-            mut sent,
-            happened,
-            ..
-        } = self;
-        drop(connection);
-        sent.push(happened.text().unwrap_or(UNREAD));
+    fn into_lines(mut self) -> Lines {
+        self.sent.push(self.happened.text().unwrap_or(UNREAD));
+        let sent = mem::replace(&mut self.sent, Lines::new(self.alloc));
+        drop(self);
         sent
     }
 }
@@ -189,8 +208,14 @@ fn act(
 ) -> Result<Value, ConnectionFault> {
     match event {
         Event::Receive(message) => {
-            let frame = frame_of(alloc, message).ok_or(ConnectionFault::OutOfMemory)?;
-            receive(connection, &frame, piece)
+            match frame_of(alloc, message) {
+                Some(frame) => {
+                    let given = receive(connection, &frame, piece);
+                    drop(frame);
+                    given
+                }
+                None => Err(ConnectionFault::OutOfMemory),
+            }
         }
         Event::Bootstrap => connection.bootstrap().map(Value::Question),
         Event::Call(cap, request) => connection.call(cap, request).map(Value::Question),

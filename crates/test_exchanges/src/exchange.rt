@@ -2,11 +2,11 @@
 
 use crate::bytes::sent;
 use crate::connecting::{connected, cut, tail_called, wanted};
-use crate::pairs::{End, both_played};
-use crate::playing::{Player, played};
+use crate::pairs::both_played;
+use crate::playing::played;
 use crate::running::ran;
 use crate::script::UNREAD;
-use crate::sessions::{Session, read, reported, served};
+use crate::sessions::{in_session, read, reported, served};
 use crate::written::calls_read;
 use cp_frame::Mode;
 use cp_objects::Objects;
@@ -30,6 +30,7 @@ pub fn failure(alloc: Global, players: &str, script: &Lines) -> Option<Fault> {
             let way = way.name();
             return Some(Fault { way, lines });
         }
+        drop(lines);
     }
     None
 }
@@ -102,29 +103,15 @@ impl Players {
             Players::One(vat) => one_played(alloc, vat, way, script),
             Players::Sender(vat) => sent(alloc, vat, script),
             Players::Two(first, second) => {
-                let first = End::new(alloc, Player::new(alloc, first, way.taken()));
-                let second = End::new(alloc, Player::new(alloc, second, way.taken()));
-                both_played(alloc, first, second, script)
+                both_played(alloc, (first, second), way.taken(), script)
             }
-            Players::Connection(vat) => match way {
-                Way::Connected(piece) => connected(alloc, vat, piece, script),
-                _ => cut(alloc, vat, script),
-            },
-            Players::Tails(vat) => match way {
-                Way::Connected(piece) => tail_called(alloc, vat, piece, script),
-                _ => Lines::new(alloc),
-            },
+            Players::Connection(vat) => connected(alloc, vat, way.piece(), script),
+            Players::Tails(vat) => tail_called(alloc, vat, way.piece(), script),
             Players::Cut(vat) => cut(alloc, vat, script),
-            Players::Server(mode) => match way {
-                Way::Served => served(alloc, mode, script),
-                _ => {
-                    let owed = Objects::new(alloc);
-                    Session::new(alloc, mode, owed, way.lends(), script).play(script)
-                }
-            },
+            Players::Server(mode) => answered(alloc, mode, way, script),
             Players::Objects(may_call) => {
                 let owed = objects(alloc, may_call);
-                Session::new(alloc, Mode::Plain, owed, way.lends(), script).play(script)
+                in_session(alloc, Mode::Plain, owed, way.lends(), script)
             }
             Players::Reader => read(alloc, script),
             Players::Calls => calls_read(alloc, script),
@@ -133,12 +120,20 @@ impl Players {
     }
 }
 
+/// What a server does.
+fn answered(alloc: Global, mode: Mode, way: Way, script: &str) -> Lines {
+    match way {
+        Way::Served => served(alloc, mode, script),
+        _ => in_session(alloc, mode, Objects::new(alloc), way.lends(), script),
+    }
+}
+
 /// What one vat does.
 fn one_played(alloc: Global, vat: Option<u32>, way: Way, script: &str) -> Lines {
     match way {
         Way::Listed => ran(alloc, vat, script),
         Way::Connected(piece) => connected(alloc, vat, piece, script),
-        _ => played(alloc, Player::new(alloc, vat, way.taken()), script),
+        _ => played(alloc, vat, way.taken(), script),
     }
 }
 
@@ -196,6 +191,14 @@ impl Way {
             Way::Served => "by a server",
             Way::Objects { lends: true } => "with calls that are lent",
             Way::Objects { lends: false } => "in pieces",
+        }
+    }
+
+    /// The bytes in which pieces come.
+    fn piece(self) -> usize {
+        match self {
+            Way::Connected(piece) => piece,
+            _ => usize::MAX,
         }
     }
 

@@ -38,7 +38,7 @@ const FILES: [&str; 14] = [
 ];
 
 /// Prints how an exchange went.
-fn print_failure(rt: &HostRuntime, name: &str, fault: Fault) -> io::Result<()> {
+fn print_failure(rt: &HostRuntime, name: &str, fault: &Fault) -> io::Result<()> {
     let lines = fault.lines.text().unwrap_or("memory ran out\n");
     println!(rt; "{name}, {}, went so:\n{lines}", fault.way)
 }
@@ -50,34 +50,51 @@ fn is_right(rt: &HostRuntime, alloc: Global, parts: &str, section: Section) -> i
     drop(script);
     match failed {
         Some(fault) => {
-            print_failure(rt, section.name, fault)?;
+            let printed = print_failure(rt, section.name, &fault);
+            drop(fault);
+            printed?;
             Ok(false)
         }
         None => Ok(true),
     }
 }
 
-/// Plays the sections of a file, and prints how many went as their scripts say, of how many. Says whether all did.
-fn play_all(rt: &HostRuntime, alloc: Global, parts: &str, file: &str) -> io::Result<bool> {
-    let text = fs::read_to_string(rt, file)?;
+/// Plays the sections of a text. Says how many there are, and how many went as their scripts say.
+fn play_sections(rt: &HostRuntime, parts: &str, text: &str) -> io::Result<(u64, u64)> {
     let (mut played, mut right) = (0u64, 0u64);
-    for section in text.as_str().split("\n== ").skip(1) {
-        if is_right(rt, alloc, parts, Section::of(section))? {
+    for section in text.split("\n== ").skip(1) {
+        if is_right(rt, rt.alloc(), parts, Section::of(section))? {
             right = right.saturating_add(1);
         }
         played = played.saturating_add(1);
     }
+    Ok((played, right))
+}
+
+/// Plays the sections of a file, and prints how many went as their scripts say, of how many. Says whether all did.
+fn play_file(rt: &HostRuntime, parts: &str, file: &str) -> io::Result<bool> {
+    let text = fs::read_to_string(rt, file)?;
+    let counts = play_sections(rt, parts, text.as_str());
+    drop(text);
+    let (played, right) = counts?;
     println!(rt; "{file}: {right} of {played}")?;
     Ok(right == played)
 }
 
-fn main(rt: HostRuntime) -> io::Result<ExitCode> {
-    let parts = fs::read_to_string(&rt, "parts.txt")?;
+/// Plays all files. Says whether all sections went as their scripts say.
+fn play_all(rt: &HostRuntime, parts: &str) -> io::Result<bool> {
     let mut is_good = true;
     for file in FILES {
-        is_good = play_all(&rt, rt.alloc(), parts.as_str(), file)? && is_good;
+        is_good = play_file(rt, parts, file)? && is_good;
     }
-    Ok(if is_good {
+    Ok(is_good)
+}
+
+fn main(rt: HostRuntime) -> io::Result<ExitCode> {
+    let parts = fs::read_to_string(&rt, "parts.txt")?;
+    let played = play_all(&rt, parts.as_str());
+    drop(parts);
+    Ok(if played? {
         ExitCode::SUCCESS
     } else {
         ExitCode::FAILURE

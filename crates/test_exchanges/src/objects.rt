@@ -96,10 +96,17 @@ impl Servant for Object {
 
 /// What an echo answers to a call.
 fn echoed(alloc: Global, request: Request) -> Result<Reply, AllocError> {
-    let gives_up = named_imports(alloc, &request.caps)?;
-    let Request { content, caps, .. } = request;
-    let outcome = Outcome::Results { content, caps };
-    Ok(Reply::Now { outcome, gives_up })
+    match named_imports(alloc, &request.caps) {
+        Ok(gives_up) => {
+            let Request { content, caps, .. } = request;
+            let outcome = Outcome::Results { content, caps };
+            Ok(Reply::Now { outcome, gives_up })
+        }
+        Err(fault) => {
+            drop(request);
+            Err(fault)
+        }
+    }
 }
 
 /// Makes a call for each that it gets, and answers with what that comes to.

@@ -3,23 +3,34 @@
 
 use crate::playing::Player;
 use crate::script::UNREAD;
-use cp_scripts::Lines;
+use cp_scripts::{Lines, Taken};
 use std::alloc::Global;
 
 /// One of two vats, the lines of the messages that were sent to it, and how many of them it took.
-#[derive(Drop)]
-pub struct End {
+struct End {
     alloc: Global,
     player: Player,
     sent: Lines,
     taken: usize,
 }
 
+// Not derived: who lets one go calls this function, and need not prove the drop of what it holds.
+impl Drop for End {
+    fn drop(self) {
+        let End {
+            alloc: _,
+            player: _,
+            sent: _,
+            taken: _,
+        } = self;
+    }
+}
+
 impl End {
-    pub fn new(alloc: Global, player: Player) -> End {
+    fn new(alloc: Global, bootstrap: Option<u32>, taken: Taken) -> End {
         End {
             alloc,
-            player,
+            player: Player::new(alloc, bootstrap, taken),
             sent: Lines::new(alloc),
             taken: 0,
         }
@@ -82,13 +93,25 @@ fn play(first: &mut End, second: &mut End, line: &str, lines: &mut Lines) {
     }
 }
 
-/// The lines of the events of a script, and of what two vats do.
-pub fn both_played(alloc: Global, mut first: End, mut second: End, script: &str) -> Lines {
+/// The lines of the events of a script, and of what two new vats do.
+pub fn both_played(
+    alloc: Global,
+    (first, second): (Option<u32>, Option<u32>),
+    taken: Taken,
+    script: &str,
+) -> Lines {
+    let mut first = End::new(alloc, first, taken);
+    let mut second = End::new(alloc, second, taken);
     let mut lines = Lines::new(alloc);
-    for line in script.lines() {
-        play(&mut first, &mut second, line, &mut lines);
-    }
+    play_all(&mut first, &mut second, script, &mut lines);
     drop(first);
     drop(second);
     lines
+}
+
+/// Plays all lines.
+fn play_all(first: &mut End, second: &mut End, script: &str, lines: &mut Lines) {
+    for line in script.lines() {
+        play(first, second, line, lines);
+    }
 }

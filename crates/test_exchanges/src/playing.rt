@@ -65,18 +65,24 @@ pub fn is_reported(line: &str) -> bool {
     line.starts_with("> ") || line.starts_with("! ") || line.starts_with("= ")
 }
 
-/// The lines of the events of a script, and of what a player does at each.
-pub fn played(alloc: Global, mut player: Player, script: &str) -> Lines {
+/// The lines of the events of a script, and of what a new vat does at each.
+pub fn played(alloc: Global, bootstrap: Option<u32>, taken: Taken, script: &str) -> Lines {
+    let mut player = Player::new(alloc, bootstrap, taken);
     let mut lines = Lines::new(alloc);
+    play(&mut player, &mut lines, script);
+    drop(player);
+    lines
+}
+
+/// Adds the lines of the events of a script, and of what a player does at each.
+fn play(player: &mut Player, lines: &mut Lines, script: &str) {
     for line in script.lines() {
         if !is_reported(line) {
             let (event, is_said) = said(line);
-            let told = player.turn(event, is_said);
             lines.push_line(line);
+            let told = player.turn(event, is_said);
             lines.push(told.text().unwrap_or(UNREAD));
             drop(told);
         }
     }
-    drop(player);
-    lines
 }

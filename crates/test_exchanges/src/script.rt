@@ -36,6 +36,7 @@ pub fn script_of(alloc: Global, parts: &str, lines: &str) -> Lines {
     }
     let mut script = Lines::new(alloc);
     fill(&mut script, alloc, short.text().unwrap_or(UNREAD));
+    drop(short);
     script
 }
 
@@ -45,7 +46,10 @@ pub const UNREAD: &str = "= unread\n";
 /// Adds a text, if there was memory for it.
 pub fn push_text(lines: &mut Lines, text: Option<String>) {
     match text {
-        Some(text) => lines.push(text.as_str()),
+        Some(text) => {
+            lines.push(text.as_str());
+            drop(text);
+        }
         None => lines.push(UNREAD),
     }
 }

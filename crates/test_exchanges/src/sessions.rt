@@ -13,21 +13,27 @@ use cp_serve::{Report, ServeFault, serve_each};
 use cp_stream::{Tap, read_message};
 use cp_words::Limits;
 use std::alloc::Global;
+use std::mem;
 
 /// The lines of the messages that a server sends to the peer of a script, and of how it ends.
 pub fn served(alloc: Global, mode: Mode, script: &str) -> Lines {
     let mut objects = objects_of(alloc, script);
     let bytes = bytes_of(alloc, script);
-    let (mut from, mut to) = (Tap::new(bytes.as_slice()), Tap::new(Vec::new(alloc)));
-    let ended = serve_each(alloc, &mut from, &mut to, objects.as_mut_slice(), mode);
+    let mut lines = Lines::new(alloc);
+    push_served(alloc, &mut lines, objects.as_mut_slice(), &bytes, mode);
     drop(objects);
     drop(bytes);
-    let written = to.into_inner();
-    let mut lines = Lines::new(alloc);
-    push_messages(alloc, &mut lines, &written, mode);
-    drop(written);
-    push_end(alloc, &mut lines, ended);
     lines
+}
+
+/// Adds the messages that objects send to a peer that sends these bytes, and how that ends.
+fn push_served(alloc: Global, lines: &mut Lines, objects: &mut [Object], bytes: &[u8], mode: Mode) {
+    let mut to = Tap::new(Vec::new(alloc));
+    let ended = serve_each(alloc, &mut Tap::new(bytes), &mut to, objects, mode);
+    let written = to.into_inner();
+    push_messages(alloc, lines, &written, mode);
+    drop(written);
+    push_end(alloc, lines, ended);
 }
 
 /// The lines of a script that say what a server sends, and how it ends.
@@ -59,8 +65,7 @@ pub fn read(alloc: Global, script: &str) -> Lines {
 const PIECE: usize = 7;
 
 /// Objects on a connection, and what they did.
-#[derive(Drop)]
-pub struct Session {
+struct Session {
     alloc: Global,
     mode: Mode,
     /// Whether calls are lent to the objects, out of bytes that come at once.
@@ -72,9 +77,25 @@ pub struct Session {
     lines: Lines,
 }
 
+// Not derived: who lets one go calls this function, and need not prove the drop of what it holds.
+impl Drop for Session {
+    fn drop(self) {
+        let Session {
+            alloc: _,
+            mode: _,
+            lends: _,
+            connection: _,
+            owed: _,
+            objects: _,
+            fault: _,
+            lines: _,
+        } = self;
+    }
+}
+
 impl Session {
     /// A session of the objects of a script.
-    pub fn new(alloc: Global, mode: Mode, owed: Objects, lends: bool, script: &str) -> Session {
+    fn new(alloc: Global, mode: Mode, owed: Objects, lends: bool, script: &str) -> Session {
         Session {
             alloc,
             mode,
@@ -87,25 +108,14 @@ impl Session {
         }
     }
 
-    /// The lines of a script, and of what follows each.
-    pub fn play(mut self, script: &str) -> Lines {
+    /// Plays the lines of a script.
+    fn play(&mut self, script: &str) {
         for line in script.lines() {
             if !is_reported(line) {
                 self.lines.push_line(line);
                 self.turn(line);
             }
         }
-        let Session {
-            connection,
-            owed,
-            objects,
-            lines,
-            ..
-        } = self;
-        drop(connection);
-        drop(owed);
-        drop(objects);
-        lines
     }
 
     /// Plays a line, if it is an event.
@@ -237,6 +247,15 @@ impl Session {
         push_messages(self.alloc, &mut self.lines, outgoing, self.mode);
         self.connection.wrote(self.connection.outgoing().len());
     }
+}
+
+/// The lines of a script, and of what follows each in a session of its objects.
+pub fn in_session(alloc: Global, mode: Mode, owed: Objects, lends: bool, script: &str) -> Lines {
+    let mut session = Session::new(alloc, mode, owed, lends, script);
+    session.play(script);
+    let lines = mem::replace(&mut session.lines, Lines::new(alloc));
+    drop(session);
+    lines
 }
 
 /// Adds how a session ended.
