@@ -19,6 +19,8 @@ mod command;
 #[cfg(test)]
 mod devices;
 #[cfg(test)]
+mod embedded;
+#[cfg(test)]
 mod frames;
 #[cfg(test)]
 mod host;

@@ -1,4 +1,5 @@
-//! Allocation failures of a vat.
+//! Memory of a vat: allocation failures, and what is counted.
 
+mod contents;
 mod in_place;
 mod memory;

@@ -1,14 +1,13 @@
 //! What a session tells, and how it ends.
 
 use crate::frames::{ABORT, ABORTED, ANSWER, AT_ONCE, BOOTSTRAP, DESK, STRANGE_FINISH, bytes_of};
+use crate::session::{Told, expect_outgoing, next_told, take, write};
 use cp_connection::ConnectionFault;
 use cp_frame::Mode;
 use cp_servants::Desk;
-use cp_session::{Limit, Session, SessionEvent, SessionLimits, SessionOptions};
-use cp_vat_machine::Reason;
+use cp_session::{Limit, Session, SessionLimits, SessionOptions};
 use cp_words::Limits;
 use std::alloc::Global;
-use std::process::Abort;
 
 /// A session without objects, within these limits, that names one to its peer or none.
 fn session_naming(alloc: Global, limits: SessionLimits, bootstrap: Option<u32>) -> Session<Desk> {
@@ -28,33 +27,18 @@ fn session(alloc: Global, limits: SessionLimits) -> Session<Desk> {
     session_naming(alloc, limits, None)
 }
 
-/// The session takes a frame, or part of one, at this time.
-fn take(rt: &impl Abort, alloc: Global, session: &mut Session<Desk>, frame: &str, now: u64) {
-    let bytes = bytes_of(rt, alloc, &[frame]);
-    let count = session.receive(&bytes, now).expect(rt, "a message");
-    check!(rt; count == bytes.len());
-}
-
-/// All that waits goes out.
-fn write(session: &mut Session<Desk>, now: u64) {
-    let count = session.outgoing().len();
-    session.wrote(count, now);
-}
-
 #[test]
 fn an_outcome_is_told_once(rt: HostRuntime) {
     let alloc = rt.alloc();
     let mut session = session(alloc, SessionLimits::unlimited());
     let question = session.bootstrap().expect(&rt, "a question");
-    check!(&rt; session.outgoing() == bytes_of(&rt, alloc, &[BOOTSTRAP]).as_slice());
+    expect_outgoing(&rt, alloc, &session, &[BOOTSTRAP]);
     // With no bytes ahead nothing is taken before all was written.
     check!(&rt; !session.takes_bytes());
     write(&mut session, 0);
-    take(&rt, alloc, &mut session, DESK, 0);
-    let event = session.poll_event();
-    check!(&rt; question == 0 && matches!(event, Some(SessionEvent::Outcome { question: 0, .. })));
-    drop(event);
-    check!(&rt; session.poll_event().is_none());
+    take(&rt, alloc, &mut session, &[DESK], 0);
+    check!(&rt; question == 0 && matches!(next_told(&mut session), Told::Outcome(0)));
+    check!(&rt; matches!(next_told(&mut session), Told::Nothing));
     drop(session);
 }
 
@@ -62,13 +46,13 @@ fn an_outcome_is_told_once(rt: HostRuntime) {
 fn an_end_is_told_once_all_was_written(rt: HostRuntime) {
     let alloc = rt.alloc();
     let mut session = session(alloc, SessionLimits::standard());
-    take(&rt, alloc, &mut session, BOOTSTRAP, 0);
+    take(&rt, alloc, &mut session, &[BOOTSTRAP], 0);
     session.end(1).expect(&rt, "an end");
-    check!(&rt; session.poll_event().is_none() && !session.is_over());
+    check!(&rt; matches!(next_told(&mut session), Told::Nothing) && !session.is_over());
     write(&mut session, 2);
     check!(&rt; session.is_over());
-    check!(&rt; matches!(session.poll_event(), Some(SessionEvent::Ended)));
-    check!(&rt; session.poll_event().is_none());
+    check!(&rt; matches!(next_told(&mut session), Told::Ended));
+    check!(&rt; matches!(next_told(&mut session), Told::Nothing));
     drop(session);
 }
 
@@ -76,17 +60,17 @@ fn an_end_is_told_once_all_was_written(rt: HostRuntime) {
 fn an_abort_goes_out_before_the_peers_close(rt: HostRuntime) {
     let alloc = rt.alloc();
     let mut session = session(alloc, SessionLimits::standard());
-    take(&rt, alloc, &mut session, STRANGE_FINISH, 0);
-    check!(&rt; matches!(session.poll_event(), Some(SessionEvent::Closed(Reason::Fault(_)))));
-    check!(&rt; session.poll_event().is_none() && !session.takes_bytes());
-    check!(&rt; session.outgoing() == bytes_of(&rt, alloc, &[ABORTED]).as_slice());
+    take(&rt, alloc, &mut session, &[STRANGE_FINISH], 0);
+    check!(&rt; matches!(next_told(&mut session), Told::OwnAbort));
+    check!(&rt; matches!(next_told(&mut session), Told::Nothing) && !session.takes_bytes());
+    expect_outgoing(&rt, alloc, &session, &[ABORTED]);
     write(&mut session, 3);
     check!(&rt; session.is_draining() && session.deadline() == Some(5_003));
     // What comes before the close is dropped.
-    take(&rt, alloc, &mut session, AT_ONCE, 4);
+    take(&rt, alloc, &mut session, &[AT_ONCE], 4);
     check!(&rt; session.outgoing().is_empty());
     session.end(4).expect(&rt, "an end");
-    check!(&rt; session.is_over() && session.poll_event().is_none());
+    check!(&rt; session.is_over() && matches!(next_told(&mut session), Told::Nothing));
     drop(session);
 }
 
@@ -94,8 +78,8 @@ fn an_abort_goes_out_before_the_peers_close(rt: HostRuntime) {
 fn a_peers_abort_is_told(rt: HostRuntime) {
     let alloc = rt.alloc();
     let mut session = session(alloc, SessionLimits::standard());
-    take(&rt, alloc, &mut session, ABORT, 0);
-    check!(&rt; matches!(session.poll_event(), Some(SessionEvent::Closed(Reason::Peer(_)))));
+    take(&rt, alloc, &mut session, &[ABORT], 0);
+    check!(&rt; matches!(next_told(&mut session), Told::PeersAbort));
     check!(&rt; session.is_draining());
     drop(session);
 }
@@ -109,9 +93,11 @@ fn a_stream_that_is_cut_is_a_fault(rt: HostRuntime) {
     let count = session.receive(&bytes[..9], 0).expect(&rt, "a part");
     check!(&rt; count == 9);
     check!(&rt; session.end(1).is_err());
-    check!(&rt; matches!(session.poll_event(), Some(SessionEvent::Fault(ConnectionFault::Unreadable { at: 0, .. }))));
-    check!(&rt; session.poll_event().is_none());
+    let fault = next_told(&mut session);
+    check!(&rt; matches!(fault, Told::Fault(ConnectionFault::Unreadable { at: 0, .. })));
+    check!(&rt; matches!(next_told(&mut session), Told::Nothing));
     drop(session);
+    drop(bytes);
 }
 
 #[test]
@@ -122,7 +108,7 @@ fn a_limit_ends_it(rt: HostRuntime) {
     check!(&rt; !session.is_over() && session.deadline() == Some(300_000));
     session.tick(300_000);
     check!(&rt; session.is_over() && session.deadline().is_none());
-    check!(&rt; matches!(session.poll_event(), Some(SessionEvent::Limit(Limit::Idle))));
+    check!(&rt; matches!(next_told(&mut session), Told::Limit(Limit::Idle)));
     drop(session);
 }
 
@@ -136,10 +122,10 @@ const NO_SUCH_OBJECT: &str = "\
 fn a_call_of_nobody_fails(rt: HostRuntime) {
     let alloc = rt.alloc();
     let mut session = session_naming(alloc, SessionLimits::standard(), Some(0));
-    take(&rt, alloc, &mut session, BOOTSTRAP, 0);
-    check!(&rt; session.outgoing() == bytes_of(&rt, alloc, &[ANSWER]).as_slice());
+    take(&rt, alloc, &mut session, &[BOOTSTRAP], 0);
+    expect_outgoing(&rt, alloc, &session, &[ANSWER]);
     write(&mut session, 0);
-    take(&rt, alloc, &mut session, AT_ONCE, 0);
-    check!(&rt; session.outgoing() == bytes_of(&rt, alloc, &[NO_SUCH_OBJECT]).as_slice());
+    take(&rt, alloc, &mut session, &[AT_ONCE], 0);
+    expect_outgoing(&rt, alloc, &session, &[NO_SUCH_OBJECT]);
     drop(session);
 }

@@ -1,9 +1,12 @@
 //! Each limit of a session, met and not met.
 
-use crate::frames::{ANSWER, BOOTSTRAP, STRANGE_FINISH, bytes_of};
+use crate::frames::{
+    ANSWER, BOOTSTRAP, LATER, STRANGE_FINISH, TOO_LARGE, TOO_MANY, TOO_MUCH, bytes_of,
+};
+use crate::session::{Told, expect_outgoing, next_told, take, write};
 use cp_frame::Mode;
-use cp_servants::Desk;
-use cp_session::{Limit, Session, SessionEvent, SessionLimits, SessionOptions};
+use cp_servants::{Desk, Script};
+use cp_session::{Budget, Limit, Session, SessionLimits, SessionOptions};
 use cp_words::Limits;
 use std::alloc::Global;
 use std::process::Abort;
@@ -65,8 +68,9 @@ fn a_message_comes_in_time(rt: HostRuntime) {
     expect_deadline(&rt, &mut session, &bytes[20..], 6_950, 15_950);
     expect_deadline(&rt, &mut session, &bytes[..9], 7_000, 8_000);
     expect_over(&rt, &mut session, 8_000);
-    check!(&rt; matches!(session.poll_event(), Some(SessionEvent::Limit(Limit::Message))));
+    check!(&rt; matches!(next_told(&mut session), Told::Limit(Limit::Message)));
     drop(session);
+    drop(bytes);
 }
 
 #[test]
@@ -75,12 +79,13 @@ fn a_byte_moves_in_time(rt: HostRuntime) {
     let bytes = bytes_of(&rt, alloc, &[BOOTSTRAP]);
     let mut session = session(alloc, 10_000);
     expect_deadline(&rt, &mut session, &bytes, 6_000, 15_000);
-    check!(&rt; session.outgoing() == bytes_of(&rt, alloc, &[ANSWER]).as_slice());
+    expect_outgoing(&rt, alloc, &session, &[ANSWER]);
     // One that is written counts too.
     session.wrote(1, 7_000);
     expect_over(&rt, &mut session, 16_000);
-    check!(&rt; matches!(session.poll_event(), Some(SessionEvent::Limit(Limit::Idle))));
+    check!(&rt; matches!(next_told(&mut session), Told::Limit(Limit::Idle)));
     drop(session);
+    drop(bytes);
 }
 
 #[test]
@@ -94,9 +99,138 @@ fn few_bytes_are_kept(rt: HostRuntime) {
     check!(&rt; !session.is_over());
     expect_deadline(&rt, &mut session, &bytes[9..10], 6_000, 7_000);
     session.tick(6_000);
-    check!(&rt; session.is_over());
-    check!(&rt; matches!(session.poll_event(), Some(SessionEvent::Limit(Limit::Kept))));
+    expect_last(&rt, alloc, &mut session, TOO_MUCH);
+    check!(&rt; matches!(next_told(&mut session), Told::Limit(Limit::Kept)));
+    check!(&rt; matches!(next_told(&mut session), Told::Nothing));
+    // What comes before the peer's close is dropped, and nothing of it is kept.
+    expect_deadline(&rt, &mut session, &bytes, 6_200, 6_500);
+    check!(&rt; session.kept() == 0 && session.outgoing().is_empty());
+    expect_over(&rt, &mut session, 6_500);
     drop(session);
+    drop(bytes);
+}
+
+/// This frame is the last that goes out, and nothing is taken; once it was written, at 6,000, the peer's close is waited for.
+fn expect_last(rt: &impl Abort, alloc: Global, session: &mut Session<Desk>, frame: &str) {
+    check!(rt; session.outgoing() == bytes_of(rt, alloc, &[frame]).as_slice());
+    check!(rt; !session.takes_bytes() && !session.is_over());
+    let count = session.outgoing().len();
+    session.wrote(count, 6_000);
+    check!(rt; session.is_draining() && session.outgoing().is_empty());
+}
+
+#[test]
+fn an_abort_says_what_is_kept_once(rt: HostRuntime) {
+    // More waits to be written than may be kept, so the peer that doesn't read is told nothing more.
+    let alloc = rt.alloc();
+    let bytes = bytes_of(&rt, alloc, &[BOOTSTRAP]);
+    let mut session = session(alloc, 9);
+    expect_deadline(&rt, &mut session, &bytes, 6_000, 15_000);
+    session.tick(6_000);
+    check!(&rt; session.outgoing() == bytes_of(&rt, alloc, &[ANSWER, TOO_MUCH]).as_slice());
+    session.tick(6_001);
+    check!(&rt; session.is_over());
+    drop(session);
+}
+
+/// A session ends by bytes that a frame begins with, and this Abort says why.
+fn expect_refused(rt: &impl Abort, alloc: Global, begin: &str, frame: &str) {
+    let mut session = session(alloc, 10_000);
+    let bytes = bytes_of(rt, alloc, &[begin]);
+    check!(rt; session.receive(&bytes, 6_000).is_err());
+    expect_last(rt, alloc, &mut session, frame);
+    check!(rt; matches!(next_told(&mut session), Told::Fault(_)));
+    drop(session);
+}
+
+#[test]
+fn frames_that_are_too_large_are_refused(rt: HostRuntime) {
+    // 513 segments, and one of 8,388,609 words.
+    expect_refused(&rt, rt.alloc(), "0002000001000000", TOO_MANY);
+    expect_refused(&rt, rt.alloc(), "0000000001008000", TOO_LARGE);
+}
+
+/// A session that may keep so many bytes keeps the answer to a Bootstrap, and all was written.
+fn kept_answer(rt: &impl Abort, alloc: Global, kept: u64) -> Session<Desk> {
+    let bytes = bytes_of(rt, alloc, &[BOOTSTRAP]);
+    let mut session = session(alloc, kept);
+    expect_deadline(rt, &mut session, &bytes, 6_000, 15_000);
+    drop(bytes);
+    write(&mut session, 6_000);
+    session.tick(6_000);
+    session
+}
+
+#[test]
+fn few_contents_are_kept(rt: HostRuntime) {
+    // An entry, and a capability.
+    let kept = kept_answer(&rt, rt.alloc(), 736);
+    check!(&rt; !kept.is_over() && kept.kept() == 736);
+    drop(kept);
+    let mut too_much = kept_answer(&rt, rt.alloc(), 735);
+    check!(&rt; matches!(next_told(&mut too_much), Told::Limit(Limit::Kept)));
+    drop(too_much);
+}
+
+/// Calls what question 1 will give, under question 2, with a content of six levels, each of whose structs two pointers name: 63 structs.
+const DOUBLING: &str = "\
+    000000001d0000000000000001000100020000000000000000000000030003000200000000000000\
+    020000000000a1e5000000000000000008000000010001001c000000000002000000000000000000\
+    000000000100000000000000010001000100000000000000010000000f0000000400000001000000\
+    01000000000000000400000000000200000000000000000004000000000002000000000000000200\
+    04000000000002000000000000000200040000000000020000000000000002000400000000000200\
+    00000000000002000400000000000200000000000000020000000000000000000000000000000000";
+
+/// A call of an object that answers later, and one that waits for that answer.
+const WAITING: &[&str] = &[BOOTSTRAP, LATER, DOUBLING];
+
+/// A session with an object that answers later, which may keep so many bytes. Its peer made these calls.
+fn waiting(rt: &impl Abort, alloc: Global, kept: u64) -> Session<Script> {
+    let script = Script::new(Vec::new(alloc), Vec::new(alloc));
+    let options = SessionOptions {
+        mode: Mode::Plain,
+        messages: Limits::standard(),
+        bootstrap: Some(0),
+        may_call: true,
+        releases_idle: true,
+        limits: SessionLimits {
+            kept,
+            ..SessionLimits::standard()
+        },
+    };
+    let objects = vec![in alloc; script].expect(rt, "memory");
+    let mut session = Session::new(alloc, &options, objects, 0);
+    for frame in WAITING {
+        take(rt, alloc, &mut session, &[*frame], 0);
+        write(&mut session, 0);
+    }
+    session.tick(0);
+    session
+}
+
+#[test]
+fn a_call_that_waits_is_kept(rt: HostRuntime) {
+    // Three answers and a capability of 96; the call with its path, and 126 pointers.
+    let kept = 3 * 640 + 96 + 192 + 2 + 126 * 96;
+    let session = waiting(&rt, rt.alloc(), kept);
+    check!(&rt; !session.is_over() && session.kept() == kept);
+    drop(session);
+    let mut session = waiting(&rt, rt.alloc(), kept - 1);
+    check!(&rt; matches!(next_told(&mut session), Told::Limit(Limit::Kept)));
+    drop(session);
+}
+
+#[test]
+fn sessions_keep_to_a_budget(rt: HostRuntime) {
+    // Each may keep 10, and all of them 5 beyond that.
+    let mut budget = Budget::new(rt.alloc(), 10, 5);
+    check!(&rt; budget.allowed(7) == 15);
+    check!(&rt; budget.note(7, 13).is_ok() && budget.is_within());
+    check!(&rt; budget.allowed(7) == 15 && budget.allowed(8) == 12);
+    check!(&rt; budget.note(8, 14).is_ok() && !budget.is_within());
+    budget.forget(7);
+    check!(&rt; budget.is_within() && budget.allowed(9) == 11);
+    drop(budget);
 }
 
 #[test]
@@ -105,13 +239,13 @@ fn the_peer_closes_in_time(rt: HostRuntime) {
     let bytes = bytes_of(&rt, alloc, &[STRANGE_FINISH]);
     let mut session = session(alloc, 10_000);
     expect_deadline(&rt, &mut session, &bytes, 6_000, 15_000);
-    let count = session.outgoing().len();
-    session.wrote(count, 7_500);
+    write(&mut session, 7_500);
     check!(&rt; session.is_draining());
     // Only this time counts from now on, and no byte gives more of it.
     expect_deadline(&rt, &mut session, &bytes, 7_900, 8_000);
     expect_over(&rt, &mut session, 8_000);
-    check!(&rt; matches!(session.poll_event(), Some(SessionEvent::Closed(_))));
-    check!(&rt; session.poll_event().is_none());
+    check!(&rt; matches!(next_told(&mut session), Told::OwnAbort));
+    check!(&rt; matches!(next_told(&mut session), Told::Nothing));
     drop(session);
+    drop(bytes);
 }

@@ -1,6 +1,7 @@
 //! When a session takes bytes of its peer, and when its objects have more to give.
 
 use crate::frames::{ANSWER, BOOTSTRAP, DESK_ANSWER, LATER, bytes_of};
+use crate::session::{expect_outgoing, take, write};
 use cp_frame::Mode;
 use cp_servants::Desk;
 use cp_session::{Session, SessionLimits, SessionOptions};
@@ -26,36 +27,25 @@ fn session(rt: &impl Abort, alloc: Global, ahead: usize) -> Session<Desk> {
     Session::new(alloc, &options, objects, 0)
 }
 
-/// The session takes these frames one after another, each whole.
-fn take(rt: &impl Abort, alloc: Global, session: &mut Session<Desk>, frames: &[&str]) {
-    let bytes = bytes_of(rt, alloc, frames);
-    let mut left = bytes.as_slice();
-    for _ in frames {
-        let count = session.receive(left, 0).expect(rt, "a message");
-        check!(rt; 0 < count && count <= left.len());
-        left = &left[count..];
-    }
-    check!(rt; left.is_empty());
-}
-
 /// What waits to be written are these frames, and goes out.
 fn expect_out(rt: &impl Abort, alloc: Global, session: &mut Session<Desk>, frames: &[&str]) {
-    let wanted = bytes_of(rt, alloc, frames);
-    check!(rt; session.outgoing() == wanted.as_slice());
-    session.wrote(wanted.len(), 1);
+    expect_outgoing(rt, alloc, session, frames);
+    write(session, 1);
     check!(rt; session.outgoing().is_empty());
 }
 
 #[test]
 fn nothing_is_taken_while_too_much_waits(rt: HostRuntime) {
     let alloc = rt.alloc();
-    let answer = bytes_of(&rt, alloc, &[ANSWER]).len();
-    let mut session = session(&rt, alloc, answer.saturating_sub(1));
+    let answer = bytes_of(&rt, alloc, &[ANSWER]);
+    let mut session = session(&rt, alloc, answer.len().saturating_sub(1));
+    drop(answer);
     check!(&rt; session.takes_bytes());
-    take(&rt, alloc, &mut session, &[BOOTSTRAP]);
+    take(&rt, alloc, &mut session, &[BOOTSTRAP], 0);
     check!(&rt; !session.takes_bytes());
     let more = bytes_of(&rt, alloc, &[LATER]);
     check!(&rt; session.receive(&more, 0).expect(&rt, "nothing") == 0);
+    drop(more);
     // One byte less is little enough.
     session.wrote(1, 1);
     check!(&rt; session.takes_bytes());
@@ -66,7 +56,7 @@ fn nothing_is_taken_while_too_much_waits(rt: HostRuntime) {
 fn objects_give_what_they_owe_after_the_peers_end(rt: HostRuntime) {
     let alloc = rt.alloc();
     let mut session = session(&rt, alloc, 65_536);
-    take(&rt, alloc, &mut session, &[BOOTSTRAP, LATER]);
+    take(&rt, alloc, &mut session, &[BOOTSTRAP, LATER], 0);
     expect_out(&rt, alloc, &mut session, &[ANSWER]);
     check!(&rt; session.has_more());
     session.end(2).expect(&rt, "an end");
