@@ -5,9 +5,9 @@ By an edit of crates/CRATE/wrong-bodies/ a function does something else than its
 The file is written as those of must-fail/ are. Its name is the function's path, with dots, and what is wrong then.
 
 A proof rests on the contracts of the functions that are called, and on no body. So one check tries several edits, each of
-another function. It checks these functions and those that they call, over the libraries that rt ci built, or else
-tools/build.sh. Each function without an edit has to be proved in the same check, so refusals are due to the edits. Or all
-that its proof lacks is that of a function with an edit, which it calls.
+another function, over the libraries that rt ci built, or else tools/build.sh. The crate's other functions stand by their
+contracts: rt ci has proved them, so their proofs are holes in this check. Functions that call one another have one proof, and
+keep it. All that is refused has to be the proof of a function with an edit, so refusals are due to the edits.
 
 The last line is 'N passed, M failed'. The status is 1 where an edit wasn't refused, can't be applied or wasn't tried.
 """
@@ -26,6 +26,9 @@ sys.path.insert(0, os.path.dirname(os.path.realpath(shutil.which("rt") or sys.ex
 import rtlib
 
 FUNCTION = re.compile(r"^( *)(?:pub(?:\(\w+\))? )?(?:const )?(?:extern \"C\" )?fn (\w+)", re.M)
+TYPE = re.compile(r"^(?:pub(?:\(\w+\))? )?(?:struct|enum) (\w+)", re.M)
+# (those of a type with other arguments than parameters, as `Client<R, W, Nobody>`, have longer paths, and keep their proofs)
+METHODS = re.compile(r"impl(?:<.*>)? (\w+)(?:<'?\w(?:, '?\w)*>)?(?: \{)?")
 # what is said where a proof names what the edit took away: that says little of the contract
 NAMES = re.compile(r"has no field|is not in scope|has no `|was not admitted")
 
@@ -68,9 +71,37 @@ def is_in_body(text, at, name):
     return any(line.endswith("{") for line in above) and f"{heads[-1][1]}}}" not in above
 
 
+def functions_of(folder):
+    """The paths of a crate's functions that have a proof of their own: those of modules and types, but for cycles of calls."""
+    module_of = lambda file: () if file.stem in ("lib", "main") else file.relative_to(folder).with_suffix("").parts
+    texts = {module_of(it): it.read_text() for it in folder.rglob("*.rt")}
+    types = {name: (*module, name) for module, text in texts.items() for name in TYPE.findall(text)}
+    for module, text in texts.items():
+        owner, marks = None, ""
+        for line in text.split("\n"):
+            head, methods = FUNCTION.match(line), METHODS.fullmatch(line)
+            if head and not re.search(r"#\[(cycle|test|cfg)", marks) and (not head[1] or owner and len(head[1]) == 4):
+                yield (*(owner if head[1] else module), head[2])
+            marks = marks + line if line.lstrip().startswith("#[") else ""
+            # (of a trait's function there is a proof for each type that has it)
+            owner = types.get(methods[1]) if methods else None if re.match(r"[a-z]", line) else owner
+
+
+def leave_out(crate, room, tried):
+    """Makes holes of the proofs of all functions of a copy of the crate but these."""
+    for path in functions_of(room / "src"):
+        folder, proof = room.joinpath("proofs", *path), f"{path[-1]}_spec"
+        if "::".join(path) not in tried:
+            folder.mkdir(parents=True, exist_ok=True)
+            for answers in ("Invariants.antt", "Answers.antt"):
+                folder.joinpath(answers).unlink(missing_ok=True)
+            statement = f"use Rattle.{crate.name}.proofs.{'.'.join(path)}.Statement.{{statement}}\n\n"
+            folder.joinpath("Proof.antt").write_text(f"{statement}pub {proof} : {{M : Type 1}} → statement M\n{proof} = ?\n")
+
+
 def check(crate, room, only):
     """The status of a check of these functions, the lines that it said, and its processor seconds."""
-    words = [rtlib.RATTLE, "check", *crate.words(["--jobs", "1"], keeps=False), *[f"--only={it}" for it in only]]
+    words = [rtlib.RATTLE, "check", *crate.words(["--jobs", "1", "--allow-holes"], keeps=False), *[f"--only={it}" for it in only]]
     with tempfile.TemporaryFile("w+", errors="replace") as out:
         ran = subprocess.Popen([*rtlib.guarded(), *words], cwd=room, stdin=subprocess.DEVNULL, stdout=out, stderr=out)
         _, status, used = os.wait4(ran.pid, 0)
@@ -91,6 +122,7 @@ def try_together(crate, edits):
             except (OSError, ValueError) as why:
                 it.said = f"BAD EDIT: {why}"
         tried = {it.function: it for it in edits if not it.said}
+        leave_out(crate, pathlib.Path(room), tried)
         status, lines, seconds = check(crate, room, tried) if tried else (0, [], 0)
     verdicts = dict(re.findall(rf"^fn {crate.name}::(\S+): (.+)$", "\n".join(lines), re.M))
     errors = [it.removeprefix("./") for it in lines if re.match(r"\S+:\d+:\d+: error", it)]
@@ -117,12 +149,12 @@ def lacks_an_edited(crate, name, verdicts, errors, tried):
 def lost_by(crate, status, lines, verdicts, errors, tried):
     """Why a check says nothing of its edits: it didn't come to the prover or to its end, or not all else is proved."""
     lost = [it for it in lines if re.search(r"\berror(\[|:.*has no function)", it)]
-    proved = [it for it in verdicts if verdicts[it] == "proved"]
-    if status not in (0, 1) or not re.fullmatch(r"only=\d+ proved=\d+", "".join(lines[-1:])):
+    is_proved = lambda it: re.match(r"no holes$|depends on a hole in `", verdicts[it])
+    if status not in (0, 1) or not re.fullmatch(r"only=\d+ holes=\d+", "".join(lines[-1:])):
         lost.append(f"status {status}: {' '.join(lines[-1:])}")
-    others = [it for it in verdicts if it not in tried and it not in proved]
-    lost += [f"{it} isn't proved" for it in others if not lacks_an_edited(crate, it, verdicts, errors, tried)]
-    return lost if proved else lost + ["no function without an edit was checked"]
+    others = [it for it in verdicts if it not in tried]
+    lost += [f"{it} isn't proved" for it in others if not is_proved(it) and not lacks_an_edited(crate, it, verdicts, errors, tried)]
+    return lost if others else lost + ["no function without an edit was checked"]
 
 
 def find_libraries(crates):
