@@ -19,7 +19,7 @@
 #   callees   calls of servers by the reference library, and of peers at fault two minutes
 #   faults    sessions with faults of memory, system calls, peers and disk     five minutes
 #   readme    the story of the README, in a fresh clone, each line pasted      five minutes
-#   tails     tail calls with C++ peers, both ways, and in orders by hand        the proof of a program of its own, and 10 seconds
+#   tails     tail calls with C++ and Rust peers, both ways, and by hand          the proof of a program of its own, and 30 seconds
 #   interfaces typed clients and objects with those of the reference library  the proofs of five crates of its own, and a minute
 #   sessions  15,000 random sessions with two servers                          ten minutes
 #   crowd     the same with servers that serve 16 of them at once              ten minutes
@@ -49,7 +49,7 @@ server=$root/crates/cp_cli/out/cp_cli
 
 crates_with() { (cd "$root/crates" && grep -rl "$1" -- */src | cut -d/ -f1 | sort -u); } # TEXT
 
-library() { "$root/tools/build.sh" bench_c; }
+library() { "$root/tools/build.sh" cp_probes jamdrosek_c; }
 
 built() { "$root/tools/build.sh" cp_cli; }
 
@@ -74,7 +74,7 @@ peers() { built && "$here/peers/run.sh" "$server" "$folder"; }
 
 matrix() { built && "$here/callees/answering/build.sh" "$folder" && "$here/peers/matrix.sh" "$server" "$folder" "$folder/answering"; }
 
-relay() { built && "$here/relay/run.sh" "$server" "$folder/relay"; }
+relay() { built && "$here/relay/run.sh" "$server" "$folder/relayed"; }
 
 guard() { built && "$here/guard/run.sh" "$server" "$folder"; }
 

@@ -40,6 +40,12 @@ def call(question, method=0):
     return frame(words(struct_at(0, 1, 1), CALL, struct_at(0, 3, 3), question | method << 32, DESK, 0, *target))
 
 
+def large_call(question, count):
+    """A call of the Desk with a list of so many bytes."""
+    head = words(struct_at(0, 1, 1), CALL, struct_at(0, 3, 3), question, DESK, 0, struct_at(2, 1, 1), struct_at(3, 0, 2), 0, 0, 0)
+    return frame(head + words(struct_at(1, 0, 1), 0, 1 | 2 << 32 | count << 35) + bytes((count + 7) // 8 * 8))
+
+
 def call_of_answer(question, answer, given):
     """A call of the first pointer of an answer, which gives the object of this number."""
     target = [1 << 32, struct_at(0, 1, 1), answer, 0xF_0000_0001, 1 << 32 | 4, 1]
@@ -213,7 +219,7 @@ def the_peers_abort_closes_first():
 def refused_bytes():
     server = Server(2, "--at-once", "2")
     peer = server.peer().send(bootstrap(0), b"\xff" * 64)
-    assert peer.kinds(1) == [RETURN]
+    assert peer.kinds(2) == [RETURN, ABORT]
     assert peer.is_closed()
     peer.close()
     time.sleep(0.2)
@@ -272,13 +278,21 @@ def one_that_finishes_nothing():
     server = Server(1, "--at-once", "2")
     peer = server.peer().send(bootstrap(0))
     assert peer.kinds(1) == [RETURN]
-    for question in range(1, 6_000):
-        assert peer.send(call(question)).kinds(1) == [RETURN]
-    try:
-        peer.send(*(call(question) for question in range(6_000, 7_000)))
-    except ConnectionError:
-        pass
-    server.ended(1, "closed: too many bytes are kept")
+    for first in range(1, 65_536, 255):
+        peer.send(*(call(question) for question in range(first, first + 255)))
+        assert peer.kinds(255) == [RETURN] * 255
+    # All 65,536 answers are kept.
+    assert peer.send(call(65_536)).kinds(1) == [ABORT]
+    peer.close()
+    server.ended()
+
+
+def a_large_call():
+    server = Server(1, "--at-once", "2")
+    peer = server.peer().send(bootstrap(0), large_call(1, 30_000_000), call(2))
+    assert peer.kinds(3) == [RETURN] * 3
+    peer.close()
+    server.ended()
 
 
 def calls_that_fail():
@@ -366,6 +380,7 @@ TRIALS = [
     idle,
     one_that_does_not_read,
     one_that_finishes_nothing,
+    a_large_call,
     calls_that_fail,
     silent_and_half_open,
     opened_and_closed,

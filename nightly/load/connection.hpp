@@ -127,7 +127,10 @@ class Connection {
         return close_it();
       case RESET: will_say("device: Connection reset by peer (os error 104)"); return close_it(true);
       case CUT: will_refuse("F3 Truncated"); send_part_of_a_frame(); return close_it();
-      case GARBAGE: will_refuse("F1 TooManySegments"); return send_now(Bytes(64, 0xff));
+      case GARBAGE:
+        will_refuse("F1 TooManySegments");
+        reason = "F1 too many segments";
+        return send_now(Bytes(64, 0xff));
       case STOPPED: will_say("closed: a message didn't come whole in time"); return send_part_of_a_frame();
       default: will_say("closed: no byte moved in time");
     }

@@ -145,7 +145,7 @@ question:2 exception failed \"it came to nothing\"" "i=$trial m=2 {(320000000000
     report "call, $1, $2 server"
 }
 
-answers() { # WAY SERVER TEXT    a client with objects that the server calls
+answers() { # WAY SERVER    a client with objects that the server calls
     local wanted said
     way=$1
     serve "$2"
@@ -158,7 +158,7 @@ answers() { # WAY SERVER TEXT    a client with objects that the server calls
 gives 1005
 asks 505
 becomes 7
-reflects $3"
+reflects 0"
     stop
     report "objects, $1, $2 server"
 }
@@ -176,8 +176,7 @@ for library in C++ Rust; do
     calls relay "$library"
 done
 for way in ${answering:+direct relay}; do
-    # (It is called back with results that are to stay here by the one, which a vat doesn't do, and by the other as by anyone.)
-    answers "$way" C++ "the connection is closed"
-    answers "$way" Rust 0
+    answers "$way" C++
+    answers "$way" Rust
 done
 exit "$failed"

@@ -1,5 +1,5 @@
 #!/usr/bin/env python3
-"""odd.py PORT    a peer by hand, which makes tail calls in orders that libcapnp doesn't choose, of `trials serve`: a line for each case, and status 1
+"""odd.py PORT    a peer by hand, which makes tail calls in orders that no library chooses, of `trials serve`: a line for each case, and status 1
 where one isn't as it should be. Messages are the text that `capnp encode` reads."""
 import socket
 import struct
@@ -7,6 +7,7 @@ import subprocess
 import sys
 
 RPC = "/usr/include/capnp/rpc.capnp"
+RELEASE = "(release = (id = 1, referenceCount = 1))"
 TAILS, MAKER, CELL = "0xe5a10000000000c2", "0xe5a10000000000c1", "0xe5a1000000000002"
 
 
@@ -176,6 +177,39 @@ def results_are_taken_twice(peer):
     peer.lives()
 
 
+def an_exception_is_taken(peer):
+    peer.calls(1, "(senderHosted = 5)")
+    peer.send(call(2, TAILS, 3, to="yourself"), take(0, 2))
+    peer.wants(*is_sent_elsewhere(2))
+    peer.wants("finish = (questionId = 0")
+    peer.wants("answerId = 1,", "no such method")
+    peer.send(finish(2))
+    peer.lives()
+
+
+def results_are_no_reference_of_the_peers(peer):
+    peer.send(make(2), finish(2, "false"))
+    peer.wants(*is_sent_elsewhere(2))
+    peer.send(make(2, "caller"))
+    peer.wants("answerId = 2,", "senderHosted = 1")
+    peer.send(finish(2, "false"), RELEASE)
+    peer.lives()
+    peer.send(RELEASE)
+    peer.wants("abort", "P4 unknown export")
+
+
+def a_disembargo_comes_by_the_call(peer):
+    given = "promisedAnswer = (questionId = 2, transform = [(getPointerField = 0)])"
+    peer.send(
+        call(2, MAKER, 1, "(senderHosted = 7)", "yourself"),
+        f"(disembargo = (target = ({given}), context = (senderLoopback = 3)))",
+    )
+    peer.wants("disembargo", "receiverLoopback = 3")
+    peer.send(finish(2))
+    peer.wants(*is_sent_elsewhere(2))
+    peer.lives()
+
+
 def the_vat_does_not_act_on_a_call(peer):
     peer.send(call(2, MAKER, 1, "(thirdPartyHosted = (vineId = 1))", "yourself"))
     peer.wants("unimplemented")
@@ -195,6 +229,9 @@ CASES = [
     a_number_is_used_again_too_early,
     results_of_no_call_are_taken,
     results_are_taken_twice,
+    an_exception_is_taken,
+    results_are_no_reference_of_the_peers,
+    a_disembargo_comes_by_the_call,
     the_vat_does_not_act_on_a_call,
 ]
 

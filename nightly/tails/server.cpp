@@ -8,6 +8,7 @@
 
 class TailsServer final : public Tails::Server {
   kj::Timer* timer;
+  kj::Maybe<Cell::Client> held;
 
   kj::Promise<void> pause(uint64_t milliseconds) { return timer->afterDelay(milliseconds * kj::MILLISECONDS); }
 
@@ -34,6 +35,17 @@ class TailsServer final : public Tails::Server {
   kj::Promise<void> asks(AsksContext context) override {
     return context.getParams().getCell().getRequest().send().then(
         [context](auto&& said) mutable { context.getResults().setValue(said.getValue()); });
+  }
+
+  kj::Promise<void> hold(HoldContext context) override {
+    held = nullptr;
+    if (context.getParams().hasCell()) held = context.getParams().getCell();
+    return kj::READY_NOW;
+  }
+
+  kj::Promise<void> give(GiveContext context) override {
+    KJ_IF_MAYBE(cell, held) context.getResults().setCell(*cell);
+    return kj::READY_NOW;
   }
 
   kj::Promise<void> after(AfterContext context) override { return pause(context.getParams().getMilliseconds()); }

@@ -1,4 +1,4 @@
-//! What the client and the server over the Rust library share: structs by the places of their fields (Debian has no plugin of
+//! What the clients and the servers over the Rust library share: structs by the places of their fields (Debian has no plugin of
 //! `capnp compile` that writes Rust), calls and objects by the numbers of their methods, and a connection.
 use async_io::Async;
 use capnp::capability::{self, FromClientHook, FromServer, Promise, RemotePromise};
@@ -7,13 +7,17 @@ use capnp::private::layout::{PointerBuilder, PointerReader, StructBuilder, Struc
 use capnp::traits::{FromPointerBuilder, FromPointerReader};
 use capnp::{any_pointer, Error, Result, Word};
 use capnp_rpc::twoparty::{VatId, VatNetwork};
-use capnp_rpc::RpcSystem;
-use futures::AsyncReadExt;
+use capnp_rpc::{Disconnector, RpcSystem};
+use futures::executor::LocalSpawner;
+use futures::task::LocalSpawnExt;
+use futures::{future, AsyncReadExt};
+use std::future::Future;
 use std::net::TcpStream;
 
 pub type Params = capability::Params<any_pointer::Owned>;
 pub type Results = capability::Results<any_pointer::Owned>;
 pub type Called = RemotePromise<any_pointer::Owned>;
+type Request = capability::Request<any_pointer::Owned, any_pointer::Owned>;
 
 /// A method: its interface and its number.
 pub type Method = (u64, u16);
@@ -30,6 +34,25 @@ pub const ECHO: Method = (TRIAL, 0);
 pub const AFTER: Method = (TRIAL, 1);
 pub const BECOME: Method = (TRIAL, 2);
 pub const TELL: Method = (TRIAL, 3);
+
+/// The methods of ../../../tails/tails.capnp but those of a Cell.
+pub mod tails {
+    use super::Method;
+
+    const MAKER: u64 = 0xe5a1_0000_0000_00c1;
+    const TAILS: u64 = 0xe5a1_0000_0000_00c2;
+    pub const MAKE: Method = (MAKER, 0);
+    pub const PASS: Method = (MAKER, 1);
+    pub const COUNT: Method = (TAILS, 0);
+    pub const MADE: Method = (TAILS, 1);
+    pub const PASSED: Method = (TAILS, 2);
+    pub const BECOME: Method = (TAILS, 3);
+    pub const ASKS: Method = (TAILS, 4);
+    pub const HOLD: Method = (TAILS, 5);
+    pub const HELD: Method = (TAILS, 6);
+    pub const GIVE: Method = (TAILS, 7);
+    pub const AFTER: Method = (TAILS, 8);
+}
 
 /// A struct that came. No struct of these schemas has more than one pointer.
 pub struct View<'a>(StructReader<'a>);
@@ -103,8 +126,13 @@ impl Remote {
         capnp_rpc::new_client(Served(Box::new(object)))
     }
 
-    /// Sends a call. Params are as wide as the widest of the schemas.
+    /// Sends a call.
     pub fn call(&self, method: Method, words: &[u64], cap: Option<&Remote>) -> Called {
+        self.request(method, words, cap).send()
+    }
+
+    /// Params are as wide as the widest of the schemas.
+    fn request(&self, method: Method, words: &[u64], cap: Option<&Remote>) -> Request {
         let mut request = self.0.new_call(method.0, method.1, None);
         let mut params = request.get().init_as::<Draft<2, 1>>();
         for (place, word) in words.iter().enumerate() {
@@ -113,7 +141,20 @@ impl Remote {
         if let Some(cap) = cap {
             params.set_cap(cap);
         }
-        request.send()
+        request
+    }
+
+    /// Answers a call by another one to the peer that made it, as a tail call: it sends that, and a Return that takes its results.
+    /// This library makes one only through the hook of the results, and not to the end: it would answer again as the method ends, it
+    /// knows no `resultsSentElsewhere` unless the call was given up, and it never frees the number of the call that is answered.
+    pub fn answer(&self, results: Results, method: Method, words: &[u64], cap: Option<&Remote>) -> Promise<(), Error> {
+        drop(results.hook.direct_tail_call(self.request(method, words, cap).hook));
+        Promise::from_future(future::pending())
+    }
+
+    /// A promise, which comes to what a future gives.
+    pub fn promise(future: impl Future<Output = Result<Remote>> + 'static) -> Self {
+        capnp_rpc::new_promise_client(Box::pin(async { Ok(capability::Client::new(future.await?.0)) }))
     }
 
     /// Waits until a promise came to what it stands for.
@@ -180,6 +221,21 @@ impl Object for Cell {
         results.get().init_as::<Draft<1, 0>>().set_word(0, self.held);
         Promise::ok(())
     }
+}
+
+/// Connects to the server of a port: the object that it offers, and what ends the connection.
+pub async fn connect(port: u16, spawner: &LocalSpawner) -> Result<(Remote, Disconnector<VatId>)> {
+    let stream = Async::<TcpStream>::connect(([127, 0, 0, 1], port)).await?;
+    stream.get_ref().set_nodelay(true)?;
+    let mut system = vat(stream, VatId::Client, None);
+    let (bootstrap, disconnector) = (system.bootstrap(VatId::Server), system.get_disconnector());
+    run(system, spawner);
+    Ok((bootstrap, disconnector))
+}
+
+/// Runs one end of a connection until it ends.
+pub fn run(system: RpcSystem<VatId>, spawner: &LocalSpawner) {
+    spawner.spawn_local(async { system.await.unwrap_or_else(|error| eprintln!("{error}")) }).expect("a task");
 }
 
 /// One end of a connection.

@@ -5,15 +5,12 @@
 //!   left             with either: prints `open` once calls are open, and sees them fail as the server goes
 //!   late             with either: calls again after 4 seconds, when the server has closed
 //! The status is 0 if each went as it should; else what didn't is said.
-use async_io::{Async, Timer};
+use async_io::Timer;
 use capnp::capability::Promise;
 use capnp::{Error, ErrorKind, Result};
-use capnp_rpc::twoparty::VatId;
 use futures::executor::LocalPool;
 use futures::future::join_all;
-use futures::task::LocalSpawnExt;
 use peers::*;
-use std::net::TcpStream;
 use std::rc::Rc;
 use std::time::Duration;
 
@@ -192,12 +189,7 @@ fn main() -> Result<()> {
     let mut pool = LocalPool::new();
     let spawner = pool.spawner();
     pool.run_until(async move {
-        let stream = Async::<TcpStream>::connect(([127, 0, 0, 1], port)).await?;
-        stream.get_ref().set_nodelay(true)?;
-        let mut system = vat(stream, VatId::Client, None);
-        let desk: Remote = system.bootstrap(VatId::Server);
-        let disconnector = system.get_disconnector();
-        spawner.spawn_local(async { system.await.unwrap_or_else(|error| eprintln!("{error}")) }).expect("a task");
+        let (desk, disconnector) = connect(port, &spawner).await?;
         session(&desk, kind).await?;
         disconnector.await
     })

@@ -1,10 +1,11 @@
-//! A server by the Rust library, with the objects of ../../../callees/server.cpp. Usage: server PORT
+//! A server by the Rust library, with an object that has the methods of those of ../../../../callees/server.cpp and
+//! ../../../../tails/server.cpp. Usage: server PORT
 use async_io::{Async, Timer};
 use capnp::capability::Promise;
 use capnp::{Error, Result};
+use capnp_rpc::pry;
 use capnp_rpc::twoparty::VatId;
 use futures::executor::LocalPool;
-use futures::task::LocalSpawnExt;
 use peers::*;
 use std::net::TcpListener;
 use std::time::Duration;
@@ -47,24 +48,55 @@ async fn after(params: Params, mut results: Results) -> Result<()> {
 async fn becoming(params: Params, mut results: Results) -> Result<()> {
     let params = params.get()?.get_as::<View>()?;
     let (milliseconds, cell) = (params.word(0), params.cap()?);
-    let promise = capnp_rpc::new_promise_client::<Remote, _>(Box::pin(async move {
+    let promise = Remote::promise(async move {
         pause(milliseconds).await;
-        let cell = cell.ok_or_else(|| Error::failed("it came to nothing".into()))?;
-        Ok(cell.into_client())
-    }));
+        cell.ok_or_else(|| Error::failed("it came to nothing".into()))
+    });
     results.get().init_as::<Draft<0, 1>>().set_cap(&promise);
     Ok(())
 }
 
+fn given_cap(params: &Params) -> Result<Remote> {
+    let cap = params.get()?.get_as::<View>()?.cap()?;
+    cap.ok_or_else(|| Error::failed("no capability".into()))
+}
+
 async fn tell(params: Params, mut results: Results) -> Result<()> {
-    let cell = params.get()?.get_as::<View>()?.cap()?;
-    let cell = cell.ok_or_else(|| Error::failed("no cell".into()))?;
-    let held = number(cell.call(GET, &[], None)).await?;
+    let held = number(given_cap(&params)?.call(GET, &[], None)).await?;
     results.get().init_as::<Draft<1, 0>>().set_word(0, held);
     Ok(())
 }
 
-struct Trial;
+async fn made(params: Params, mut results: Results) -> Result<()> {
+    let cell = given(given_cap(&params)?.call(tails::MAKE, &[], None)).await?;
+    results.get().init_as::<Draft<0, 1>>().set_cap(&cell);
+    Ok(())
+}
+
+async fn passed(params: Params, mut results: Results) -> Result<()> {
+    let cell = given(given_cap(&params)?.call(tails::PASS, &[], Some(&Remote::of(Cell { held: 5 })))).await?;
+    results.get().init_as::<Draft<0, 1>>().set_cap(&cell);
+    Ok(())
+}
+
+/// Holds what it is given.
+struct Trial {
+    held: Option<Remote>,
+}
+
+impl Trial {
+    fn hold(&mut self, params: Params) -> Result<()> {
+        self.held = params.get()?.get_as::<View>()?.cap()?;
+        Ok(())
+    }
+
+    fn give_held(&self, mut results: Results) {
+        let results = results.get().init_as::<Draft<0, 1>>();
+        if let Some(held) = &self.held {
+            results.set_cap(held);
+        }
+    }
+}
 
 impl Object for Trial {
     fn call(&mut self, method: Method, params: Params, results: Results) -> Promise<(), Error> {
@@ -73,9 +105,20 @@ impl Object for Trial {
             LATER => Promise::from_future(later(results)),
             NEVER => Promise::err(Error::failed("no".into())),
             ECHO => Promise::from_future(echo(params, results)),
-            AFTER => Promise::from_future(after(params, results)),
-            BECOME => Promise::from_future(becoming(params, results)),
-            TELL => Promise::from_future(tell(params, results)),
+            AFTER | tails::AFTER => Promise::from_future(after(params, results)),
+            BECOME | tails::BECOME => Promise::from_future(becoming(params, results)),
+            TELL | tails::ASKS => Promise::from_future(tell(params, results)),
+            tails::COUNT => pry!(given_cap(&params)).answer(results, GET, &[], None),
+            tails::MADE => Promise::from_future(made(params, results)),
+            tails::PASSED => Promise::from_future(passed(params, results)),
+            tails::HOLD => {
+                pry!(self.hold(params));
+                Promise::ok(())
+            }
+            tails::GIVE => {
+                self.give_held(results);
+                Promise::ok(())
+            }
             _ => Promise::err(Error::unimplemented("no such method".into())),
         }
     }
@@ -90,8 +133,8 @@ fn main() -> Result<()> {
         loop {
             let (stream, _) = listener.accept().await?;
             stream.get_ref().set_nodelay(true)?;
-            let system = vat(stream, VatId::Server, Some(Remote::of(Trial).into_client()));
-            spawner.spawn_local(async { system.await.unwrap_or_else(|error| eprintln!("{error}")) }).expect("a task");
+            let trial = Remote::of(Trial { held: None });
+            run(vat(stream, VatId::Server, Some(trial.into_client())), &spawner);
         }
     })
 }
