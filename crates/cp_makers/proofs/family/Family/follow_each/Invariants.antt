@@ -1,0 +1,7 @@
+use Rattle.std.proofs.Common.{◌≡◌, drop}
+use Rattle.cp_makers.specs.Family.{kin_of, followed}
+use Rattle.cp_makers.proofs.family.Family.follow_each.Given as goal
+
+-- once the others are done, after those that were, all are
+abbrev pub invariant-loop-deed : goal.invariant-loop-deed
+invariant-loop-deed g l = followed l.number (drop l.deed-index l.deeds) (kin_of l.self) ≡ followed l.number l.deeds (kin_of l.fn.self)

@@ -1,0 +1,245 @@
+-- The objects of a connection, with those that they make.
+use Rattle.std.specs.Prelude.{◌≡◌, ℕ, ◌+◌, ◌-◌, ◌==◌, ◌&&◌, ◌||◌, Bool, true, false, if◌then◌else◌, nat_lt, not, List, [], ◌∷◌, ◌++◌, Option, Some, None}
+use Rattle.std.specs.List.{list_any}
+use Rattle.std.specs.Option.{option_map_or}
+use Rattle.std.specs.FinMap.{get, insert, remove, empty, values, entries}
+use Rattle.std.specs.FinSet as set
+use Rattle.cp_tables.specs.Table.{Table, with_change}
+use Rattle.cp_refs.specs.declared.call.Request.{Request}
+use Rattle.cp_refs.specs.declared.outcome.Outcome.{Outcome}
+use Rattle.cp_vat_machine.specs.InUse.{caps_of}
+use Rattle.cp_servants.specs.declared.servant.Ask.{Ask}
+use Rattle.cp_servants.specs.declared.servant.Reply.{Reply}
+use Rattle.cp_servants.specs.declared.servant.Reply.TheVariants as replies
+use Rattle.cp_servants.specs.declared.servant.Settled.{Settled}
+use Rattle.cp_servants.specs.Outcomes.{named_imports}
+use Rattle.cp_makers.specs.declared.here.Deed.{Deed}
+use Rattle.cp_makers.specs.declared.here.Deed.TheVariants as deeds
+use Rattle.cp_makers.specs.declared.member.Member.{Member}
+use Rattle.cp_makers.specs.declared.waker.Waker.{Waker}
+use Rattle.cp_makers.specs.declared.family.Family.{Family}
+use Rattle.cp_makers.specs.Here.{Place, begun, place_of}
+use Rattle.cp_makers.specs.Maker.{MakerKind}
+use Rattle.cp_makers.specs.Members.{earlier, is_later, newborn, one_more}
+use Rattle.cp_makers.specs.Numbers.{Numbers, is_among, is_number, without, without_each}
+
+-- The objects by their numbers; where they are, and which number the next one gets; below which number they stay; which are to be polled; who owes the answer
+-- of which call; who is to be woken elsewhere, in order; and the time before which none is to be woken here.
+pub record Kin (A : Type 0) : Type 0 where
+  pub members : Table (Member A)
+  pub here : Place A
+  pub stays : ℕ
+  pub awake : Numbers
+  pub owed : Table ℕ
+  pub wakes : List Waker
+  pub first_alarm : Option ℕ
+
+abbrev pub kin_of : {A : Type 0} → Family A → Kin A
+kin_of f = record {
+  members = f.members;
+  here = place_of f.here;
+  stays = f.stays;
+  awake = f.awake;
+  owed = f.owed;
+  wakes = f.wakes.items;
+  first_alarm = f.first_alarm;
+}
+
+-- no objects
+abbrev pub alone : {A : Type 0} → Kin A
+alone = record { members = empty; here = begun; stays = 0; awake = set.empty; owed = empty; wakes = []; first_alarm = None }
+
+-- the first time that is to come
+abbrev pub first_of : ℕ → Option ℕ → Option ℕ → Option ℕ
+first_of now first None = first
+first_of now first (Some time) = if nat_lt now time then Some (earlier first time) else first
+
+-- what the object of this number settled, if it owed that
+abbrev pub own_of : ℕ → Option Settled → Table ℕ → Option Settled
+own_of number None owed = None
+own_of number (Some given) owed = if is_number number (get owed given.ticket) then Some given else None
+
+module _ {A : Type 0} where
+  -- one object more is there, under the next number, and is to be polled
+  abbrev pub joining : A → Kin A → Kin A
+  joining object kin = record kin {
+    members = insert kin.members kin.here.next (newborn object);
+    awake = set.insert kin.awake kin.here.next;
+    here = record kin.here { next = kin.here.next + 1 };
+  }
+
+  -- these are there too, under the next numbers, in order
+  abbrev pub joined : List A → Kin A → Kin A
+  joined [] kin = kin
+  joined (object ∷ more) kin = joined more (joining object kin)
+
+  -- what was made is there from now on
+  abbrev pub with_those_made : Kin A → Kin A
+  with_those_made kin = joined kin.here.made (record kin { here = record kin.here { made = [] } })
+
+  -- the program adds one, which stays
+  abbrev pub adding : A → Kin A → Kin A
+  adding object kin =
+      let more = with_those_made (record kin { here = record kin.here { made = kin.here.made ++ object ∷ [] } }) in
+      record more { stays = more.here.next }
+
+  -- the object of this number is as it was but for this
+  abbrev pub changing : ℕ → (Member A → Member A) → Kin A → Kin A
+  changing number change kin = record kin { members = with_change kin.members number change }
+
+  -- it is this from now on
+  abbrev pub placing : ℕ → Member A → Kin A → Kin A
+  placing number member kin = record kin { members = insert kin.members number member }
+
+  -- it is to be polled
+  abbrev pub awoken : ℕ → Kin A → Kin A
+  awoken number kin = record kin { awake = set.insert kin.awake number }
+
+  -- it isn't to be polled any more
+  abbrev pub resting : ℕ → Kin A → Kin A
+  resting number kin = record kin { awake = set.remove kin.awake number }
+
+  -- it is to be polled, if it is there
+  abbrev pub waking : ℕ → Kin A → Kin A
+  waking number kin = option_map_or (λ member. awoken number kin) (get kin.members number) kin
+
+  -- what the object of this number did is done
+  abbrev pub following : ℕ → Deed → Kin A → Kin A
+  following number (deeds.Keep kept) kin = changing number (λ m. record m { keeps = m.keeps ++ kept ∷ [] }) kin
+  following number (deeds.GiveUp kept) kin = changing number (λ m. record m { keeps = without kept m.keeps }) kin
+  following number (deeds.Wake waker) kin =
+      if waker.session == kin.here.this.session then waking waker.object kin else record kin { wakes = kin.wakes ++ waker ∷ [] }
+  following number (deeds.WakeAt time) kin =
+      record (changing number (λ m. record m { alarm = Some time }) kin) { first_alarm = Some (earlier kin.first_alarm time) }
+
+  abbrev pub followed : ℕ → List Deed → Kin A → Kin A
+  followed number [] kin = kin
+  followed number (deed ∷ more) kin = followed number more (following number deed kin)
+
+  -- What the object of this number made is there from now on, and what else it did is done, in order.
+  abbrev pub settled : ℕ → Kin A → Kin A
+  settled number kin = let more = with_those_made kin in followed number more.here.deeds (record more { here = record more.here { deeds = [] } })
+
+  -- where the object of this number is when it does something, and how it leaves that
+  abbrev pub entered : ℕ → Kin A → Place A
+  entered number kin = record kin.here { this = record kin.here.this { object = number } }
+
+  abbrev pub leaving : Place A → Kin A → Kin A
+  leaving place kin = record kin { here = place }
+
+  -- a reply is noted: what the object gave up, or that it owes the answer
+  abbrev pub noting : ℕ → ℕ → Reply → Kin A → Kin A
+  noting number ticket (replies.Now outcome gives_up) kin = changing number (λ m. record m { holds = without_each gives_up m.holds }) kin
+  noting number ticket replies.Later kin = record kin { owed = insert kin.owed ticket number }
+
+  -- a call of the object's own is noted, if it makes one
+  abbrev pub asking : ℕ → Option Ask → Kin A → Kin A
+  asking number None kin = kin
+  asking number (Some ask) kin = changing number (λ m. record m { asked = one_more m.asked }) kin
+
+  -- what the object of this number settled is owed no more
+  abbrev pub answering : ℕ → Settled → Kin A → Kin A
+  answering number given kin = record (changing number (λ m. record m { holds = without_each given.gives_up m.holds }) kin) { owed = remove kin.owed given.ticket }
+
+  -- the object owes an answer, or another keeps it
+  abbrev pub is_held : Kin A → ℕ → Bool
+  is_held kin k = is_among k (values kin.owed) || list_any (λ member. is_among k member.keeps) (values kin.members)
+
+  -- these are those that owe an answer or that others keep
+  abbrev pub AreHeld : Kin A → Numbers → Type 0
+  AreHeld kin held = (k : ℕ) → set.contains held k ≡ is_held kin k
+
+  -- An object goes unless the connection refers to it: the program didn't add it, it waits for no outcome, it owes no answer, and none keeps it.
+  abbrev pub is_idle : Kin A → ℕ → Member A → Bool
+  is_idle kin k member = not (nat_lt k kin.stays) && member.asked == 0 && not (is_held kin k)
+
+  -- those of these, in order
+  abbrev pub idle_among : Kin A → List (ℕ × Member A) → List ℕ
+  idle_among kin [] = []
+  idle_among kin (entry ∷ more) = if is_idle kin entry.0 entry.1 then entry.0 ∷ idle_among kin more else idle_among kin more
+
+  abbrev pub idle_of : Kin A → List ℕ
+  idle_of kin = idle_among kin (entries kin.members)
+
+  -- the object of this number is gone
+  abbrev pub losing : ℕ → Kin A → Kin A
+  losing number kin = record kin { members = remove kin.members number; awake = set.remove kin.awake number }
+
+  -- the imports that it held
+  abbrev pub held_by : ℕ → Kin A → List ℕ
+  held_by number kin = option_map_or (λ member. member.holds) (get kin.members number) []
+
+  -- the objects whose time has come, in order
+  abbrev pub due_among : ℕ → List (ℕ × Member A) → List ℕ
+  due_among now [] = []
+  due_among now (entry ∷ more) = if is_later now entry.1.alarm then due_among now more else entry.0 ∷ due_among now more
+
+  -- the first of their times that is to come, and of this one
+  abbrev pub next_alarm : ℕ → Option ℕ → List (ℕ × Member A) → Option ℕ
+  next_alarm now first [] = first
+  next_alarm now first (entry ∷ more) = next_alarm now (first_of now first entry.1.alarm) more
+
+  -- the time of this object has come
+  abbrev pub ringing : ℕ → Kin A → Kin A
+  ringing k kin = awoken k (changing k (λ m. record m { alarm = None }) kin)
+
+  abbrev pub rung : List ℕ → Kin A → Kin A
+  rung [] kin = kin
+  rung (k ∷ more) kin = rung more (ringing k kin)
+
+  -- Those are to be polled whose time has come, where one's may have.
+  abbrev pub woken : Kin A → Kin A
+  woken kin =
+      if is_later kin.here.now kin.first_alarm then kin
+      else record (rung (due_among kin.here.now (entries kin.members)) kin) { first_alarm = next_alarm kin.here.now None (entries kin.members) }
+
+-- Of objects of one kind.
+module _ {A : Type 0} (kind : MakerKind A A) where
+  -- The object of this number is called. It is given the call's imports, and does what its kind says. What it replied is noted, it is to be polled, and what it
+  -- did beside is done.
+  pub record Calls (number ticket : ℕ) (request : Request) (reply : Reply) (old new : Kin A) : Type 0 where
+    pub before : Member A
+    pub object : A
+    pub place : Place A
+    pub was : get old.members number ≡ Some before
+    pub takes : kind.takes before.object ticket request (entered number old) reply place object
+    pub is : new ≡ settled number (awoken number (noting number ticket reply
+        (leaving place (placing number (record before { object = object; holds = before.holds ++ named_imports request.caps }) old))))
+
+  -- After a poll an object is to be polled again if it gave something, which is owed no more, or says that it may give more.
+  pub data GoesOn (number : ℕ) (object : A) (kin : Kin A) : Option Settled → Kin A → Type 0 where
+    gave_some : (given : Settled) → GoesOn number object kin (Some given) (answering number given kin)
+    says_more : kind.may_go_on object → GoesOn number object kin None kin
+    rests : GoesOn number object kin None (resting number kin)
+
+  -- The object of this number is polled. What it settled counts if it owed that, and what it did beside is done.
+  pub record Polls (number : ℕ) (given : Option Settled) (old new : Kin A) : Type 0 where
+    pub before : Member A
+    pub object : A
+    pub place : Place A
+    pub said : Option Settled
+    pub rest : Kin A
+    pub was : get old.members number ≡ Some before
+    pub polls : kind.polls before.object (entered number old) said place object
+    pub own : given ≡ own_of number said old.owed
+    pub goes_on : GoesOn number object (leaving place (placing number (record before { object = object }) old)) given rest
+    pub is : new ≡ settled number rest
+
+  -- It says which call it makes next, which is noted, and what it did beside is done.
+  pub record Asks (number : ℕ) (ask : Option Ask) (old new : Kin A) : Type 0 where
+    pub before : Member A
+    pub object : A
+    pub place : Place A
+    pub was : get old.members number ≡ Some before
+    pub asks : kind.asks before.object (entered number old) ask place object
+    pub is : new ≡ settled number (asking number ask (leaving place (placing number (record before { object = object }) old)))
+
+  -- It is told what a call of its own came to, and given the imports of that. It is to be polled, and what it did beside is done.
+  pub record Tells (number mark : ℕ) (outcome : Outcome) (old new : Kin A) : Type 0 where
+    pub before : Member A
+    pub object : A
+    pub place : Place A
+    pub was : get old.members number ≡ Some before
+    pub is_told : kind.is_told before.object mark outcome (entered number old) place object
+    pub is : new ≡ settled number (awoken number (leaving place
+        (placing number (record before { object = object; asked = before.asked - 1; holds = before.holds ++ named_imports (caps_of outcome) }) old)))

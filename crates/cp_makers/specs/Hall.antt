@@ -1,0 +1,30 @@
+-- What the objects of a connection do, of whatever form they are.
+use Rattle.std.specs.Prelude.{ℕ, List, Option}
+use Rattle.cp_refs.specs.declared.call.Request.{Request}
+use Rattle.cp_refs.specs.declared.outcome.Outcome.{Outcome}
+use Rattle.cp_servants.specs.declared.servant.Ask.{Ask}
+use Rattle.cp_servants.specs.declared.servant.Reply.{Reply}
+use Rattle.cp_servants.specs.declared.servant.Settled.{Settled}
+use Rattle.cp_makers.specs.declared.waker.Waker.{Waker}
+
+-- Which numbers have an object. What it does to them that one is called under a ticket, is polled, says which call it makes next, and is told what its call of a
+-- mark came to. Which is polled first of those from a number on, and when one may give more though nothing more comes. How many may go, which go unless the
+-- connection refers to them, and what it does that one goes, which held these imports. What it does that their session has a number, that it is a
+-- time, that those are woken whose time has come, and that one is woken; when one is to be woken first; and who is to be woken elsewhere.
+pub record HallKind (H : Type 0) : Type 1 where
+  pub holds : ℕ → H → Type 0
+  pub calls : ℕ → ℕ → Request → Reply → H → H → Type 0
+  pub polls : ℕ → Option Settled → H → H → Type 0
+  pub asks : ℕ → Option Ask → H → H → Type 0
+  pub tells : ℕ → ℕ → Outcome → H → H → Type 0
+  pub is_next : ℕ → Option ℕ → H → Type 0
+  pub may_go_on : H → Type 0
+  pub guests : H → ℕ
+  pub idle : H → List ℕ
+  pub loses : ℕ → List ℕ → H → H → Type 0
+  pub is_in : ℕ → H → H → Type 0
+  pub is_at : ℕ → H → H → Type 0
+  pub wakes_due : H → H → Type 0
+  pub wakes : ℕ → H → H → Type 0
+  pub deadline : H → Option ℕ
+  pub hands_on : Option Waker → H → H → Type 0

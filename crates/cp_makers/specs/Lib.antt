@@ -1,0 +1,9 @@
+pub mod Here
+pub mod Maker
+pub mod Any
+pub mod Numbers
+pub mod Members
+pub mod Family
+pub mod Hall
+pub mod Listed
+pub mod Grown

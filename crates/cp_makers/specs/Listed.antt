@@ -1,0 +1,31 @@
+-- A list of objects that is fixed.
+use Rattle.std.specs.Prelude.{◌≡◌, ℕ, ◌<◌, ◌≤◌, List, [], Option, Some, None, length}
+use Rattle.std.specs.Global.{Vec}
+use Rattle.cp_servants.specs.Servant.{Kind, CallsAt, PollsAt, AsksAt, TellsAt, SomeMaySayMore}
+use Rattle.cp_makers.specs.Hall.{HallKind}
+
+-- each is polled
+abbrev pub IsListed : {A : Type 0} → ℕ → Option ℕ → List A → Type 0
+IsListed from (Some number) objects = (number ≡ from) × (from < length objects)
+IsListed from None objects = length objects ≤ from
+
+-- What is done to the list is done to the object at a place of it. None goes, and none is woken.
+abbrev pub listed : {A : Type 0} → Kind A → HallKind (Vec A)
+listed kind = record {
+  holds = λ number v. number < length v.items;
+  calls = λ number ticket request reply old new. CallsAt kind number ticket request reply old.items new.items;
+  polls = λ number settled old new. PollsAt kind number settled old.items new.items;
+  asks = λ number ask old new. AsksAt kind number ask old.items new.items;
+  tells = λ number mark outcome old new. TellsAt kind number mark outcome old.items new.items;
+  is_next = λ from next v. IsListed from next v.items;
+  may_go_on = λ v. SomeMaySayMore kind v.items;
+  guests = λ v. 0;
+  idle = λ v. [];
+  loses = λ number imports old new. new ≡ old;
+  is_in = λ session old new. new ≡ old;
+  is_at = λ now old new. new ≡ old;
+  wakes_due = λ old new. new ≡ old;
+  wakes = λ number old new. new ≡ old;
+  deadline = λ v. None;
+  hands_on = λ waker old new. (waker ≡ None) × (new ≡ old);
+}

@@ -1,0 +1,361 @@
+//! The objects of a connection, with those that they make.
+
+ghost use Rattle.std.specs.Prelude.{◌≡◌, Some, None, true, false, IsSome, IfOk, OnOk};
+ghost use Rattle.std.specs.FinMap as maps;
+ghost use Rattle.cp_vat_machine.specs.InUse.{caps_of};
+ghost use Rattle.cp_servants.specs.declared.servant.Settled.{Settled};
+ghost use Rattle.cp_servants.specs.Outcomes.{named_imports};
+ghost use Rattle.cp_servants.specs.Requests.{request_of};
+ghost use Rattle.cp_makers.specs.Family.{Asks, Calls, Polls, Tells, adding, alone, answering, asking, awoken, followed, following, held_by, joining, kin_of, losing, noting, own_of, resting, settled, waking, with_those_made};
+ghost use Rattle.cp_makers.specs.Members.{earlier};
+ghost use Rattle.cp_makers.specs.declared.here.Deed.TheVariants as deeds;
+
+use crate::here::{Deed, Here};
+use crate::maker::Maker;
+use crate::member::Member;
+use crate::members::{give_up, keep, let_go, note_ask, set_alarm};
+use crate::number_set::NumberSet;
+use crate::owed::Owed;
+use crate::waker::Waker;
+use cp_refs::{Cap, Outcome, Request};
+use cp_servants::{Ask, Reply, RequestView, Settled, named_imports};
+use cp_tables::Entries;
+use cp_vat_machine::Ids;
+use std::alloc::{AllocError, Global};
+use std::collections::VecDeque;
+
+/// The objects of a connection, with those that they make, by their numbers. Numbers go up, and none is given twice: so a name of an
+/// object that is gone never reaches another.
+///
+/// # When an object is dropped
+///
+/// What the program adds stays. Any other object is dropped once
+///
+/// - nothing of its connection refers to it: the vat doesn't, and no call of it waits to be taken;
+/// - it owes no answer, and waits for the outcome of no call of its own;
+/// - no object keeps it (`Here::keep`).
+///
+/// Then its time to be woken goes with it, and what it kept; and the imports that it held are given up.
+///
+/// # Which objects are polled
+///
+/// Those that were made, called, told or woken since they were polled last, those whose last poll gave something, and those that say
+/// `again` after it.
+#[derive(Drop)]
+pub struct Family<O> {
+    pub(crate) alloc: Global,
+    pub(crate) members: Entries<Member<O>>,
+    pub(crate) here: Here<O>,
+    /// The objects below this number were added by the program.
+    pub(crate) stays: u32,
+    /// The objects that are to be polled.
+    pub(crate) awake: NumberSet,
+    pub(crate) owed: Owed,
+    /// The objects of other sessions that are to be woken, in order.
+    pub(crate) wakes: VecDeque<Waker>,
+    /// No object is to be woken before this time.
+    pub(crate) first_alarm: Option<u64>,
+}
+
+impl<O: Maker<Makes = O>> Family<O> {
+    /// No objects.
+    pub fn new(alloc: Global) -> Family<O>
+        ensures { kin_of result ≡ alone }
+    {
+        Family {
+            alloc,
+            members: Entries::new(alloc),
+            here: Here::new(alloc),
+            stays: 0,
+            awake: NumberSet::new(alloc),
+            owed: Owed::new(alloc),
+            wakes: VecDeque::new(alloc),
+            first_alarm: None,
+        }
+    }
+
+    /// Adds an object that stays as long as the connection. Those that were made before stay too: so add all first, and the bootstrap
+    /// object, which is object 0, before the others.
+    ///
+    /// # Errors
+    ///
+    /// Memory ran out, or there were 2^32 objects.
+    pub fn add(&mut self, object: O) -> Result<Cap, AllocError>
+        ensures added { OnOk result (kin_of self.new ≡ adding object (kin_of self.old)) }
+    {
+        let cap = self.here.make(object)?;
+        self.join()?;
+        self.stays = self.here.next();
+        Ok(cap)
+    }
+
+    /// How many objects there are.
+    pub fn len(&self) -> usize
+        ensures { result ≡ maps.len self.now.members }
+    {
+        self.members.iter().len()
+    }
+
+    /// Calls an object.
+    pub(crate) fn call(
+        &mut self,
+        number: u32,
+        ticket: u64,
+        request: Request,
+    ) -> Result<Reply, AllocError>
+        requires { IsSome (maps.get self.old.members number) }
+        ensures { IfOk result (λ reply. Calls O.makes number ticket request reply (kin_of self.old) (kin_of self.new)) }
+    {
+        let imports = named_imports(self.alloc, &request.caps)?;
+        self.here.enter(number);
+        let member = self.members.entry_mut(number);
+        member.holds.add_each(imports.ids())?;
+        let reply = member.object.call(ticket, request, &mut self.here)?;
+        self.follow_call(number, ticket, &reply)?;
+        Ok(reply)
+    }
+
+    /// Calls an object, with params that are lent.
+    pub(crate) fn call_view(
+        &mut self,
+        number: u32,
+        ticket: u64,
+        request: RequestView<'_>,
+    ) -> Result<Reply, AllocError>
+        requires { IsSome (maps.get self.old.members number) }
+        ensures { IfOk result (λ reply. Calls O.makes number ticket (request_of request.entry) reply (kin_of self.old) (kin_of self.new)) }
+    {
+        let imports = named_imports(self.alloc, &request.caps)?;
+        self.here.enter(number);
+        let member = self.members.entry_mut(number);
+        member.holds.add_each(imports.ids())?;
+        let reply = member.object.call_view(ticket, request, &mut self.here)?;
+        self.follow_call(number, ticket, &reply)?;
+        Ok(reply)
+    }
+
+    /// Polls an object.
+    pub(crate) fn poll(&mut self, number: u32) -> Result<Option<Settled>, AllocError>
+        requires { IsSome (maps.get self.old.members number) }
+        ensures { IfOk result (λ given. Polls O.makes number given (kin_of self.old) (kin_of self.new)) }
+    {
+        self.here.enter(number);
+        let member = self.members.entry_mut(number);
+        let said = member.object.poll(&mut self.here)?;
+        let has_more = member.object.again();
+        let given = self.own(number, said);
+        self.note_poll(number, &given, has_more);
+        self.settle(number)?;
+        Ok(given)
+    }
+
+    /// The next call of an object.
+    pub(crate) fn ask(&mut self, number: u32) -> Result<Option<Ask>, AllocError>
+        requires { IsSome (maps.get self.old.members number) }
+        ensures { IfOk result (λ ask. Asks O.makes number ask (kin_of self.old) (kin_of self.new)) }
+    {
+        self.here.enter(number);
+        let member = self.members.entry_mut(number);
+        let ask = member.object.ask(&mut self.here)?;
+        self.note_call(number, &ask);
+        self.settle(number)?;
+        Ok(ask)
+    }
+
+    /// Tells an object what a call of its own came to.
+    pub(crate) fn tell(
+        &mut self,
+        number: u32,
+        mark: u64,
+        outcome: Outcome,
+    ) -> Result<(), AllocError>
+        requires { IsSome (maps.get self.old.members number) }
+        ensures { OnOk result (Tells O.makes number mark outcome (kin_of self.old) (kin_of self.new)) }
+    {
+        let imports = given_imports(self.alloc, &outcome)?;
+        self.here.enter(number);
+        let member = self.members.entry_mut(number);
+        member.holds.add_each(imports.ids())?;
+        member.asked = member.asked.saturating_sub(1);
+        member.object.told(mark, outcome, &mut self.here)?;
+        self.awake.insert(number)?;
+        self.settle(number)
+    }
+
+    /// Has an object polled, if it is there.
+    pub(crate) fn wake(&mut self, number: u32) -> Result<(), AllocError>
+        ensures { OnOk result (kin_of self.new ≡ waking number (kin_of self.old)) }
+    {
+        if self.members.contains(number) {
+            self.awake.insert(number)?;
+        }
+        Ok(())
+    }
+
+    /// Drops an object, and gives the imports that it held.
+    pub(crate) fn remove(&mut self, number: u32) -> Ids
+        ensures holds { result ≡ held_by number (kin_of self.old) }
+        ensures gone { kin_of self.new ≡ losing number (kin_of self.old) }
+    {
+        self.awake.remove(number);
+        match self.members.remove(number) {
+            Some(member) => member.into_holds(),
+            None => Ids::new(Vec::new(self.alloc)),
+        }
+    }
+
+    /// What follows of a call of an object.
+    fn follow_call(&mut self, number: u32, ticket: u64, reply: &Reply) -> Result<(), AllocError>
+        ensures { OnOk result (kin_of self.new ≡ settled number (awoken number (noting number ticket reply.now (kin_of self.old)))) }
+    {
+        self.note_reply(number, ticket, reply)?;
+        self.awake.insert(number)?;
+        self.settle(number)
+    }
+
+    /// Notes what an object gave up, or that it owes an answer.
+    fn note_reply(&mut self, number: u32, ticket: u64, reply: &Reply) -> Result<(), AllocError>
+        ensures { OnOk result (kin_of self.new ≡ noting number ticket reply.now (kin_of self.old)) }
+    {
+        match reply {
+            Reply::Now { gives_up, .. } => {
+                let_go(&mut self.members, number, gives_up.ids());
+                Ok(())
+            }
+            Reply::Later => self.owed.put(ticket, number),
+        }
+    }
+
+    /// What an object settled, if it was to settle that.
+    fn own(&self, number: u32, said: Option<Settled>) -> Option<Settled>
+        ensures { result ≡ own_of number said self.now.owed }
+    {
+        let settled = said?;
+        if self.owed.is_of(settled.ticket, number) {
+            return Some(settled);
+        }
+        drop(settled);
+        None
+    }
+
+    /// Notes what a poll of an object gave, or whether it may give more.
+    fn note_poll(&mut self, number: u32, given: &Option<Settled>, has_more: bool)
+        ensures gave { (settled : Settled) → given.now ≡ Some settled → kin_of self.new ≡ answering number settled (kin_of self.old) }
+        ensures more { given.now ≡ None → has_more ≡ true → kin_of self.new ≡ kin_of self.old }
+        ensures rests { given.now ≡ None → has_more ≡ false → kin_of self.new ≡ resting number (kin_of self.old) }
+    {
+        match given {
+            Some(settled) => {
+                let_go(&mut self.members, number, settled.gives_up.ids());
+                self.owed.remove(settled.ticket);
+            }
+            None if has_more => {}
+            None => self.awake.remove(number),
+        }
+    }
+
+    /// Notes a call of an object's own, if it makes one.
+    fn note_call(&mut self, number: u32, ask: &Option<Ask>)
+        ensures { kin_of self.new ≡ asking number ask.now (kin_of self.old) }
+    {
+        match ask {
+            Some(_) => note_ask(&mut self.members, number),
+            None => {}
+        }
+    }
+
+    /// Does what an object wanted beside what it answered.
+    fn settle(&mut self, number: u32) -> Result<(), AllocError>
+        ensures { OnOk result (kin_of self.new ≡ settled number (kin_of self.old)) }
+    {
+        self.join()?;
+        let deeds = self.here.take_deeds();
+        self.follow_each(number, &deeds)
+    }
+
+    /// Does what an object wanted, in order.
+    fn follow_each(&mut self, number: u32, deeds: &[Deed]) -> Result<(), AllocError>
+        ensures { OnOk result (kin_of self.new ≡ followed number deeds.now (kin_of self.old)) }
+    {
+        for deed in deeds {
+            self.follow(number, *deed)?;
+        }
+        Ok(())
+    }
+
+    /// Does what an object wanted.
+    fn follow(&mut self, number: u32, deed: Deed) -> Result<(), AllocError>
+        ensures { OnOk result (kin_of self.new ≡ following number deed (kin_of self.old)) }
+    {
+        match deed {
+            Deed::Keep(kept) => keep(&mut self.members, number, kept),
+            Deed::GiveUp(kept) => {
+                give_up(&mut self.members, number, kept);
+                Ok(())
+            }
+            Deed::Wake(waker) => self.pass_on(waker),
+            Deed::WakeAt(time) => {
+                set_alarm(&mut self.members, number, Some(time));
+                self.first_alarm = Some(earlier(self.first_alarm, time));
+                Ok(())
+            }
+        }
+    }
+
+    /// Has an object woken, here or in another session.
+    fn pass_on(&mut self, waker: Waker) -> Result<(), AllocError>
+        ensures { OnOk result (kin_of self.new ≡ following 0 (deeds.Wake waker) (kin_of self.old)) }
+    {
+        if waker.session == self.here.waker().session {
+            return self.wake(waker.object);
+        }
+        self.wakes.push_back(waker)?;
+        Ok(())
+    }
+
+    /// The objects that were made are there from now on, each under the next number.
+    fn join(&mut self) -> Result<(), AllocError>
+        ensures { OnOk result (kin_of self.new ≡ with_those_made (kin_of self.old)) }
+    {
+        let made = self.here.take_made();
+        for object in made {
+            self.join_one(object)?;
+        }
+        Ok(())
+    }
+
+    /// One object more is there, under the next number.
+    fn join_one(&mut self, object: O) -> Result<(), AllocError>
+        ensures { OnOk result (kin_of self.new ≡ joining object (kin_of self.old)) }
+    {
+        let number = self.here.next();
+        let Some(next) = number.checked_add(1) else {
+            drop(object);
+            return Err(AllocError);
+        };
+        self.members.put(number, Member::new(self.alloc, object))?;
+        self.awake.insert(number)?;
+        self.here.set_next(next);
+        Ok(())
+    }
+}
+
+/// The imports that an outcome names, each once.
+fn given_imports(alloc: Global, outcome: &Outcome) -> Result<Ids, AllocError>
+    ensures { IfOk result (λ ids. ids ≡ named_imports (caps_of outcome.now)) }
+{
+    match outcome {
+        Outcome::Results { caps, .. } => named_imports(alloc, caps),
+        Outcome::Failed(_) | Outcome::Canceled => Ok(Ids::new(Vec::new(alloc))),
+    }
+}
+
+/// The earlier of two times.
+pub(crate) fn earlier(first: Option<u64>, time: u64) -> u64
+    ensures { result ≡ earlier first time }
+{
+    match first {
+        Some(first) => first.min(time),
+        None => time,
+    }
+}

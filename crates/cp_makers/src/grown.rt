@@ -1,0 +1,90 @@
+//! A family of objects, as those of a connection.
+
+use crate::family::Family;
+use crate::hall::Hall;
+use crate::maker::Maker;
+use crate::waker::Waker;
+use cp_refs::{Outcome, Request};
+use cp_servants::{Ask, Reply, RequestView, Settled};
+use cp_vat_machine::Ids;
+use std::alloc::{AllocError, Global};
+
+impl<O: Maker<Makes = O>> Hall for Family<O> {
+    ghost use Rattle.cp_makers.specs.Grown.{grown};
+
+    ghost hall = { grown O.makes };
+
+    fn has(&self, number: u32) -> bool {
+        self.members.contains(number)
+    }
+
+    fn call_at(&mut self, number: u32, ticket: u64, request: Request) -> Result<Reply, AllocError> {
+        self.call(number, ticket, request)
+    }
+
+    fn call_view_at(
+        &mut self,
+        _alloc: Global,
+        number: u32,
+        ticket: u64,
+        request: RequestView<'_>,
+    ) -> Result<Reply, AllocError> {
+        self.call_view(number, ticket, request)
+    }
+
+    fn poll_at(&mut self, number: u32) -> Result<Option<Settled>, AllocError> {
+        self.poll(number)
+    }
+
+    fn ask_at(&mut self, number: u32) -> Result<Option<Ask>, AllocError> {
+        self.ask(number)
+    }
+
+    fn tell_at(&mut self, number: u32, mark: u64, outcome: Outcome) -> Result<(), AllocError> {
+        self.tell(number, mark, outcome)
+    }
+
+    fn next_from(&self, number: u32) -> Option<u32> {
+        self.awake.first_from(number)
+    }
+
+    fn again(&self) -> bool {
+        self.awake.first_from(0).is_some()
+    }
+
+    fn guests(&self) -> usize {
+        self.len()
+    }
+
+    fn idle(&self, _alloc: Global) -> Result<Ids, AllocError> {
+        Family::idle(self)
+    }
+
+    fn remove(&mut self, _alloc: Global, number: u32) -> Ids {
+        Family::remove(self, number)
+    }
+
+    fn set_session(&mut self, session: u64) {
+        self.here.set_session(session);
+    }
+
+    fn set_now(&mut self, now: u64) {
+        self.here.set_now(now);
+    }
+
+    fn wake_due(&mut self) -> Result<(), AllocError> {
+        Family::wake_due(self)
+    }
+
+    fn deadline(&self) -> Option<u64> {
+        self.first_alarm
+    }
+
+    fn wake(&mut self, number: u32) -> Result<(), AllocError> {
+        Family::wake(self, number)
+    }
+
+    fn next_wake(&mut self) -> Option<Waker> {
+        self.wakes.pop_front()
+    }
+}

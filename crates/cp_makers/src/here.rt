@@ -1,0 +1,216 @@
+//! What an object may do beside what it answers.
+
+ghost use Rattle.std.specs.Prelude.{◌≡◌, ◌+◌, [], IfOk, IfSome, OnOk, OnErr};
+ghost use Rattle.cp_refs.specs.declared.cap.Cap.TheVariants as caps;
+ghost use Rattle.cp_makers.specs.Here.{begun, giving_up, keeping, next_number, place_of, time_after, with_deed, with_made};
+ghost use Rattle.cp_makers.specs.declared.here.Deed.{Deed};
+ghost use Rattle.cp_makers.specs.declared.here.Deed.TheVariants as deeds;
+
+use crate::waker::Waker;
+use cp_refs::Cap;
+use std::alloc::{AllocError, Global};
+use std::mem;
+
+/// What an object did beside what it answered.
+#[derive(Clone, Copy)]
+pub(crate) enum Deed {
+    /// It keeps this object.
+    Keep(u32),
+    /// It keeps this object once less.
+    GiveUp(u32),
+    Wake(Waker),
+    /// It is to be woken at this time.
+    WakeAt(u64),
+}
+
+/// Where an object is while it is called, polled, asked or told: what it may do there beside what it answers. `M` is the one type of
+/// all objects of the connection.
+#[derive(Drop)]
+pub struct Here<M> {
+    alloc: Global,
+    /// The session, and the object that is called.
+    this: Waker,
+    /// What time it is.
+    time: u64,
+    /// The number that the first object gets that is made. None is given twice.
+    next: u32,
+    /// The objects that were made, in order.
+    made: Vec<M>,
+    /// What else was done, in order.
+    deeds: Vec<Deed>,
+}
+
+impl<M: Drop> Here<M> {
+    /// Makes an object of the connection, and gives the capability of it: name it in results, or in the params of a call. It is
+    /// dropped once nothing of the connection refers to it.
+    ///
+    /// # Errors
+    ///
+    /// Memory ran out, or 2^32 objects were made.
+    pub fn make(&mut self, object: M) -> Result<Cap, AllocError>
+        ensures cap { IfOk result (λ cap. cap ≡ caps.Object (next_number (place_of self.old))) }
+        ensures made { OnOk result (place_of self.new ≡ with_made (place_of self.old) object) }
+        ensures err { OnErr result (place_of self.new ≡ place_of self.old) }
+    {
+        let Some(number) = number_after(self.next, self.made.len()) else {
+            drop(object);
+            return Err(AllocError);
+        };
+        self.made.push(object)?;
+        Ok(Cap::Object(number))
+    }
+
+    /// The object itself.
+    pub fn this(&self) -> Cap
+        ensures { result ≡ caps.Object (place_of self.now).this.object }
+    {
+        Cap::Object(self.this.object)
+    }
+
+    /// What wakes the object: whoever has it, of any session of the host, may wake it.
+    pub fn waker(&self) -> Waker
+        ensures { result ≡ (place_of self.now).this }
+    {
+        self.this
+    }
+
+    /// Has an object woken. Nothing is done where it is gone.
+    pub fn wake(&mut self, waker: Waker) -> Result<(), AllocError>
+        ensures noted { OnOk result (place_of self.new ≡ with_deed (place_of self.old) (deeds.Wake waker)) }
+        ensures err { OnErr result (place_of self.new ≡ place_of self.old) }
+    {
+        self.note(Deed::Wake(waker))
+    }
+
+    /// Has the object itself woken after this many milliseconds, in place of any time that it named before.
+    pub fn wake_after(&mut self, milliseconds: u64) -> Result<(), AllocError>
+        ensures noted { OnOk result (place_of self.new ≡ with_deed (place_of self.old) (deeds.WakeAt (time_after (place_of self.old).now milliseconds))) }
+        ensures err { OnErr result (place_of self.new ≡ place_of self.old) }
+    {
+        self.note(Deed::WakeAt(self.time.saturating_add(milliseconds)))
+    }
+
+    /// The time, in milliseconds of the driver's clock.
+    pub fn now(&self) -> u64
+        ensures { result ≡ (place_of self.now).now }
+    {
+        self.time
+    }
+
+    /// Where memory comes from.
+    pub fn alloc(&self) -> Global
+        ensures { result ≡ self.now.alloc }
+    {
+        self.alloc
+    }
+
+    /// Keeps an object that the object stores, though nothing else refers to it: once more for each call of this. What isn't an
+    /// object of this end isn't kept by this.
+    pub fn keep(&mut self, cap: &Cap) -> Result<(), AllocError>
+        ensures noted { OnOk result (place_of self.new ≡ keeping cap.now (place_of self.old)) }
+        ensures err { OnErr result (place_of self.new ≡ place_of self.old) }
+    {
+        match cap {
+            Cap::Object(number) => self.note(Deed::Keep(*number)),
+            _ => Ok(()),
+        }
+    }
+
+    /// Keeps an object once less.
+    pub fn give_up(&mut self, cap: &Cap) -> Result<(), AllocError>
+        ensures noted { OnOk result (place_of self.new ≡ giving_up cap.now (place_of self.old)) }
+        ensures err { OnErr result (place_of self.new ≡ place_of self.old) }
+    {
+        match cap {
+            Cap::Object(number) => self.note(Deed::GiveUp(*number)),
+            _ => Ok(()),
+        }
+    }
+
+    /// That of a session in which no object was made.
+    pub(crate) fn new(alloc: Global) -> Here<M>
+        ensures { place_of result ≡ begun }
+    {
+        Here {
+            alloc,
+            this: Waker {
+                session: 0,
+                object: 0,
+            },
+            time: 0,
+            next: 0,
+            made: Vec::new(alloc),
+            deeds: Vec::new(alloc),
+        }
+    }
+
+    /// The number of the next object.
+    pub(crate) fn next(&self) -> u32
+        ensures { result ≡ self.now.next }
+    {
+        self.next
+    }
+
+    /// From now on this object does what is done.
+    pub(crate) fn enter(&mut self, object: u32)
+        ensures { self.new ≡ record self.old { this = record self.old.this { object = object } } }
+    {
+        self.this.object = object;
+    }
+
+    /// It is that of a session of this number.
+    pub(crate) fn set_session(&mut self, session: u64)
+        ensures { self.new ≡ record self.old { this = record self.old.this { session = session } } }
+    {
+        self.this.session = session;
+    }
+
+    /// It is this time.
+    pub(crate) fn set_now(&mut self, now: u64)
+        ensures { self.new ≡ record self.old { time = now } }
+    {
+        self.time = now;
+    }
+
+    /// The next object gets this number.
+    pub(crate) fn set_next(&mut self, next: u32)
+        ensures { self.new ≡ record self.old { next = next } }
+    {
+        self.next = next;
+    }
+
+    /// Takes the objects out that were made, in order.
+    pub(crate) fn take_made(&mut self) -> Vec<M>
+        ensures made { result.items ≡ self.old.made.items }
+        ensures none { place_of self.new ≡ record (place_of self.old) { made = [] } }
+    {
+        mem::replace(&mut self.made, Vec::new(self.alloc))
+    }
+
+    /// Takes out what else was done, in order.
+    pub(crate) fn take_deeds(&mut self) -> Vec<Deed>
+        ensures deeds { result.items ≡ self.old.deeds.items }
+        ensures none { place_of self.new ≡ record (place_of self.old) { deeds = [] } }
+    {
+        mem::replace(&mut self.deeds, Vec::new(self.alloc))
+    }
+
+    /// Notes what else was done.
+    fn note(&mut self, deed: Deed) -> Result<(), AllocError>
+        ensures noted { OnOk result (place_of self.new ≡ with_deed (place_of self.old) deed) }
+        ensures err { OnErr result (place_of self.new ≡ place_of self.old) }
+    {
+        self.deeds.push(deed)?;
+        Ok(())
+    }
+}
+
+/// The number of the one after so many, if there is one.
+fn number_after(first: u32, count: usize) -> Option<u32>
+    ensures { IfSome result (λ n. n ≡ first + count) }
+{
+    let Ok(count) = u32::try_from(count) else {
+        return None;
+    };
+    first.checked_add(count)
+}

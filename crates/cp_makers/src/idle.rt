@@ -1,0 +1,47 @@
+//! The objects that nothing of their family refers to.
+
+ghost use Rattle.std.specs.Prelude.{◌≡◌, IfOk};
+ghost use Rattle.cp_makers.specs.Family.{AreHeld, idle_of, is_idle, kin_of};
+
+use crate::family::Family;
+use crate::maker::Maker;
+use crate::member::Member;
+use crate::number_set::{NumberSet, insert_each};
+use cp_vat_machine::Ids;
+use std::alloc::AllocError;
+
+impl<O: Maker<Makes = O>> Family<O> {
+    /// The objects that go unless the connection refers to them, rising.
+    pub(crate) fn idle(&self) -> Result<Ids, AllocError>
+        ensures { IfOk result (λ idle. idle ≡ idle_of (kin_of self.now)) }
+    {
+        let held = self.held()?;
+        let mut idle = Vec::new(self.alloc);
+        for (number, member) in self.members.iter() {
+            if self.is_idle(&held, *number, member) {
+                idle.push(*number)?;
+            }
+        }
+        Ok(Ids::new(idle))
+    }
+
+    /// Whether an object goes, unless the connection refers to it, where these are held.
+    fn is_idle(&self, held: &NumberSet, number: u32, member: &Member<O>) -> bool
+        ensures { AreHeld (kin_of self.now) held.now → result ≡ is_idle (kin_of self.now) number member.now }
+    {
+        number >= self.stays && member.asked == 0 && !held.contains(number)
+    }
+
+    /// The objects that owe an answer or that others keep.
+    fn held(&self) -> Result<NumberSet, AllocError>
+        ensures { IfOk result (AreHeld (kin_of self.now)) }
+    {
+        let mut held = NumberSet::new(self.alloc);
+        let owing = self.owed.objects(self.alloc)?;
+        insert_each(&mut held, &owing)?;
+        for (_, member) in self.members.iter() {
+            insert_each(&mut held, member.keeps.numbers())?;
+        }
+        Ok(held)
+    }
+}

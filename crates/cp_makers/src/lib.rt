@@ -1,0 +1,25 @@
+//! Objects that make others: what each may do while it is called, and the family of those of one connection.
+#![tactic(auto)]
+
+mod alarms;
+mod any;
+mod family;
+mod grown;
+mod hall;
+mod here;
+mod idle;
+mod listed;
+mod maker;
+mod member;
+mod members;
+mod number_set;
+mod numbers;
+mod owed;
+mod waker;
+
+pub use any::Any2;
+pub use family::Family;
+pub use hall::Hall;
+pub use here::Here;
+pub use maker::Maker;
+pub use waker::Waker;

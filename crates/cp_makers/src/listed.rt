@@ -1,0 +1,88 @@
+//! A list of objects that is fixed.
+
+use crate::hall::Hall;
+use crate::waker::Waker;
+use cp_refs::{Outcome, Request};
+use cp_servants::{
+    Ask, Reply, RequestView, Servant, Settled, any_again, ask_at, call_at, call_view_at, poll_at,
+    tell_at,
+};
+use cp_vat_machine::Ids;
+use std::alloc::{AllocError, Global};
+
+/// The object of number k is at place k. Each is polled in each round, and none goes.
+impl<O: Servant> Hall for Vec<O> {
+    ghost use Rattle.cp_makers.specs.Listed.{listed};
+
+    ghost hall = { listed O.kind };
+
+    fn has(&self, number: u32) -> bool {
+        (number as usize) < self.len()
+    }
+
+    fn call_at(&mut self, number: u32, ticket: u64, request: Request) -> Result<Reply, AllocError> {
+        call_at(self.as_mut_slice(), number as usize, ticket, request)
+    }
+
+    fn call_view_at(
+        &mut self,
+        alloc: Global,
+        number: u32,
+        ticket: u64,
+        request: RequestView<'_>,
+    ) -> Result<Reply, AllocError> {
+        call_view_at(alloc, self.as_mut_slice(), number as usize, ticket, request)
+    }
+
+    fn poll_at(&mut self, number: u32) -> Result<Option<Settled>, AllocError> {
+        poll_at(self.as_mut_slice(), number as usize)
+    }
+
+    fn ask_at(&mut self, number: u32) -> Result<Option<Ask>, AllocError> {
+        ask_at(self.as_mut_slice(), number as usize)
+    }
+
+    fn tell_at(&mut self, number: u32, mark: u64, outcome: Outcome) -> Result<(), AllocError> {
+        tell_at(self.as_mut_slice(), number as usize, mark, outcome)
+    }
+
+    fn next_from(&self, number: u32) -> Option<u32> {
+        if self.has(number) { Some(number) } else { None }
+    }
+
+    fn again(&self) -> bool {
+        any_again(self.as_slice())
+    }
+
+    fn guests(&self) -> usize {
+        0
+    }
+
+    fn idle(&self, alloc: Global) -> Result<Ids, AllocError> {
+        Ok(Ids::new(Vec::new(alloc)))
+    }
+
+    fn remove(&mut self, alloc: Global, _number: u32) -> Ids {
+        Ids::new(Vec::new(alloc))
+    }
+
+    fn set_session(&mut self, _session: u64) {}
+
+    fn set_now(&mut self, _now: u64) {}
+
+    fn wake_due(&mut self) -> Result<(), AllocError> {
+        Ok(())
+    }
+
+    fn deadline(&self) -> Option<u64> {
+        None
+    }
+
+    fn wake(&mut self, _number: u32) -> Result<(), AllocError> {
+        Ok(())
+    }
+
+    fn next_wake(&mut self) -> Option<Waker> {
+        None
+    }
+}

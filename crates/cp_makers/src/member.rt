@@ -1,0 +1,52 @@
+//! An object of a family.
+
+ghost use Rattle.std.specs.Prelude.{◌≡◌, [], None};
+ghost use Rattle.cp_makers.specs.Members.{newborn};
+
+use crate::numbers::Numbers;
+use cp_vat_machine::Ids;
+use std::alloc::Global;
+
+/// An object of a family, with what is known of it.
+#[derive(Drop)]
+pub(crate) struct Member<O> {
+    pub(crate) object: O,
+    /// How many calls it made whose outcome it isn't told yet.
+    pub(crate) asked: u64,
+    /// The imports that it was given and didn't give up.
+    pub(crate) holds: Numbers,
+    /// The objects that it keeps.
+    pub(crate) keeps: Numbers,
+    /// When it is to be woken.
+    pub(crate) alarm: Option<u64>,
+}
+
+impl<O: Drop> Member<O> {
+    /// An object that did nothing.
+    pub(crate) fn new(alloc: Global, object: O) -> Member<O>
+        ensures { result ≡ newborn object }
+    {
+        Member {
+            object,
+            asked: 0,
+            holds: Numbers::new(alloc),
+            keeps: Numbers::new(alloc),
+            alarm: None,
+        }
+    }
+
+    /// The imports that it holds.
+    pub(crate) fn into_holds(self) -> Ids
+        ensures { result ≡ self.holds }
+    {
+        let Member {
+            object,
+            asked: _,
+            holds,
+            keeps: _,
+            alarm: _,
+        } = self;
+        drop(object);
+        holds.into_ids()
+    }
+}
