@@ -4,6 +4,7 @@ use crate::names::{is_ambiguous, is_taken};
 use crate::only::{has_method, has_type};
 use crate::out::{Arg, Out, before, file_name};
 use crate::reach::{Line, push_lines, push_naming};
+use crate::templates::{SERVERS, SERVICES, Templates};
 use cp_schema::{Node, NodeKind, Schema};
 use std::alloc::{AllocError, Global};
 
@@ -60,6 +61,15 @@ pub struct Scope<'s> {
     pub drafts: bool,
     /// Whether interfaces are written.
     pub interfaces: bool,
+    /// Whether objects of interfaces may make others.
+    pub services: bool,
+}
+
+impl Scope<'_> {
+    /// How objects of interfaces are written.
+    pub fn templates(&self) -> Templates {
+        if self.services { SERVICES } else { SERVERS }
+    }
 }
 
 /// All types and constants of a request.

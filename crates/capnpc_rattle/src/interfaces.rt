@@ -49,6 +49,6 @@ fn objects<'b>(
     if let Some((_, named)) = family.first() {
         kind(sheet, named, family, ways);
         server(book, sheet, of, family, ways);
-        dispatch(sheet, named, family, ways);
+        dispatch(sheet, &book.scope.templates(), named, family, ways);
     }
 }

@@ -2,11 +2,11 @@
 //! writes a crate of views for each requested file into the current folder.
 //!
 //!     capnp compile -oFOLDER/capnpc_rattle:OUT X.capnp
-//!     capnp compile -o- X.capnp | capnpc_rattle [--crate=NAME] [--only=LIST] [--drafts] [--interfaces] [--print]
+//!     capnp compile -o- X.capnp | capnpc_rattle [--crate=NAME] [--only=LIST] [--drafts] [--interfaces] [--services] [--print]
 //!
 //! With `--crate=NAME` the crate has this name, and not the file's; with `--only=LIST` views have the methods that are listed, and
 //! no others; with `--drafts` it has drafts too, by which structs are written; with `--interfaces` it has typed clients and objects
-//! of its interfaces besides; with `--print` its files go to standard output.
+//! of its interfaces besides; with `--services` these objects may make others; with `--print` its files go to standard output.
 #![tactic(auto)]
 
 mod book;
@@ -32,6 +32,7 @@ mod servers;
 mod setters;
 mod sheet;
 mod structs;
+mod templates;
 mod told;
 mod trees;
 mod twice;
@@ -53,7 +54,7 @@ use twice::found_twice;
 const USAGE: &str = "\
 usage: capnp compile -oFOLDER/capnpc_rattle:OUT X.capnp
        capnp compile -o- X.capnp | capnpc_rattle [--crate=NAME] [--only=LIST] [--drafts] [--interfaces]
-                           [--print]
+                           [--services] [--print]
 
 Writes a crate of views for each schema file into the current folder.
 
@@ -62,6 +63,7 @@ Writes a crate of views for each schema file into the current folder.
                 between; no types without one, and no members of unions
   --drafts      Drafts too, by which structs are written
   --interfaces  Typed clients and objects of interfaces, and drafts
+  --services    The same, where objects may make others in their calls
   --print       Print the files, and write none
 ";
 
@@ -77,6 +79,8 @@ struct Task {
     drafts: bool,
     /// Whether interfaces are, and so drafts too.
     interfaces: bool,
+    /// Whether interfaces are, of objects that may make others.
+    services: bool,
     /// Whether the files are printed, and not written.
     prints: bool,
 }
@@ -90,6 +94,7 @@ impl Drop for Task {
             only: _,
             drafts: _,
             interfaces: _,
+            services: _,
             prints: _,
         } = self;
     }
@@ -104,6 +109,7 @@ impl Task {
             only: String::new(rt.alloc()),
             drafts: false,
             interfaces: false,
+            services: false,
             prints: false,
         };
         match task.take_all(rt) {
@@ -133,7 +139,7 @@ impl Task {
             self.only.push_str(names)?;
         } else if !self.take_flag(word) {
             bail!(
-                "{word}: neither --crate=NAME nor --only=LIST nor --drafts nor --interfaces nor --print"
+                "{word}: neither --crate=NAME nor --only=LIST nor --drafts nor --interfaces nor --services nor --print"
             );
         }
         Ok(())
@@ -145,6 +151,7 @@ impl Task {
             "--help" => self.helps = true,
             "--drafts" => self.drafts = true,
             "--interfaces" => self.interfaces = true,
+            "--services" => self.services = true,
             "--print" => self.prints = true,
             _ => return false,
         }
@@ -153,11 +160,13 @@ impl Task {
 
     /// What is written of a request.
     fn scope(&self) -> Scope<'_> {
+        let interfaces = self.interfaces || self.services;
         Scope {
             only: self.only.as_str(),
             // Typed clients take drafts.
-            drafts: self.drafts || self.interfaces,
-            interfaces: self.interfaces,
+            drafts: self.drafts || interfaces,
+            interfaces,
+            services: self.services,
         }
     }
 

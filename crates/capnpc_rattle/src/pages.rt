@@ -21,6 +21,12 @@ cp_stubs
 cp_tables
 ";
 
+/// What the code of objects that may make others stands on besides.
+const SERVICES: &str = "\
+cp_makers
+cp_services
+";
+
 /// The modules of a crate, in the order of their names.
 pub fn sheets<'b>(book: &'b Book<'_>, krate: &'b str) -> Result<Vec<Sheet<'b>>, AllocError> {
     let (mut modules, mut sheets) = (Vec::new(book.alloc), Vec::new(book.alloc));
@@ -159,6 +165,9 @@ pub fn line_of(book: &Book<'_>, sheets: &[Sheet<'_>], krate: &str) -> Out {
     }
     if book.scope.interfaces {
         crates.put(STUBS);
+    }
+    if book.scope.services {
+        crates.put(SERVICES);
     }
     for sheet in sheets {
         crates.put(sheet.crates.as_str());

@@ -1,0 +1,268 @@
+//! How objects of interfaces are written: those of a list that is fixed, and those that may make others.
+
+/// The templates of what objects of interfaces are, and of what passes calls on to their methods.
+#[derive(Clone, Copy)]
+pub struct Templates {
+    /// What a trait extends, where its interface extends none.
+    pub base: &'static str,
+    pub kind: &'static str,
+    pub method: &'static str,
+    pub servant: &'static str,
+    pub glue: &'static str,
+    /// What this code cites of other crates.
+    pub cited: &'static str,
+    /// The definitions that the glue cites.
+    pub words: &'static str,
+    pub dispatch: &'static str,
+    pub by_interface: &'static str,
+    pub interface_arm: &'static str,
+    pub by_number: &'static str,
+    pub method_arm: &'static str,
+    pub end: &'static str,
+    pub pass: &'static str,
+}
+
+/// Objects of a list that is fixed.
+pub const SERVERS: Templates = Templates {
+    base: "ServerObject",
+    kind: " {
+    /// What calls of its methods lead to. Of an object that doesn't say it nothing is known.
+    ghost $2_kind: { $0Kind Self } = { any_$2 };
+",
+    method: "    fn $4(
+        &mut self,
+        call: &MethodCall,
+        params: &$6View<'_>,
+    ) -> Result<Answer<$7Draft>, MethodFault>
+        ensures { Gives (λ d. d.body) $1_kind.on_$8 self.old call.now params.now.body result self.new };
+",
+    servant: "}
+
+/// An object of `interface $1`, as a connection serves it.
+#[derive(Drop)]
+pub struct $0Servant<T: $0Server> {
+    pub alloc: Global,
+    pub object: T,
+}
+
+impl<T: $0Server> Servant for $0Servant<T> {
+    ghost kind = { seen_as (λ s. s.object) (taking (",
+    glue: ") T.kind) };
+
+    fn call(&mut self, ticket: u64, request: Request) -> Result<Reply, AllocError> {
+        let call = MethodCall { ticket, request };
+        dispatch_$2(self.alloc, &mut self.object, &call)
+    }
+
+    fn poll(&mut self) -> Result<Option<Settled>, AllocError> {
+        ServerObject::poll(&mut self.object)
+    }
+
+    fn again(&self) -> bool {
+        ServerObject::again(&self.object)
+    }
+
+    fn ask(&mut self) -> Result<Option<Ask>, AllocError> {
+        ServerObject::ask(&mut self.object)
+    }
+
+    fn told(&mut self, mark: u64, outcome: Outcome) -> Result<(), AllocError> {
+        ServerObject::told(&mut self.object, mark, outcome)
+    }
+}
+",
+    cited: "\
+cp_refs::Outcome
+cp_refs::Request
+cp_servants::Ask
+cp_servants::Reply
+cp_servants::Servant
+cp_servants::Settled
+cp_stubs::MethodCall
+cp_stubs::ServerObject
+std::alloc::AllocError
+std::alloc::Global
+",
+    words: "\
+ghost use Rattle.cp_servants.specs.Servant.{seen_as};
+ghost use Rattle.cp_stubs.specs.Objects.{taking};
+",
+    dispatch: "
+/// Passes a call on to the method of an object that its interface and its number name.
+pub fn dispatch_$1<T: $0Server>(
+    alloc: Global,
+    object: &mut T,
+    call: &MethodCall,
+) -> Result<Reply, AllocError>
+    ensures { IfOk result (λ reply. ",
+    by_interface: " object.old call.now reply object.new) }
+{
+    match call.request.interface {
+",
+    interface_arm: "        $0 => dispatch_$1_method(alloc, object, call),
+",
+    by_number: "
+/// Passes a call of this interface on to the method of an object that its number names.
+pub fn dispatch_$1_method<T: $0Server>(
+    alloc: Global,
+    object: &mut T,
+    call: &MethodCall,
+) -> Result<Reply, AllocError>
+    ensures { IfOk result (λ reply. $0MethodTakes T.$1_kind object.old call.now reply object.new) }
+{
+    match call.request.method {
+",
+    method_arm: "        $3 => pass_$8(alloc, object, call),
+",
+    end: "        _ => refuse(alloc, call, MethodFault::Unimplemented),
+    }
+}
+",
+    pass: "
+/// Passes a call of `$5` on.
+fn pass_$8<T: $0Server>(
+    alloc: Global,
+    object: &mut T,
+    call: &MethodCall,
+) -> Result<Reply, AllocError>
+    ensures { IfOk result (λ reply. Passes T.$1_kind.on_$8 object.old call.now reply object.new) }
+{
+    match call.params() {
+        Ok(body) => {
+            let params = $6View { body };
+            let answered = $0Server::$4(object, call, &params);
+            reply(alloc, call, answered)
+        }
+        Err(fault) => refuse(alloc, call, MethodFault::WrongKind(fault)),
+    }
+}
+",
+};
+
+/// Objects that may make others: each is given a `Here` while it does something.
+pub const SERVICES: Templates = Templates {
+    base: "ServiceObject",
+    kind: " {
+    /// What calls of its methods lead to. Of an object that doesn't say it nothing is known.
+    ghost $2_kind: { $0Kind (At Self Self.Makes) } = { any_$2 };
+",
+    method: "    fn $4(
+        &mut self,
+        call: &MethodCall,
+        params: &$6View<'_>,
+        here: &mut Here<Self::Makes>,
+    ) -> Result<Answer<$7Draft>, MethodFault>
+        ensures { Gives (λ d. d.body) $1_kind.on_$8 (at self.old here.old) call.now params.now.body result (at self.new here.new) };
+",
+    servant: "}
+
+/// An object of `interface $1`, as a connection serves it.
+#[derive(Drop)]
+pub struct $0Servant<T> {
+    pub object: T,
+}
+
+impl<T: $0Server> Maker for $0Servant<T> {
+    type Makes = T::Makes;
+
+    ghost makes = { seen_as (λ s. s.object) (taking (",
+    glue: ") T.kind) };
+
+    fn call(
+        &mut self,
+        ticket: u64,
+        request: Request,
+        here: &mut Here<T::Makes>,
+    ) -> Result<Reply, AllocError> {
+        let call = MethodCall { ticket, request };
+        dispatch_$2(&mut self.object, &call, here)
+    }
+
+    fn poll(&mut self, here: &mut Here<T::Makes>) -> Result<Option<Settled>, AllocError> {
+        ServiceObject::poll(&mut self.object, here)
+    }
+
+    fn again(&self) -> bool {
+        ServiceObject::again(&self.object)
+    }
+
+    fn ask(&mut self, here: &mut Here<T::Makes>) -> Result<Option<Ask>, AllocError> {
+        ServiceObject::ask(&mut self.object, here)
+    }
+
+    fn told(
+        &mut self,
+        mark: u64,
+        outcome: Outcome,
+        here: &mut Here<T::Makes>,
+    ) -> Result<(), AllocError> {
+        ServiceObject::told(&mut self.object, mark, outcome, here)
+    }
+}
+",
+    cited: "\
+cp_makers::Here
+cp_makers::Maker
+cp_refs::Outcome
+cp_refs::Request
+cp_servants::Ask
+cp_servants::Reply
+cp_servants::Settled
+cp_services::ServiceObject
+cp_stubs::MethodCall
+std::alloc::AllocError
+",
+    words: "\
+ghost use Rattle.cp_services.specs.Services.{At, at, seen_as, taking};
+",
+    dispatch: "
+/// Passes a call on to the method of an object that its interface and its number name.
+pub fn dispatch_$1<T: $0Server>(
+    object: &mut T,
+    call: &MethodCall,
+    here: &mut Here<T::Makes>,
+) -> Result<Reply, AllocError>
+    ensures { IfOk result (λ reply. ",
+    by_interface: " (at object.old here.old) call.now reply (at object.new here.new)) }
+{
+    match call.request.interface {
+",
+    interface_arm: "        $0 => dispatch_$1_method(object, call, here),
+",
+    by_number: "
+/// Passes a call of this interface on to the method of an object that its number names.
+pub fn dispatch_$1_method<T: $0Server>(
+    object: &mut T,
+    call: &MethodCall,
+    here: &mut Here<T::Makes>,
+) -> Result<Reply, AllocError>
+    ensures { IfOk result (λ reply. $0MethodTakes T.$1_kind (at object.old here.old) call.now reply (at object.new here.new)) }
+{
+    match call.request.method {
+",
+    method_arm: "        $3 => pass_$8(object, call, here),
+",
+    end: "        _ => refuse(here.alloc(), call, MethodFault::Unimplemented),
+    }
+}
+",
+    pass: "
+/// Passes a call of `$5` on.
+fn pass_$8<T: $0Server>(
+    object: &mut T,
+    call: &MethodCall,
+    here: &mut Here<T::Makes>,
+) -> Result<Reply, AllocError>
+    ensures { IfOk result (λ reply. Passes T.$1_kind.on_$8 (at object.old here.old) call.now reply (at object.new here.new)) }
+{
+    match call.params() {
+        Ok(body) => {
+            let params = $6View { body };
+            let answered = $0Server::$4(object, call, &params, here);
+            reply(here.alloc(), call, answered)
+        }
+        Err(fault) => refuse(here.alloc(), call, MethodFault::WrongKind(fault)),
+    }
+}
+",
+};

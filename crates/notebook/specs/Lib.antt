@@ -1,0 +1,3 @@
+pub mod Notebook
+pub mod Page
+pub mod Watcher

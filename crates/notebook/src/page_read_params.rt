@@ -1,0 +1,45 @@
+//! `page_read_params` of notebook.capnp.
+
+ghost use Rattle.std.specs.Prelude.{◌≡◌, IfOk};
+ghost use Rattle.cp_fields.specs.Pointers.{Reads, struct_field};
+ghost use Rattle.cp_builder.specs.Drafts.{blank};
+
+use cp_builder::StructDraft;
+use cp_fields::{Pointee, StructView, WrongKind};
+use std::alloc::{AllocError, Global};
+
+/// `struct Page.read$Params`.
+#[derive(Drop)]
+pub struct PageReadParamsView<'a> {
+    /// The struct, by the places of its fields.
+    pub body: StructView<'a>,
+}
+
+impl<'a> PageReadParamsView<'a> {
+    /// The struct that a pointer stands for; null is the struct whose fields are all as by default.
+    pub fn of(at: Pointee<'a>) -> Result<PageReadParamsView<'a>, WrongKind>
+        ensures { Reads result (λ x. x.body) (struct_field at.entry) }
+    {
+        Ok(PageReadParamsView {
+            body: StructView::of(at)?,
+        })
+    }
+}
+
+/// `struct Page.read$Params`, to be written.
+#[derive(Drop)]
+pub struct PageReadParamsDraft {
+    /// The struct, by the places of its fields.
+    pub body: StructDraft<0, 0>,
+}
+
+impl PageReadParamsDraft {
+    /// A struct whose fields are all as by default.
+    pub fn new(alloc: Global) -> Result<PageReadParamsDraft, AllocError>
+        ensures { IfOk result (λ d. d.body ≡ blank 0 0) }
+    {
+        Ok(PageReadParamsDraft {
+            body: StructDraft::new(alloc)?,
+        })
+    }
+}

@@ -1,0 +1,83 @@
+//! `watcher_added_results` of notebook.capnp.
+
+ghost use Rattle.std.specs.Prelude.{◌≡◌, IfOk};
+ghost use Rattle.cp_fields.specs.Pointers.{Reads, struct_field};
+ghost use Rattle.cp_builder.specs.Drafts.{blank};
+
+use cp_builder::StructDraft;
+use cp_fields::{Pointee, StructView, WrongKind};
+use cp_stubs::{Promised, ResultPayload, Results};
+use cp_tree::Whole;
+use std::alloc::{AllocError, Global};
+
+/// `struct Watcher.added$Results`.
+#[derive(Drop)]
+pub struct WatcherAddedResultsView<'a> {
+    /// The struct, by the places of its fields.
+    pub body: StructView<'a>,
+}
+
+impl<'a> WatcherAddedResultsView<'a> {
+    /// The struct that a pointer stands for; null is the struct whose fields are all as by default.
+    pub fn of(at: Pointee<'a>) -> Result<WatcherAddedResultsView<'a>, WrongKind>
+        ensures { Reads result (λ x. x.body) (struct_field at.entry) }
+    {
+        Ok(WatcherAddedResultsView {
+            body: StructView::of(at)?,
+        })
+    }
+}
+
+/// `struct Watcher.added$Results`, to be written.
+#[derive(Drop)]
+pub struct WatcherAddedResultsDraft {
+    /// The struct, by the places of its fields.
+    pub body: StructDraft<0, 0>,
+}
+
+impl WatcherAddedResultsDraft {
+    /// A struct whose fields are all as by default.
+    pub fn new(alloc: Global) -> Result<WatcherAddedResultsDraft, AllocError>
+        ensures { IfOk result (λ d. d.body ≡ blank 0 0) }
+    {
+        Ok(WatcherAddedResultsDraft {
+            body: StructDraft::new(alloc)?,
+        })
+    }
+}
+
+impl Results for WatcherAddedResultsDraft {
+    ghost content = { λ d. d.body };
+
+    fn into_whole(self) -> Whole {
+        self.body.into_whole()
+    }
+}
+
+/// `struct Watcher.added$Results`, as a question will give it.
+#[derive(Drop)]
+pub struct WatcherAddedResultsPromise {
+    /// The question, and the path to the struct.
+    pub at: Promised,
+}
+
+impl WatcherAddedResultsPromise {
+    /// The number of the question, whose outcome can be waited for.
+    pub fn question(&self) -> u32
+        ensures { result ≡ self.now.at.question }
+    {
+        self.at.question()
+    }
+
+    /// The results that came.
+    pub fn results<'a>(
+        &self,
+        came: &'a ResultPayload,
+    ) -> Result<WatcherAddedResultsView<'a>, WrongKind>
+        ensures { Reads result (λ x. x.body) (struct_field came.now.content) }
+    {
+        Ok(WatcherAddedResultsView {
+            body: came.results()?,
+        })
+    }
+}
