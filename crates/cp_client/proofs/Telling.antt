@@ -20,7 +20,7 @@ untold true = 0
 untold false = 1
 
 -- how many events are left at most
-abbrev pub events_left : {A : Type 0} → State A → ℕ
+abbrev pub events_left : {H : Type 0} → State H → ℕ
 events_left state = length state.service.work.notices + untold state.progress.is_told
 
 -- what is known stays known
@@ -46,7 +46,7 @@ last_told false None None phases.Serving event is = absurd (true≢false (sym (a
 last_told false None None phases.Ending event is = absurd (true≢false (sym (ap is_none is)))
 last_told false None None (phases.Draining since) event is = absurd (true≢false (sym (ap is_none is)))
 
-fewer_by : {A : Type 0} (old new : State A) (event : SessionEvent) (notice : Option Notice) (work : Work) → HandsOver old.service.work notice work → Some event ≡ told_of old notice
+fewer_by : {H : Type 0} (old new : State H) (event : SessionEvent) (notice : Option Notice) (work : Work) → HandsOver old.service.work notice work → Some event ≡ told_of old notice
     → events_left new ≡ length work.notices + untold (knows_by (Some event) old.progress.is_told) → events_left new < events_left old
 fewer_by old new event (Some notice) work hands is left = omega (arith, ap length hands.0, untold_then event old.progress.is_told, left)
 fewer_by old new event None work hands is left =
@@ -57,11 +57,11 @@ fewer_by old new event None work hands is left =
     omega (arith, same, before, after, left)
 
 -- an event that was told is left to be told no more
-pub fewer_left : {A : Type 0} (old mid new : State A) (event : SessionEvent) → Tells old (Some event) mid → new ≡ mid → events_left new < events_left old
-fewer_left {A = A} old mid new event tells same =
+pub fewer_left : {H : Type 0} (old mid new : State H) (event : SessionEvent) → Tells old (Some event) mid → new ≡ mid → events_left new < events_left old
+fewer_left {H = H} old mid new event tells same =
     fewer_by old new event tells.notice tells.work tells.hands tells.is
-    (ap (λ (s : State A). events_left s) same ∙ ap (λ (s : State A). events_left s) tells.rest)
+    (ap (λ (s : State H). events_left s) same ∙ ap (λ (s : State H). events_left s) tells.rest)
 
 -- all is known still where the questions are the same
-pub knows_asked : {A : Type 0} (old known : Conversation A) (asked : Asked) → asked ≡ known.asked → Knows old known → Knows old (record known { asked = asked })
+pub knows_asked : {H : Type 0} (old known : Conversation H) (asked : Asked) → asked ≡ known.asked → Knows old known → Knows old (record known { asked = asked })
 knows_asked old known asked same knows = subst (λ (t : Asked). Knows old (record known { asked = t })) (sym same) knows

@@ -2,25 +2,25 @@
 use Rattle.std.proofs.Common.{◌≡◌, ◌∙◌, ◌<◌, ℕ, ap, length, arith}
 use Rattle.std.proofs.lemmas.List.{length-drop}
 use Rattle.cp_connection.specs.Link.{Link}
-use Rattle.cp_servants.specs.Servant.{Kind}
+use Rattle.cp_makers.specs.Hall.{HallKind}
 use Rattle.cp_session.specs.Doing as doing
 use Rattle.cp_session.specs.State.{State, link_of}
 use Rattle.cp_client.specs.Conversation.{Conversation}
 use Rattle.cp_client.specs.Writing.{WritesSome}
 
 -- that a session is left is nothing to its connection
-left_link : {A : Type 0} {kind : Kind A} {old new : State A} {now : ℕ} → doing.Leaves kind old now new → link_of new ≡ link_of old
-left_link {A = A} (doing.stays why same) = ap (λ (s : State A). link_of s) same
-left_link {A = A} (doing.leaves settled same) = ap (λ (s : State A). link_of s) same
+left_link : {H : Type 0} {hall : HallKind H} {old new : State H} {now : ℕ} → doing.Leaves hall old now new → link_of new ≡ link_of old
+left_link {H = H} (doing.stays why same) = ap (λ (s : State H). link_of s) same
+left_link {H = H} (doing.leaves settled same) = ap (λ (s : State H). link_of s) same
 
-settles_link : {A : Type 0} {kind : Kind A} {old new : State A} {now : ℕ} → doing.Settles kind old now new → link_of new ≡ link_of old
-settles_link {A = A} h = left_link h.left_so ∙ ap (λ (s : State A). link_of s) h.heeds
+settles_link : {H : Type 0} {hall : HallKind H} {old new : State H} {now : ℕ} → doing.Settles hall old now new → link_of new ≡ link_of old
+settles_link {H = H} h = left_link h.left_so ∙ ap (λ (s : State H). link_of s) h.heeds
 
 -- fewer bytes wait
-pub fewer_unwritten : {A : Type 0} {kind : Kind A} (old new : Conversation A) (count : ℕ) → 0 < count → 0 < length (link_of old.session).unwritten → WritesSome kind old count new
+pub fewer_unwritten : {H : Type 0} {hall : HallKind H} (old new : Conversation H) (count : ℕ) → 0 < count → 0 < length (link_of old.session).unwritten → WritesSome hall old count new
     → length (link_of new.session).unwritten < length (link_of old.session).unwritten
-fewer_unwritten {A = A} old new count some waits wrote =
+fewer_unwritten {H = H} old new count some waits wrote =
     let h = wrote.writes in
-    let link : link_of new.session ≡ h.link = settles_link h.settles ∙ ap (λ (s : State A). link_of s) h.moves in
+    let link : link_of new.session ≡ h.link = settles_link h.settles ∙ ap (λ (s : State H). link_of s) h.moves in
     let left = ap (λ (l : Link). length l.unwritten) (link ∙ h.wrote) in
     omega (arith, some, waits, left, length-drop count (link_of old.session).unwritten)

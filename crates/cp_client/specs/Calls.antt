@@ -1,8 +1,11 @@
 -- What a client's program has it do.
-use Rattle.std.specs.Prelude.{◌≡◌, ◌⊎◌, ℕ, Some, None, Result, Ok, Err, length}
+use Rattle.std.specs.Prelude.{◌≡◌, ◌⊎◌, ℕ, Option, Some, None, Result, Ok, Err, length}
 use Rattle.std.specs.FinMap.{insert, remove}
+use Rattle.std.specs.Global.{Vec}
 use Rattle.cp_refs.specs.declared.call.Request.{Request}
 use Rattle.cp_refs.specs.declared.cap.Cap.{Cap}
+use Rattle.cp_makers.specs.Hall.{HallKind}
+use Rattle.cp_makers.specs.declared.waker.Waker.{Waker}
 use Rattle.cp_vat_machine.specs.declared.event.Event.{Event}
 use Rattle.cp_vat_machine.specs.declared.event.Event.TheVariants as events
 use Rattle.cp_vat_machine.specs.declared.event.Value.{Value}
@@ -14,44 +17,59 @@ use Rattle.cp_client.specs.declared.fault.ClientFault.{ClientFault}
 use Rattle.cp_client.specs.declared.fault.ClientFault.TheVariants as client_faults
 use Rattle.cp_client.specs.Conversation.{Asked, Conversation}
 
-module _ {A : Type 0} where
+module _ {H : Type 0} where
   -- A call of the program's was made, and nothing else was done, but that these are the questions then.
-  pub record Did (old : Conversation A) (event : Event) (result : Result Value ConnectionFault) (asked : Asked) (new : Conversation A) : Type 0 where
+  pub record Did (old : Conversation H) (event : Event) (result : Result Value ConnectionFault) (asked : Asked) (new : Conversation H) : Type 0 where
     pub did : sessions.Did old.session event result new.session
     pub same : new ≡ record old { session = new.session; asked = asked }
 
   -- a question was asked, and its outcome hasn't come
-  abbrev pub Asks : Conversation A → Event → ℕ → Conversation A → Type 0
+  abbrev pub Asks : Conversation H → Event → ℕ → Conversation H → Type 0
   Asks old event q new = Did old event (Ok (values.Question q)) (insert old.asked q None) new
 
   -- Why no question is asked: the connection refuses it; or memory ran out, and it may have been asked, but its outcome isn't waited for.
-  pub data IsUnasked (old : Conversation A) (event : Event) (fault : ClientFault) (new : Conversation A) : Type 0 where
+  pub data IsUnasked (old : Conversation H) (event : Event) (fault : ClientFault) (new : Conversation H) : Type 0 where
     refuses : (f : ConnectionFault) → fault ≡ client_faults.Connection f → Did old event (Err f) old.asked new → IsUnasked old event fault new
     forgets : (q : ℕ) → fault ≡ client_faults.Connection faults.OutOfMemory → Did old event (Ok (values.Question q)) old.asked new → IsUnasked old event fault new
 
   -- why a call of the program's isn't made: the connection refuses it
-  abbrev pub IsUndone : Conversation A → Event → ClientFault → Conversation A → Type 0
+  abbrev pub IsUndone : Conversation H → Event → ClientFault → Conversation H → Type 0
   IsUndone old event fault new = (f : ConnectionFault) × (fault ≡ client_faults.Connection f) × Did old event (Err f) old.asked new
 
   -- a question was given up, and its outcome isn't waited for
-  abbrev pub Finishes : Conversation A → ℕ → Conversation A → Type 0
+  abbrev pub Finishes : Conversation H → ℕ → Conversation H → Type 0
   Finishes old q new = Did old (events.Finish q) (Ok values.Nothing) (remove old.asked q) new
 
   -- an import was given back
-  abbrev pub Releases : Conversation A → ℕ → Conversation A → Type 0
+  abbrev pub Releases : Conversation H → ℕ → Conversation H → Type 0
   Releases old import new = Did old (events.Release import) (Ok values.Nothing) old.asked new
 
   -- A capability was called, and a question was asked by it; or none was: the client refuses it, or memory ran out before.
-  abbrev pub AsksOrNot : Conversation A → Cap → Request → Result ℕ ClientFault → Conversation A → Type 0
+  abbrev pub AsksOrNot : Conversation H → Cap → Request → Result ℕ ClientFault → Conversation H → Type 0
   AsksOrNot old cap request (Ok q) new = Asks old (events.Call cap request) q new
   AsksOrNot old cap request (Err fault) new = IsUnasked old (events.Call cap request) fault new ⊎ ((fault ≡ client_faults.Connection faults.OutOfMemory) × (new ≡ old))
 
-  -- an object more is there, which this capability names
-  pub record Exports (old : Conversation A) (object : A) (cap : Cap) (new : Conversation A) : Type 0 where
-    pub named : sessions.next_cap (length old.session.objects) ≡ Some cap
-    pub same : new ≡ record old { session = sessions.exporting (Some cap) object old.session }
+-- Of objects of one hall.
+module _ {H : Type 0} (hall : HallKind H) where
+  -- an object is woken, and nothing else is done
+  abbrev pub Wakes : ℕ → Conversation H → Conversation H → Type 0
+  Wakes object old new = sessions.Wakes hall object old.session new.session × (new ≡ record old { session = new.session })
 
-  -- why no object more is there: no number is left for one, or memory ran out
-  abbrev pub IsUnexported : Conversation A → ClientFault → Type 0
-  IsUnexported old fault =
-      ((fault ≡ client_faults.TooManyObjects) × (sessions.next_cap (length old.session.objects) ≡ None)) ⊎ (fault ≡ client_faults.Connection faults.OutOfMemory)
+  -- who is to be woken of another session is handed out, and nothing else is done
+  abbrev pub HandsOn : Option Waker → Conversation H → Conversation H → Type 0
+  HandsOn waker old new = sessions.HandsOn hall waker old.session new.session × (new ≡ record old { session = new.session })
+
+-- no object more is there, and nothing was done
+abbrev pub Rests : {A : Type 0} → Conversation (Vec A) → Conversation (Vec A) → Type 0
+Rests old new = sessions.Lists old.session.objects.items old.session new.session × (new ≡ record old { session = new.session })
+
+-- an object more is there, which this capability names
+pub record Exports {A : Type 0} (old : Conversation (Vec A)) (object : A) (cap : Cap) (new : Conversation (Vec A)) : Type 0 where
+  pub named : sessions.next_cap (length old.session.objects.items) ≡ Some cap
+  pub exports : sessions.Exports (Some cap) object old.session new.session
+  pub same : new ≡ record old { session = new.session }
+
+-- why no object more is there: no number is left for one, or memory ran out
+abbrev pub IsUnexported : {A : Type 0} → Conversation (Vec A) → ClientFault → Type 0
+IsUnexported old fault =
+    ((fault ≡ client_faults.TooManyObjects) × (sessions.next_cap (length old.session.objects.items) ≡ None)) ⊎ (fault ≡ client_faults.Connection faults.OutOfMemory)

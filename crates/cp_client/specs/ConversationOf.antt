@@ -6,7 +6,7 @@ use Rattle.cp_client.specs.Devices.{device}
 use Rattle.cp_client.specs.Conversation.{Conversation}
 
 -- a client, whose reader has these bytes left, and whose writer holds those
-abbrev pub seen : {O R W : Type 0} → (R → Option (List ℕ)) → (W → Option (List ℕ)) → Client R W O → Conversation O
+abbrev pub seen : {H R W : Type 0} → (R → Option (List ℕ)) → (W → Option (List ℕ)) → Client R W H → Conversation H
 seen remaining contents client = record {
   session = state_of client.session;
   left = client.piece;

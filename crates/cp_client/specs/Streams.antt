@@ -14,7 +14,7 @@ use Rattle.cp_client.specs.declared.fault.ClientFault.TheVariants as client_faul
 use Rattle.cp_client.specs.declared.fault.StreamingFault.{StreamingFault}
 use Rattle.cp_client.specs.declared.fault.StreamingFault.TheVariants as faults
 use Rattle.cp_client.specs.Conversation.{Conversation}
-use Rattle.cp_servants.specs.Servant.{Kind}
+use Rattle.cp_makers.specs.Hall.{HallKind}
 use Rattle.cp_client.specs.Calls.{Asks, AsksOrNot, Finishes, IsUndone}
 use Rattle.cp_client.specs.Waits.{Stops, Waits}
 
@@ -41,63 +41,63 @@ abbrev pub ComesTo : Outcome → Option NoResults → Type 0
 ComesTo outcome None = (results : ResultPayload) × Comes outcome (Ok results)
 ComesTo outcome (Some reason) = Comes outcome (Err reason)
 
--- Of objects of one kind.
-module _ {A : Type 0} (kind : Kind A) where
+-- Of objects of one hall.
+module _ {H : Type 0} (hall : HallKind H) where
   -- The outcome of a question was waited for. It is results, and the question was given up.
-  pub record Ends (old : Conversation A) (q : ℕ) (new : Conversation A) : Type 0 where
+  pub record Ends (old : Conversation H) (q : ℕ) (new : Conversation H) : Type 0 where
     pub outcome : Outcome
     pub results : ComesTo outcome None
-    pub told : Conversation A
-    pub waits : Waits kind old q outcome told
+    pub told : Conversation H
+    pub waits : Waits hall old q outcome told
     pub finishes : Finishes told q new
 
   -- these questions ended, one after another
-  abbrev pub EndsEach : Conversation A → List ℕ → Conversation A → Type 0
+  abbrev pub EndsEach : Conversation H → List ℕ → Conversation H → Type 0
   EndsEach old [] new = new ≡ old
-  EndsEach old (q ∷ qs) new = (mid : Conversation A) × Ends old q mid × EndsEach mid qs new
+  EndsEach old (q ∷ qs) new = (mid : Conversation H) × Ends old q mid × EndsEach mid qs new
 
   -- Why the oldest of the questions under way didn't end: its outcome isn't given out, and it stays under way; or that is no results, and it was given up; or
   -- it can't be given up, and its outcome is lost.
-  pub data IsUnended (asked : List ℕ) (old : Conversation A) (q : ℕ) (fault : StreamingFault) (left : List ℕ) (new : Conversation A) : Type 0 where
-    untold : (f : ClientFault) → fault ≡ faults.Client f → left ≡ asked → Stops kind old q f new → IsUnended asked old q fault left new
-    failed : (reason : NoResults) (outcome : Outcome) (told : Conversation A) → fault ≡ faults.NoResults reason → left ≡ drop 1 asked → Waits kind old q outcome told
+  pub data IsUnended (asked : List ℕ) (old : Conversation H) (q : ℕ) (fault : StreamingFault) (left : List ℕ) (new : Conversation H) : Type 0 where
+    untold : (f : ClientFault) → fault ≡ faults.Client f → left ≡ asked → Stops hall old q f new → IsUnended asked old q fault left new
+    failed : (reason : NoResults) (outcome : Outcome) (told : Conversation H) → fault ≡ faults.NoResults reason → left ≡ drop 1 asked → Waits hall old q outcome told
         → ComesTo outcome (Some reason) → Finishes told q new → IsUnended asked old q fault left new
-    unfinished : (f : ClientFault) (outcome : Outcome) (told : Conversation A) → fault ≡ faults.Client f → left ≡ drop 1 asked → Waits kind old q outcome told
+    unfinished : (f : ClientFault) (outcome : Outcome) (told : Conversation H) → fault ≡ faults.Client f → left ≡ drop 1 asked → Waits hall old q outcome told
         → IsUndone told (events.Finish q) f new → IsUnended asked old q fault left new
 
   -- There is room for one more call, once the question ended that has to. These are under way then.
-  abbrev pub MakesRoom : List ℕ → Conversation A → Option ℕ → List ℕ → Conversation A → Type 0
+  abbrev pub MakesRoom : List ℕ → Conversation H → Option ℕ → List ℕ → Conversation H → Type 0
   MakesRoom asked old None left new = (left ≡ asked) × (new ≡ old)
   MakesRoom asked old (Some q) left new = (left ≡ drop 1 asked) × Ends old q new
 
   -- why there is no room: the question didn't end that has to
-  abbrev pub IsFull : Flow → Conversation A → StreamingFault → List ℕ → Conversation A → Type 0
+  abbrev pub IsFull : Flow → Conversation H → StreamingFault → List ℕ → Conversation H → Type 0
   IsFull flow old fault left new = (q : ℕ) × (due flow ≡ Some q) × IsUnended flow.under_way old q fault left new
 
   -- A capability was called, once there was room. The call is under way.
-  pub record Sends (flow : Flow) (old : Conversation A) (cap : Cap) (request : Request) (sent : Flow) (new : Conversation A) : Type 0 where
+  pub record Sends (flow : Flow) (old : Conversation H) (cap : Cap) (request : Request) (sent : Flow) (new : Conversation H) : Type 0 where
     pub left : List ℕ
-    pub mid : Conversation A
+    pub mid : Conversation H
     pub room : MakesRoom flow.under_way old (due flow) left mid
     pub question : ℕ
     pub asks : Asks mid (events.Call cap request) question new
     pub noted : sent ≡ record flow { under_way = left ++ question ∷ [] }
 
   -- Why no call is under way that wasn't: there is no room; or it isn't made; or it is, and memory ran out for its question.
-  pub data IsUnsent (flow : Flow) (old : Conversation A) (cap : Cap) (request : Request) (fault : StreamingFault) (left : List ℕ) (new : Conversation A) : Type 0 where
+  pub data IsUnsent (flow : Flow) (old : Conversation H) (cap : Cap) (request : Request) (fault : StreamingFault) (left : List ℕ) (new : Conversation H) : Type 0 where
     full : IsFull flow old fault left new → IsUnsent flow old cap request fault left new
-    uncalled : (f : ClientFault) (mid : Conversation A) → fault ≡ faults.Client f → MakesRoom flow.under_way old (due flow) left mid → AsksOrNot mid cap request (Err f) new
+    uncalled : (f : ClientFault) (mid : Conversation H) → fault ≡ faults.Client f → MakesRoom flow.under_way old (due flow) left mid → AsksOrNot mid cap request (Err f) new
         → IsUnsent flow old cap request fault left new
-    forgotten : (q : ℕ) (mid : Conversation A) → fault ≡ faults.Client (client_faults.Connection connection_faults.OutOfMemory)
+    forgotten : (q : ℕ) (mid : Conversation H) → fault ≡ faults.Client (client_faults.Connection connection_faults.OutOfMemory)
         → MakesRoom flow.under_way old (due flow) left mid → Asks mid (events.Call cap request) q new → IsUnsent flow old cap request fault left new
 
   -- Some of the questions under way ended, one after another, and the next one didn't.
-  pub record Breaks (asked : List ℕ) (old : Conversation A) (fault : StreamingFault) (left : List ℕ) (new : Conversation A) : Type 0 where
+  pub record Breaks (asked : List ℕ) (old : Conversation H) (fault : StreamingFault) (left : List ℕ) (new : Conversation H) : Type 0 where
     pub ended : List ℕ
     pub q : ℕ
     pub rest : List ℕ
     pub in_order : asked ≡ ended ++ q ∷ rest
-    pub mid : Conversation A
+    pub mid : Conversation H
     pub ends : EndsEach old ended mid
     pub unended : IsUnended (q ∷ rest) mid q fault left new
 

@@ -23,20 +23,20 @@ abbrev pub closed_by : SessionEvent → Option Reason → Option Reason
 closed_by (told.Closed reason) closed = Some reason
 closed_by other closed = closed
 
-module _ {A : Type 0} where
+module _ {H : Type 0} where
   -- a client that knows what an event says
-  abbrev pub knowing : SessionEvent → Conversation A → Conversation A
+  abbrev pub knowing : SessionEvent → Conversation H → Conversation H
   knowing event old = record old { asked = asked_by event old.asked; closed = closed_by event old.closed }
 
   -- Events were told, one after another, and what each says is known: an outcome that is waited for is kept for its question.
-  pub data Hears (old : Conversation A) : Conversation A → Type 0 where
+  pub data Hears (old : Conversation H) : Conversation H → Type 0 where
     begins : Hears old old
-    goes_on : {mid new : Conversation A} (event : SessionEvent) (session : State A) → Hears old mid → Tells mid.session (Some event) session
+    goes_on : {mid new : Conversation H} (event : SessionEvent) (session : State H) → Hears old mid → Tells mid.session (Some event) session
         → new ≡ knowing event (record mid { session = session }) → Hears old new
 
   -- All that the session had to tell is known, and nothing else was done.
-  pub record Knows (old new : Conversation A) : Type 0 where
-    pub heard : Conversation A
+  pub record Knows (old new : Conversation H) : Type 0 where
+    pub heard : Conversation H
     pub hears : Hears old heard
     pub last : Tells heard.session None new.session
     pub same : new ≡ record heard { session = new.session }

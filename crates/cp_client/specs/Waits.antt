@@ -4,7 +4,7 @@ use Rattle.std.specs.FinMap.{get, remove}
 use Rattle.cp_refs.specs.declared.call.Request.{Request}
 use Rattle.cp_refs.specs.declared.cap.Cap.{Cap}
 use Rattle.cp_refs.specs.declared.outcome.Outcome.{Outcome}
-use Rattle.cp_servants.specs.Servant.{Kind}
+use Rattle.cp_makers.specs.Hall.{HallKind}
 use Rattle.cp_vat_machine.specs.declared.event.Event.TheVariants as events
 use Rattle.cp_connection.specs.declared.fault.ConnectionFault.TheVariants.{OutOfMemory}
 use Rattle.cp_session.specs.Doing.{HasMore, HasNone, PollsOn, RunsOut}
@@ -16,73 +16,73 @@ use Rattle.cp_client.specs.Reading.{GoesOn, Halts}
 use Rattle.cp_client.specs.Telling.{Knows}
 use Rattle.cp_client.specs.Writing.{Flushes, WritesPart}
 
-module _ {A : Type 0} where
+module _ {H : Type 0} where
   -- the outcome of a question came, and is given out: it is there no more
-  abbrev pub GivesOut : Conversation A → ℕ → Outcome → Conversation A → Type 0
+  abbrev pub GivesOut : Conversation H → ℕ → Outcome → Conversation H → Type 0
   GivesOut old q outcome new = (get old.asked q ≡ Some (Some outcome)) × (new ≡ record old { asked = remove old.asked q })
 
   -- a question is asked, and its outcome hasn't come
-  abbrev pub IsAwaited : ℕ → Conversation A → Type 0
+  abbrev pub IsAwaited : ℕ → Conversation H → Type 0
   IsAwaited q state = get state.asked q ≡ Some None
 
--- Of objects of one kind.
-module _ {A : Type 0} (kind : Kind A) where
+-- Of objects of one hall.
+module _ {H : Type 0} (hall : HallKind H) where
   -- the objects went on, or memory ran out for that
-  pub record Polls (old new : Conversation A) : Type 0 where
-    pub polls : PollsOn kind old.session 0 new.session ⊎ RunsOut kind old.session 0 new.session
+  pub record Polls (old new : Conversation H) : Type 0 where
+    pub polls : PollsOn hall old.session 0 new.session ⊎ RunsOut hall old.session 0 new.session
     pub same : new ≡ record old { session = new.session }
 
   -- All was written. Then the objects went on, where one may give more; or else bytes of the peer were taken.
-  pub data Steps (old new : Conversation A) : Type 0 where
-    polls_on : (mid : Conversation A) → Flushes kind old mid → HasMore kind mid.session → Polls mid new → Steps old new
-    reads_on : (mid : Conversation A) → Flushes kind old mid → HasNone kind mid.session → GoesOn kind mid new → Steps old new
+  pub data Steps (old new : Conversation H) : Type 0 where
+    polls_on : (mid : Conversation H) → Flushes hall old mid → HasMore hall mid.session → Polls mid new → Steps old new
+    reads_on : (mid : Conversation H) → Flushes hall old mid → HasNone hall mid.session → GoesOn hall mid new → Steps old new
 
   -- why a client doesn't go on: not all was written; or it was, the objects have no more to give, and no byte of the peer is taken
-  pub data Fails (old : Conversation A) (fault : ClientFault) (new : Conversation A) : Type 0 where
-    unwritten : WritesPart kind old fault new → Fails old fault new
-    halts : (mid : Conversation A) → Flushes kind old mid → HasNone kind mid.session → Halts mid fault new → Fails old fault new
+  pub data Fails (old : Conversation H) (fault : ClientFault) (new : Conversation H) : Type 0 where
+    unwritten : WritesPart hall old fault new → Fails old fault new
+    halts : (mid : Conversation H) → Flushes hall old mid → HasNone hall mid.session → Halts mid fault new → Fails old fault new
 
   -- The client went on, step by step. Before each step it knew all that its session had to tell, and this held.
-  pub data GoesWhile (holds : Conversation A → Type 0) (old : Conversation A) : Conversation A → Type 0 where
+  pub data GoesWhile (holds : Conversation H → Type 0) (old : Conversation H) : Conversation H → Type 0 where
     begins : GoesWhile holds old old
-    steps : {mid known new : Conversation A} → GoesWhile holds old mid → Knows mid known → holds known → Steps known new → GoesWhile holds old new
+    steps : {mid known new : Conversation H} → GoesWhile holds old mid → Knows mid known → holds known → Steps known new → GoesWhile holds old new
 
   -- The client went on while the outcome of a question hadn't come. Then that is given out.
-  pub record Waits (old : Conversation A) (q : ℕ) (outcome : Outcome) (new : Conversation A) : Type 0 where
-    pub mid : Conversation A
-    pub known : Conversation A
+  pub record Waits (old : Conversation H) (q : ℕ) (outcome : Outcome) (new : Conversation H) : Type 0 where
+    pub mid : Conversation H
+    pub known : Conversation H
     pub goes : GoesWhile (IsAwaited q) old mid
     pub knows : Knows mid known
     pub gives : GivesOut known q outcome new
 
   -- Why no outcome is given out: the question isn't asked; or its outcome hasn't come, and the client doesn't go on; or memory ran out.
-  pub data Stops (old : Conversation A) (q : ℕ) (fault : ClientFault) (new : Conversation A) : Type 0 where
-    not_asked : (mid : Conversation A) → GoesWhile (IsAwaited q) old mid → Knows mid new → fault ≡ client_faults.NotAsked → get new.asked q ≡ None
+  pub data Stops (old : Conversation H) (q : ℕ) (fault : ClientFault) (new : Conversation H) : Type 0 where
+    not_asked : (mid : Conversation H) → GoesWhile (IsAwaited q) old mid → Knows mid new → fault ≡ client_faults.NotAsked → get new.asked q ≡ None
         → Stops old q fault new
-    stopped : (mid known : Conversation A) → GoesWhile (IsAwaited q) old mid → Knows mid known → IsAwaited q known → Fails known fault new → Stops old q fault new
+    stopped : (mid known : Conversation H) → GoesWhile (IsAwaited q) old mid → Knows mid known → IsAwaited q known → Fails known fault new → Stops old q fault new
     ran_out : GoesWhile (IsAwaited q) old new → fault ≡ client_faults.Connection OutOfMemory → Stops old q fault new
 
   -- a client goes on whatever came
-  abbrev pub Serves : Conversation A → Conversation A → Type 0
+  abbrev pub Serves : Conversation H → Conversation H → Type 0
   Serves = GoesWhile (λ _. Unit {0})
 
   -- Why a client serves no more: it doesn't go on; or memory ran out.
-  pub data ServesUntil (old : Conversation A) (fault : ClientFault) (new : Conversation A) : Type 0 where
-    halted : (mid known : Conversation A) → Serves old mid → Knows mid known → Fails known fault new → ServesUntil old fault new
+  pub data ServesUntil (old : Conversation H) (fault : ClientFault) (new : Conversation H) : Type 0 where
+    halted : (mid known : Conversation H) → Serves old mid → Knows mid known → Fails known fault new → ServesUntil old fault new
     overran : Serves old new → fault ≡ client_faults.Connection OutOfMemory → ServesUntil old fault new
 
   -- a call was made, its outcome came and was given out, and its question was given up
-  pub record IsAnswered (old : Conversation A) (cap : Cap) (request : Request) (outcome : Outcome) (new : Conversation A) : Type 0 where
+  pub record IsAnswered (old : Conversation H) (cap : Cap) (request : Request) (outcome : Outcome) (new : Conversation H) : Type 0 where
     pub q : ℕ
-    pub called : Conversation A
-    pub given : Conversation A
+    pub called : Conversation H
+    pub given : Conversation H
     pub asks : Asks old (events.Call cap request) q called
     pub waits : Waits called q outcome given
     pub finishes : Finishes given q new
 
   -- Why a call isn't answered: it isn't made; or its outcome isn't given out; or that was, and is lost, since its question can't be given up.
-  pub data IsUnanswered (old : Conversation A) (cap : Cap) (request : Request) (fault : ClientFault) (new : Conversation A) : Type 0 where
+  pub data IsUnanswered (old : Conversation H) (cap : Cap) (request : Request) (fault : ClientFault) (new : Conversation H) : Type 0 where
     unasked : IsUnasked old (events.Call cap request) fault new → IsUnanswered old cap request fault new
-    untold : (q : ℕ) (called : Conversation A) → Asks old (events.Call cap request) q called → Stops called q fault new → IsUnanswered old cap request fault new
-    unfinished : (q : ℕ) (outcome : Outcome) (called given : Conversation A) → Asks old (events.Call cap request) q called → Waits called q outcome given
+    untold : (q : ℕ) (called : Conversation H) → Asks old (events.Call cap request) q called → Stops called q fault new → IsUnanswered old cap request fault new
+    unfinished : (q : ℕ) (outcome : Outcome) (called given : Conversation H) → Asks old (events.Call cap request) q called → Waits called q outcome given
         → IsUndone given (events.Finish q) fault new → IsUnanswered old cap request fault new

@@ -6,13 +6,13 @@ ghost use Rattle.cp_client.specs.Calls.{AsksOrNot};
 
 use crate::client::Client;
 use crate::fault::ClientFault;
+use cp_makers::Hall;
 use cp_refs::{Cap, Request};
-use cp_servants::Servant;
 use cp_stubs::Caller;
 use std::alloc::Global;
 use std::io::{Read, Write};
 
-impl<R: Read + Drop, W: Write + Drop, O: Servant> Caller for Client<R, W, O> {
+impl<R: Read + Drop, W: Write + Drop, H: Hall> Caller for Client<R, W, H> {
     type Fault = ClientFault;
 
     ghost asks = { λ old cap request result new. AsksOrNot (seen R.remaining W.contents old) cap request result (seen R.remaining W.contents new) };

@@ -1,11 +1,11 @@
 //! A client.
 
-ghost use Rattle.std.specs.Prelude.{◌≡◌, ◌<◌, ℕ, [], None, IfOk, IfErr, OnOk, OnErr, option_copied};
+ghost use Rattle.std.specs.Prelude.{◌≡◌, ◌<◌, ℕ, [], None, Some, IfOk, IfErr, OnOk, OnErr, option_copied};
 ghost use Rattle.cp_vat_machine.specs.declared.event.Event.TheVariants as events;
-ghost use Rattle.cp_session.specs.State.{link_of};
-ghost use Rattle.cp_client.specs.Calls.{Asks, Exports, Finishes, IsUnasked, IsUndone, IsUnexported, Releases};
+ghost use Rattle.cp_session.specs.State.{link_of, state_of};
+ghost use Rattle.cp_client.specs.Calls.{Asks, Exports, Finishes, HandsOn, IsUnasked, IsUndone, IsUnexported, Releases, Rests, Wakes};
 ghost use Rattle.cp_client.specs.Devices.{fresh};
-ghost use Rattle.cp_client.specs.Conversation.{new_conversation};
+ghost use Rattle.cp_client.specs.Conversation.{beginning, new_conversation, options_of};
 ghost use Rattle.cp_client.specs.ConversationOf.{seen};
 ghost use Rattle.cp_client.specs.Reading.{Ends, GoesOn, Halts, IsClosed, IsOpen, ReadFailed, Reads, Takes};
 ghost use Rattle.cp_client.specs.Telling.{Knows, knowing};
@@ -20,13 +20,14 @@ use crate::question::Question;
 use crate::questions::Questions;
 use cp_connection::{ConnectionFault, Tally};
 use cp_frame::Mode;
+use cp_makers::{Family, Hall, Maker, Waker};
 use cp_refs::{Cap, Outcome, Request};
 use cp_servants::Servant;
 use cp_session::{Session, SessionEvent, SessionLimits, SessionOptions};
 use cp_stream::{DeviceError, Tap};
 use cp_vat_machine::Reason;
 use cp_words::Limits;
-use std::alloc::Global;
+use std::alloc::{AllocError, Global};
 use std::io::{ErrorKind, Read, Write};
 
 /// The time at which all is done that a client does: it has no limits of time.
@@ -37,7 +38,7 @@ const NOW: u64 = 0;
 ///
 /// # In which order calls are made
 ///
-/// 1. `new` makes it, or `with_objects`.
+/// 1. `new` makes it, or `with_objects`, or `with_family`.
 /// 2. `bootstrap` asks for the peer's object. Its question may be called at once, by `Question::cap`.
 /// 3. `call` calls a capability: what a question will give, at a path by `Question::at`, an import that an outcome named, or an
 ///    object of the client's. A call is sent when the client next waits, in one go with all that was called before. `export` adds an
@@ -51,8 +52,11 @@ const NOW: u64 = 0;
 ///
 /// # Its objects
 ///
-/// `O` is their one type, or `Box<dyn Servant>` for objects of several. Object 0 is the one that was exported first. A call of an
-/// object that isn't there fails with `no such object`.
+/// `H` is a list of objects that make none, of one type or of `Box<dyn Servant>`; or a `Family` of objects that may make others. Object
+/// 0 is the one that was exported, or added, first. A call of an object that isn't there fails with `no such object`.
+///
+/// An object of a family that wakes another of it has that polled before more is read. A client has no clock: nobody is woken by
+/// `wake_after`. Objects of other sessions are to be woken that `next_wake` names.
 ///
 /// An import that several objects were given is released when each of them gave it up. What the program was given isn't
 /// counted: an object that gives up the same import takes it from the program too, unless a question that wasn't finished
@@ -69,10 +73,10 @@ const NOW: u64 = 0;
 ///   Where the vat closed, `closed` says why.
 ///
 /// Outcomes that came before a fault are given out after it.
-pub struct Client<R, W, O = Nobody> {
+pub struct Client<R, W, H = Vec<Nobody>> {
     from: Tap<R>,
     to: Tap<W>,
-    session: Session<O>,
+    session: Session<H>,
     /// The bytes that were read and weren't taken.
     piece: Piece,
     questions: Questions,
@@ -81,7 +85,7 @@ pub struct Client<R, W, O = Nobody> {
 }
 
 // Not derived: a crate that lets one go calls this function, and need not prove the drop of all that it holds.
-impl<R: Drop, W: Drop, O: Drop> Drop for Client<R, W, O> {
+impl<R: Drop, W: Drop, H: Drop> Drop for Client<R, W, H> {
     fn drop(self) {
         let Client {
             from: _,
@@ -94,16 +98,23 @@ impl<R: Drop, W: Drop, O: Drop> Drop for Client<R, W, O> {
     }
 }
 
-impl<R: Read + Drop, W: Write + Drop> Client<R, W, Nobody> {
+impl<R: Read + Drop, W: Write + Drop> Client<R, W, Vec<Nobody>> {
     /// A client without objects, that asked nothing. What comes is read within these limits; what goes out keeps to the standard ones.
-    pub fn new(alloc: Global, from: R, to: W, mode: Mode, limits: Limits) -> Client<R, W, Nobody>
-        ensures { seen R.remaining W.contents result ≡ new_conversation mode limits None (fresh (R.remaining from)) (fresh (W.contents to)) }
+    pub fn new(
+        alloc: Global,
+        from: R,
+        to: W,
+        mode: Mode,
+        limits: Limits,
+    ) -> Client<R, W, Vec<Nobody>>
+        ensures begun { let at = seen R.remaining W.contents in at result ≡ new_conversation mode limits None (at result).session.objects (fresh (R.remaining from)) (fresh (W.contents to)) }
+        ensures nobody { (seen R.remaining W.contents result).session.objects.items ≡ [] }
     {
         Client::with_objects(alloc, from, to, mode, limits, None)
     }
 }
 
-impl<R: Read + Drop, W: Write + Drop, O: Servant> Client<R, W, O> {
+impl<R: Read + Drop, W: Write + Drop, O: Servant> Client<R, W, Vec<O>> {
     /// The same, that may have objects, of which the peer gets this one for its Bootstrap.
     pub fn with_objects(
         alloc: Global,
@@ -112,26 +123,13 @@ impl<R: Read + Drop, W: Write + Drop, O: Servant> Client<R, W, O> {
         mode: Mode,
         limits: Limits,
         bootstrap: Option<u32>,
-    ) -> Client<R, W, O>
-        ensures { seen R.remaining W.contents result ≡ new_conversation mode limits bootstrap (fresh (R.remaining from)) (fresh (W.contents to)) }
+    ) -> Client<R, W, Vec<O>>
+        ensures begun { let at = seen R.remaining W.contents in at result ≡ new_conversation mode limits bootstrap (at result).session.objects (fresh (R.remaining from)) (fresh (W.contents to)) }
+        ensures nobody { (seen R.remaining W.contents result).session.objects.items ≡ [] }
     {
-        let options = SessionOptions {
-            mode,
-            messages: limits,
-            bootstrap,
-            may_call: true,
-            // The program holds what outcomes gave it.
-            releases_idle: false,
-            limits: SessionLimits::unlimited(),
-        };
-        Client {
-            from: Tap::new(from),
-            to: Tap::new(to),
-            session: Session::new(alloc, &options, Vec::new(alloc), NOW),
-            piece: Piece::new(alloc),
-            questions: Questions::new(alloc),
-            closed: None,
-        }
+        let options = options(mode, limits, bootstrap);
+        let session = Session::new(alloc, &options, Vec::new(alloc), NOW);
+        Client::begin(alloc, from, to, session)
     }
 
     /// Adds an object, and gives the capability of it. `TooManyObjects` says that there are 2^32 of them; at any other `Err` memory
@@ -139,7 +137,7 @@ impl<R: Read + Drop, W: Write + Drop, O: Servant> Client<R, W, O> {
     pub fn export(&mut self, object: O) -> Result<Cap, ClientFault>
         ensures exports { let at = seen R.remaining W.contents in IfOk result (λ cap. Exports (at self.old) object cap (at self.new)) }
         ensures unexported { let at = seen R.remaining W.contents in IfErr result (λ f. IsUnexported (at self.old) f) }
-        ensures same { let at = seen R.remaining W.contents in OnErr result (at self.new ≡ at self.old) }
+        ensures same { let at = seen R.remaining W.contents in OnErr result (Rests (at self.old) (at self.new)) }
     {
         match self.session.export(object)? {
             Some(cap) => Ok(cap),
@@ -149,11 +147,31 @@ impl<R: Read + Drop, W: Write + Drop, O: Servant> Client<R, W, O> {
 
     /// The objects, in the order in which they were exported.
     pub fn objects(&self) -> &[O]
-        ensures { result.now ≡ (seen R.remaining W.contents self.now).session.objects }
+        ensures { result.now ≡ (seen R.remaining W.contents self.now).session.objects.items }
     {
         self.session.objects()
     }
+}
 
+impl<R: Read + Drop, W: Write + Drop, O: Maker<Makes = O>> Client<R, W, Family<O>> {
+    /// The same, with objects that may make others. The peer gets the first for its Bootstrap.
+    pub fn with_family(
+        alloc: Global,
+        from: R,
+        to: W,
+        mode: Mode,
+        limits: Limits,
+        objects: Family<O>,
+    ) -> Client<R, W, Family<O>>
+        ensures { seen R.remaining W.contents result ≡ new_conversation mode limits (Some 0) objects (fresh (R.remaining from)) (fresh (W.contents to)) }
+    {
+        let options = options(mode, limits, Some(0));
+        let session = Session::new(alloc, &options, objects, NOW);
+        Client::begin(alloc, from, to, session)
+    }
+}
+
+impl<R: Read + Drop, W: Write + Drop, H: Hall> Client<R, W, H> {
     /// Asks for the peer's bootstrap capability. Refused as `Vat::bootstrap`.
     pub fn bootstrap(&mut self) -> Result<Question, ClientFault>
         ensures asks { let at = seen R.remaining W.contents in IfOk result (λ q. Asks (at self.old) events.Bootstrap q.number (at self.new)) }
@@ -178,8 +196,8 @@ impl<R: Read + Drop, W: Write + Drop, O: Servant> Client<R, W, O> {
     /// question until that is finished, and its imports until they are released. An outcome that comes for another
     /// question is kept for it.
     pub fn wait(&mut self, question: Question) -> Result<Outcome, ClientFault>
-        ensures waits { let at = seen R.remaining W.contents in IfOk result (λ outcome. Waits O.kind (at self.old) question.number outcome (at self.new)) }
-        ensures stops { let at = seen R.remaining W.contents in IfErr result (λ f. Stops O.kind (at self.old) question.number f (at self.new)) }
+        ensures waits { let at = seen R.remaining W.contents in IfOk result (λ outcome. Waits H.hall (at self.old) question.number outcome (at self.new)) }
+        ensures stops { let at = seen R.remaining W.contents in IfErr result (λ f. Stops H.hall (at self.old) question.number f (at self.new)) }
     {
         for _ in 0..u64::MAX {
             // The outcome is looked for before anything is written: one that has come needs no writer.
@@ -196,8 +214,8 @@ impl<R: Read + Drop, W: Write + Drop, O: Servant> Client<R, W, O> {
     /// Calls a capability, waits for the outcome, and finishes the question.
     /// Where memory runs out as the question is given up, the outcome is lost; `call`, `wait` and `finish` lose none.
     pub fn ask(&mut self, cap: Cap, request: Request) -> Result<Outcome, ClientFault>
-        ensures answered { let at = seen R.remaining W.contents in IfOk result (λ outcome. IsAnswered O.kind (at self.old) cap request outcome (at self.new)) }
-        ensures unanswered { let at = seen R.remaining W.contents in IfErr result (λ f. IsUnanswered O.kind (at self.old) cap request f (at self.new)) }
+        ensures answered { let at = seen R.remaining W.contents in IfOk result (λ outcome. IsAnswered H.hall (at self.old) cap request outcome (at self.new)) }
+        ensures unanswered { let at = seen R.remaining W.contents in IfErr result (λ f. IsUnanswered H.hall (at self.old) cap request f (at self.new)) }
     {
         let question = self.call(cap, request)?;
         let outcome = self.wait(question)?;
@@ -232,8 +250,8 @@ impl<R: Read + Drop, W: Write + Drop, O: Servant> Client<R, W, O> {
 
     /// Writes all that was sent, and waits for nothing.
     pub fn flush(&mut self) -> Result<(), ClientFault>
-        ensures flushes { let at = seen R.remaining W.contents in OnOk result (Flushes O.kind (at self.old) (at self.new)) }
-        ensures part { let at = seen R.remaining W.contents in IfErr result (λ f. WritesPart O.kind (at self.old) f (at self.new)) }
+        ensures flushes { let at = seen R.remaining W.contents in OnOk result (Flushes H.hall (at self.old) (at self.new)) }
+        ensures part { let at = seen R.remaining W.contents in IfErr result (λ f. WritesPart H.hall (at self.old) f (at self.new)) }
     {
         self.write()?;
         // The writer may keep bytes that the peer waits for.
@@ -243,8 +261,8 @@ impl<R: Read + Drop, W: Write + Drop, O: Servant> Client<R, W, O> {
 
     /// Takes the peer's messages until they end, while the objects answer.
     pub fn serve(&mut self) -> Result<(), ClientFault>
-        ensures serves { let at = seen R.remaining W.contents in OnOk result (ServesUntil O.kind (at self.old) Ended (at self.new)) }
-        ensures stops { let at = seen R.remaining W.contents in IfErr result (λ f. ServesUntil O.kind (at self.old) f (at self.new)) }
+        ensures serves { let at = seen R.remaining W.contents in OnOk result (ServesUntil H.hall (at self.old) Ended (at self.new)) }
+        ensures stops { let at = seen R.remaining W.contents in IfErr result (λ f. ServesUntil H.hall (at self.old) f (at self.new)) }
     {
         for _ in 0..u64::MAX {
             self.note();
@@ -255,6 +273,20 @@ impl<R: Read + Drop, W: Write + Drop, O: Servant> Client<R, W, O> {
             }
         }
         Err(ClientFault::Connection(ConnectionFault::OutOfMemory))
+    }
+
+    /// Has an object polled, if it is there, when the client next waits.
+    pub fn wake(&mut self, object: u32) -> Result<(), AllocError>
+        ensures { let at = seen R.remaining W.contents in OnOk result (Wakes H.hall object (at self.old) (at self.new)) }
+    {
+        self.session.wake(object)
+    }
+
+    /// Takes out the first object of another session that an object here wants to be woken.
+    pub fn next_wake(&mut self) -> Option<Waker>
+        ensures { let at = seen R.remaining W.contents in HandsOn H.hall result (at self.old) (at self.new) }
+    {
+        self.session.next_wake()
     }
 
     /// Why the vat closed, if it did.
@@ -291,10 +323,24 @@ impl<R: Read + Drop, W: Write + Drop, O: Servant> Client<R, W, O> {
         (from.into_inner(), to.into_inner())
     }
 
+    /// A client that does nothing yet, over a session that does nothing yet.
+    fn begin(alloc: Global, from: R, to: W, session: Session<H>) -> Client<R, W, H>
+        ensures { seen R.remaining W.contents result ≡ beginning (state_of session) (fresh (R.remaining from)) (fresh (W.contents to)) }
+    {
+        Client {
+            from: Tap::new(from),
+            to: Tap::new(to),
+            session,
+            piece: Piece::new(alloc),
+            questions: Questions::new(alloc),
+            closed: None,
+        }
+    }
+
     /// Writes all that was sent. Then the objects go on where one may give more, or else bytes of the peer are taken.
     fn step(&mut self) -> Result<(), ClientFault>
-        ensures steps { let at = seen R.remaining W.contents in OnOk result (Steps O.kind (at self.old) (at self.new)) }
-        ensures fails { let at = seen R.remaining W.contents in IfErr result (λ f. Fails O.kind (at self.old) f (at self.new)) }
+        ensures steps { let at = seen R.remaining W.contents in OnOk result (Steps H.hall (at self.old) (at self.new)) }
+        ensures fails { let at = seen R.remaining W.contents in IfErr result (λ f. Fails H.hall (at self.old) f (at self.new)) }
     {
         self.flush()?;
         if self.session.has_more() {
@@ -306,14 +352,14 @@ impl<R: Read + Drop, W: Write + Drop, O: Servant> Client<R, W, O> {
 
     /// Has the objects go on. Where memory runs out `is_open` says so, once all is written.
     fn poll(&mut self)
-        ensures { let at = seen R.remaining W.contents in Polls O.kind (at self.old) (at self.new) }
+        ensures { let at = seen R.remaining W.contents in Polls H.hall (at self.old) (at self.new) }
     {
         let _ = self.session.poll(NOW);
     }
 
     /// Takes bytes up to the end of a message, or of those that were read; or ends them.
     fn go_on(&mut self) -> Result<(), ClientFault>
-        ensures goes_on { let at = seen R.remaining W.contents in OnOk result (GoesOn O.kind (at self.old) (at self.new)) }
+        ensures goes_on { let at = seen R.remaining W.contents in OnOk result (GoesOn H.hall (at self.old) (at self.new)) }
         ensures halts { let at = seen R.remaining W.contents in IfErr result (λ f. Halts (at self.old) f (at self.new)) }
     {
         self.is_open()?;
@@ -353,7 +399,7 @@ impl<R: Read + Drop, W: Write + Drop, O: Servant> Client<R, W, O> {
 
     /// Takes the bytes that were read, up to the end of a message. Where they can't be taken `is_open` says so, once all is written.
     fn take(&mut self)
-        ensures { let at = seen R.remaining W.contents in Takes O.kind (at self.old) (at self.new) }
+        ensures { let at = seen R.remaining W.contents in Takes H.hall (at self.old) (at self.new) }
     {
         match self.session.receive(self.piece.bytes(), NOW) {
             Ok(count) => self.piece.took(count),
@@ -363,7 +409,7 @@ impl<R: Read + Drop, W: Write + Drop, O: Servant> Client<R, W, O> {
 
     /// Ends the peer's bytes. The objects still give what they owe. Once that is written, `is_open` says that the peer ended.
     fn end(&mut self)
-        ensures { let at = seen R.remaining W.contents in Ends O.kind (at self.old) (at self.new) }
+        ensures { let at = seen R.remaining W.contents in Ends H.hall (at self.old) (at self.new) }
     {
         let _ = self.session.end(NOW);
     }
@@ -392,9 +438,9 @@ impl<R: Read + Drop, W: Write + Drop, O: Servant> Client<R, W, O> {
 
     /// Writes all that was sent.
     fn write(&mut self) -> Result<(), ClientFault>
-        ensures writes { let at = seen R.remaining W.contents in OnOk result (WritesOn O.kind (at self.old) (at self.new)) }
+        ensures writes { let at = seen R.remaining W.contents in OnOk result (WritesOn H.hall (at self.old) (at self.new)) }
         ensures all { let at = seen R.remaining W.contents in OnOk result ((link_of (at self.new).session).unwritten ≡ []) }
-        ensures part { let at = seen R.remaining W.contents in IfErr result (λ f. WritesPart O.kind (at self.old) f (at self.new)) }
+        ensures part { let at = seen R.remaining W.contents in IfErr result (λ f. WritesPart H.hall (at self.old) f (at self.new)) }
     {
         'writing: while !self.session.outgoing().is_empty() {
             self.write_some()?;
@@ -404,7 +450,7 @@ impl<R: Read + Drop, W: Write + Drop, O: Servant> Client<R, W, O> {
 
     /// Offers the writer what was sent, and notes how much it took.
     fn write_some(&mut self) -> Result<(), ClientFault>
-        ensures writes { let at = seen R.remaining W.contents in OnOk result ((count : ℕ) × (0 < count) × WritesSome O.kind (at self.old) count (at self.new)) }
+        ensures writes { let at = seen R.remaining W.contents in OnOk result ((count : ℕ) × (0 < count) × WritesSome H.hall (at self.old) count (at self.new)) }
         ensures failed { let at = seen R.remaining W.contents in IfErr result (λ f. WriteFailed (at self.old) f (at self.new)) }
     {
         // Each count is noted, so that after a failed call it is known to the byte what was written.
@@ -415,5 +461,20 @@ impl<R: Read + Drop, W: Write + Drop, O: Servant> Client<R, W, O> {
         }
         self.session.wrote(count, NOW);
         Ok(())
+    }
+}
+
+/// How the session of a client goes.
+fn options(mode: Mode, limits: Limits, bootstrap: Option<u32>) -> SessionOptions
+    ensures { result ≡ options_of mode limits bootstrap }
+{
+    SessionOptions {
+        mode,
+        messages: limits,
+        bootstrap,
+        may_call: true,
+        // The program holds what outcomes gave it.
+        releases_idle: false,
+        limits: SessionLimits::unlimited(),
     }
 }

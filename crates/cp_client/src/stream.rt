@@ -7,8 +7,8 @@ ghost use Rattle.cp_client.specs.Streams.{Breaks, ComesTo, Ends, EndsEach, IsFul
 use crate::client::Client;
 use crate::fault::StreamingFault;
 use crate::question::Question;
+use cp_makers::Hall;
 use cp_refs::{Outcome, Request};
-use cp_servants::Servant;
 use cp_stubs::{CallTarget, NoResults, payload_of};
 use std::alloc::Global;
 use std::collections::VecDeque;
@@ -52,14 +52,14 @@ impl Stream {
 
     /// Calls a capability. Where as many calls are under way as the window has, the oldest is waited for before. Where memory
     /// runs out the call may have been made, and isn't under way.
-    pub fn send<R: Read + Drop, W: Write + Drop, O: Servant>(
+    pub fn send<R: Read + Drop, W: Write + Drop, H: Hall>(
         &mut self,
-        client: &mut Client<R, W, O>,
+        client: &mut Client<R, W, H>,
         target: &CallTarget,
         request: Request,
     ) -> Result<(), StreamingFault>
-        ensures sends { let at = seen R.remaining W.contents in OnOk result (Sends O.kind self.old (at client.old) target.now request self.new (at client.new)) }
-        ensures unsent { let at = seen R.remaining W.contents in IfErr result (λ f. IsUnsent O.kind self.old (at client.old) target.now request f self.new.under_way (at client.new)) }
+        ensures sends { let at = seen R.remaining W.contents in OnOk result (Sends H.hall self.old (at client.old) target.now request self.new (at client.new)) }
+        ensures unsent { let at = seen R.remaining W.contents in IfErr result (λ f. IsUnsent H.hall self.old (at client.old) target.now request f self.new.under_way (at client.new)) }
         ensures same_window { self.new.window ≡ self.old.window }
     {
         self.make_room(client)?;
@@ -69,13 +69,13 @@ impl Stream {
     }
 
     /// Waits for all calls that are under way, in order.
-    pub fn end<R: Read + Drop, W: Write + Drop, O: Servant>(
+    pub fn end<R: Read + Drop, W: Write + Drop, H: Hall>(
         &mut self,
-        client: &mut Client<R, W, O>,
+        client: &mut Client<R, W, H>,
     ) -> Result<(), StreamingFault>
-        ensures ends { let at = seen R.remaining W.contents in OnOk result (EndsEach O.kind (at client.old) self.old.under_way (at client.new)) }
+        ensures ends { let at = seen R.remaining W.contents in OnOk result (EndsEach H.hall (at client.old) self.old.under_way (at client.new)) }
         ensures none_left { OnOk result (self.new.under_way ≡ []) }
-        ensures breaks { let at = seen R.remaining W.contents in IfErr result (λ f. Breaks O.kind self.old.under_way (at client.old) f self.new.under_way (at client.new)) }
+        ensures breaks { let at = seen R.remaining W.contents in IfErr result (λ f. Breaks H.hall self.old.under_way (at client.old) f self.new.under_way (at client.new)) }
         ensures same_window { self.new.window ≡ self.old.window }
     {
         'ending: while let Some(question) = self.oldest() {
@@ -85,12 +85,12 @@ impl Stream {
     }
 
     /// Waits for the question that has to end before another is asked, if there is one.
-    fn make_room<R: Read + Drop, W: Write + Drop, O: Servant>(
+    fn make_room<R: Read + Drop, W: Write + Drop, H: Hall>(
         &mut self,
-        client: &mut Client<R, W, O>,
+        client: &mut Client<R, W, H>,
     ) -> Result<(), StreamingFault>
-        ensures room { let at = seen R.remaining W.contents in OnOk result (MakesRoom O.kind self.old.under_way (at client.old) (due self.old) self.new.under_way (at client.new)) }
-        ensures full { let at = seen R.remaining W.contents in IfErr result (λ f. IsFull O.kind self.old (at client.old) f self.new.under_way (at client.new)) }
+        ensures room { let at = seen R.remaining W.contents in OnOk result (MakesRoom H.hall self.old.under_way (at client.old) (due self.old) self.new.under_way (at client.new)) }
+        ensures full { let at = seen R.remaining W.contents in IfErr result (λ f. IsFull H.hall self.old (at client.old) f self.new.under_way (at client.new)) }
         ensures same_window { self.new.window ≡ self.old.window }
     {
         match self.due() {
@@ -117,14 +117,14 @@ impl Stream {
     }
 
     /// Waits for the outcome of the oldest question, and gives the question up.
-    fn end_oldest<R: Read + Drop, W: Write + Drop, O: Servant>(
+    fn end_oldest<R: Read + Drop, W: Write + Drop, H: Hall>(
         &mut self,
-        client: &mut Client<R, W, O>,
+        client: &mut Client<R, W, H>,
         question: u32,
     ) -> Result<(), StreamingFault>
-        ensures ends { let at = seen R.remaining W.contents in OnOk result (Ends O.kind (at client.old) question (at client.new)) }
+        ensures ends { let at = seen R.remaining W.contents in OnOk result (Ends H.hall (at client.old) question (at client.new)) }
         ensures left { OnOk result (self.new.under_way ≡ drop 1 self.old.under_way) }
-        ensures unended { let at = seen R.remaining W.contents in IfErr result (λ f. IsUnended O.kind self.old.under_way (at client.old) question f self.new.under_way (at client.new)) }
+        ensures unended { let at = seen R.remaining W.contents in IfErr result (λ f. IsUnended H.hall self.old.under_way (at client.old) question f self.new.under_way (at client.new)) }
         ensures same_window { self.new.window ≡ self.old.window }
     {
         let number = question;

@@ -102,7 +102,7 @@ where
 }
 
 /// Serves the connections of a host until the last has ended, and gives the status.
-fn run<N, E: Write>(rt: &N, host: &mut Host<Sample>, err: &mut E) -> io::Result<u8>
+fn run<N, E: Write>(rt: &N, host: &mut Host<Vec<Sample>>, err: &mut E) -> io::Result<u8>
 where
     N: Net + Clock + AllocGlobal,
 {
@@ -121,7 +121,7 @@ where
 
 /// Does what news of a connection asks, and gives the status that it leads to. One that can't be served has ended by that; the
 /// others go on.
-fn hear<E: Write>(alloc: Global, host: &mut Host<Sample>, news: &News, err: &mut E) -> u8 {
+fn hear<E: Write>(alloc: Global, host: &mut Host<Vec<Sample>>, news: &News, err: &mut E) -> u8 {
     match news {
         News::Came { peer, .. } => match admit(alloc, host) {
             Ok(()) => ACCEPTED,
@@ -133,7 +133,7 @@ fn hear<E: Write>(alloc: Global, host: &mut Host<Sample>, news: &News, err: &mut
 }
 
 /// Serves the connection that came last with a Desk and a Cell.
-fn admit(alloc: Global, host: &mut Host<Sample>) -> io::Result<()> {
+fn admit(alloc: Global, host: &mut Host<Vec<Sample>>) -> io::Result<()> {
     let mut objects = Vec::with_capacity(alloc, 2)?;
     objects.push(Sample::Desk(Desk::new(alloc)))?;
     objects.push(Sample::Cell(Cell::new(alloc)))?;

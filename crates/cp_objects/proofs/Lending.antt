@@ -1,23 +1,23 @@
 -- Calls that are lent are handled first, and what else happened is worked off then.
-use Rattle.std.proofs.Common.{◌≡◌, ◌↔◌, ◌==◌, ℕ, true, List, Option, Some, None, refl, sym, ap, ◌∙◌, subst, arith}
+use Rattle.std.proofs.Common.{◌≡◌, ◌↔◌, ◌==◌, ℕ, true, Option, Some, None, refl, sym, ap, ◌∙◌, subst, arith}
 use Rattle.std.proofs.lemmas.Bool.Decides.{nat_tests}
 use Rattle.cp_vat.specs.declared.lent.Lent.{Lent}
 use Rattle.cp_connection.specs.Lending.{HandsLent, delivered}
 use Rattle.cp_connection.specs.Link.{Link}
-use Rattle.cp_servants.specs.Servant.{Kind}
+use Rattle.cp_makers.specs.Hall.{HallKind}
 use Rattle.cp_objects.specs.Work.{Work, Lives}
 use Rattle.cp_objects.specs.Rounds.{WorksOff, handles}
 use Rattle.cp_objects.specs.Receiving.{HandlesLent}
 use Rattle.cp_objects.proofs.Living.{lives_next, lives_none}
 
-module _ {A : Type 0} (kind : Kind A) where
+module _ {H : Type 0} (hall : HallKind H) where
   -- a call that is lent happened first
-  pub works_off_lent : (lent : Option Lent) (old : Work) (link handed : Link) (mid new : Work) (objects between others : List A) → HandsLent link lent handed
-      → HandlesLent kind lent (record old { link = handed }) mid objects between → WorksOff kind mid new between others → WorksOff kind (record old { link = link }) new objects others
+  pub works_off_lent : (lent : Option Lent) (old : Work) (link handed : Link) (mid new : Work) (objects between others : H) → HandsLent link lent handed
+      → HandlesLent hall lent (record old { link = handed }) mid objects between → WorksOff hall mid new between others → WorksOff hall (record old { link = link }) new objects others
   works_off_lent (Some lent) old link handed mid new objects between others hands handled rest = handles (delivered lent) handed hands handled rest
   works_off_lent None old link handed mid new objects between others hands handled rest =
-      subst (λ (l : Link). WorksOff kind (record old { link = l }) new objects others) hands
-      (subst (λ (w : Work). WorksOff kind w new objects others) handled.0 (subst (λ (os : List A). WorksOff kind mid new os others) handled.1 rest))
+      subst (λ (l : Link). WorksOff hall (record old { link = l }) new objects others) hands
+      (subst (λ (w : Work). WorksOff hall w new objects others) handled.0 (subst (λ (os : H). WorksOff hall mid new os others) handled.1 rest))
 
 -- what is handed out is none of the frames
 pub same_reading : (lent : Option Lent) (link handed : Link) → HandsLent link lent handed → handed.reading ≡ link.reading

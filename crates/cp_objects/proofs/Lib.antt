@@ -3,3 +3,4 @@ pub mod Holding
 pub mod Living
 pub mod Working
 pub mod Lending
+pub mod Dropping

@@ -10,7 +10,7 @@ use Rattle.cp_refs.specs.declared.outcome.Outcome.{Outcome}
 use Rattle.cp_vat_machine.specs.declared.event.Event.TheVariants as events
 use Rattle.cp_connection.specs.Link.{Link}
 use Rattle.cp_servants.specs.declared.servant.Settled.{Settled}
-use Rattle.cp_servants.specs.Servant.{Kind}
+use Rattle.cp_makers.specs.Hall.{HallKind}
 use Rattle.cp_objects.specs.declared.asker.Asker.{Asker}
 use Rattle.cp_objects.specs.declared.notice.Notice.TheVariants as notices
 use Rattle.cp_objects.specs.Work.{Work, Answers, GivesUp, IsDone, LetsGo, Notes, TriesEach, TriesUnheld}
@@ -31,6 +31,10 @@ pub not_some : {X : Type 0} (o : Option X) (b : Bool) → (IsTrue b ↔ IsSome o
 not_some None b h e = refl
 not_some (Some x) b h e = absurd (false≢true (sym e ∙ h.1 refl))
 
+-- what isn't so by a test
+pub lacks : {P : Type 0} (b : Bool) → (IsTrue b ↔ P) → b ≡ false → P → ⊥
+lacks b test unmet h = false≢true (sym unmet ∙ test.1 h)
+
 pub settles_stranger : (old : Work) (w : Option Settled) (settled : Settled) (a : Table Origin) → w ≡ Some settled → get old.awaited settled.ticket ≡ None
     → a ≡ remove old.awaited settled.ticket → Settles old w false (record old { awaited = a })
 settles_stranger old w settled a e none r =
@@ -40,12 +44,6 @@ pub settles_awaited : (old : Work) (w : Option Settled) (settled : Settled) (ori
     → get old.awaited settled.ticket ≡ Some origin → a ≡ remove old.awaited settled.ticket → GivesUp settled.gives_up (record old { awaited = a }) mid
     → Answers mid.link origin settled.outcome link → new ≡ record mid { link = link } → Settles old w true new
 settles_awaited old w settled origin link a mid e got r gives answers same = rw e (is_awaited settled origin link {mid = mid} got (rw r at gives) answers same)
-
--- nothing more was given
-pub so_far : {A : Type 0} {kind : Kind A} {place : ℕ} {old new : Work} {objects others : List A} (gave : Bool) → PollsFrom kind place old (gave || false) new objects others
-    → PollsFrom kind place old gave new objects others
-so_far true h = h
-so_far false h = h
 
 -- one is given up, and then the others
 pub gives_next : (items : List ℕ) (i d : ℕ) {old mid : Work} (last : Work) → i < length items → LetsGo (get_or items i d) old mid → GivesUp (drop (i + 1) items) mid last
@@ -57,18 +55,22 @@ pub tries_next : (items : List ℕ) (i d : ℕ) {old mid : Work} (last : Work) �
     → TriesEach old (drop i items) last
 tries_next items i d {mid = mid} last h tried rest = rw (drop-cons items i d h) (mid, tried, rw add-one at rest)
 
-pub works_off_none : {A : Type 0} {kind : Kind A} (old : Work) (link : Link) (objects : List A) → link ≡ old.link → old.link.happened ≡ []
-    → WorksOff kind old (record old { link = link }) objects objects
-works_off_none old link objects e none = rw e (none_left none)
+module _ {H : Type 0} {hall : HallKind H} where
+  -- nothing more was given
+  pub so_far : {from : ℕ} {old new : Work} {objects others : H} (gave : Bool) → PollsFrom hall from old (gave || false) new objects others → PollsFrom hall from old gave new objects others
+  so_far true h = h
+  so_far false h = h
 
-pub hands_to_user : {A : Type 0} {kind : Kind A} (old : Work) (asked : Table Asker) (question : ℕ) (outcome : Outcome) {new : Work} {objects : List A} → get old.asked question ≡ None
-    → asked ≡ remove old.asked question → Notes (notices.Settled question outcome) (record old { asked = asked }) new → HandsBack kind question outcome old new objects objects
-hands_to_user old asked question outcome none r noted =
-    to_user none (rw (r, ← is_remove old.asked old.asked question none (λ q h. refl)) at noted) refl
+  pub works_off_none : (old : Work) (link : Link) (objects : H) → link ≡ old.link → old.link.happened ≡ [] → WorksOff hall old (record old { link = link }) objects objects
+  works_off_none old link objects e none = rw e (none_left none)
 
-pub hands_to_object : {A : Type 0} {kind : Kind A} (old : Work) (asked : Table Asker) (question : ℕ) (outcome : Outcome) (asker : Asker) (link : Link) {told new : Work}
-    {objects between others : List A}
-    → get old.asked question ≡ Some asker → asked ≡ remove old.asked question → IsDone old.link (events.Finish question) link
-    → Hears kind asker.place asker.mark outcome (record old { link = link; asked = asked }) told objects between → MakesCalls kind asker.place told new between others
-    → HandsBack kind question outcome old new objects others
-hands_to_object old asked question outcome asker link got r done heard calls = to_object asker link got done (rw r at heard) calls
+  pub hands_to_user : (old : Work) (asked : Table Asker) (question : ℕ) (outcome : Outcome) {new : Work} {objects : H} → get old.asked question ≡ None
+      → asked ≡ remove old.asked question → Notes (notices.Settled question outcome) (record old { asked = asked }) new → HandsBack hall question outcome old new objects objects
+  hands_to_user old asked question outcome none r noted =
+      to_user none (rw (r, ← is_remove old.asked old.asked question none (λ q h. refl)) at noted) refl
+
+  pub hands_to_object : (old : Work) (asked : Table Asker) (question : ℕ) (outcome : Outcome) (asker : Asker) (link : Link) {told new : Work} {objects between others : H}
+      → get old.asked question ≡ Some asker → asked ≡ remove old.asked question → IsDone old.link (events.Finish question) link
+      → Hears hall asker.number asker.mark outcome (record old { link = link; asked = asked }) told objects between → MakesCalls hall asker.number told new between others
+      → HandsBack hall question outcome old new objects others
+  hands_to_object old asked question outcome asker link got r done heard calls = to_object asker link got done (rw r at heard) calls

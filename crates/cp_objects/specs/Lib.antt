@@ -6,3 +6,4 @@ pub mod Idle
 pub mod Receiving
 pub mod WorkOf
 pub mod Noticed
+pub mod Dropping

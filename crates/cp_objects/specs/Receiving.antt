@@ -8,29 +8,29 @@ use Rattle.cp_connection.specs.declared.fault.ConnectionFault.TheVariants as fau
 use Rattle.cp_connection.specs.Lending.{delivered}
 use Rattle.cp_connection.specs.Link.{Link}
 use Rattle.cp_connection.specs.Receiving as connection
+use Rattle.cp_makers.specs.Hall.{HallKind}
 use Rattle.cp_servants.specs.declared.servant.Reply.{Reply}
-use Rattle.cp_servants.specs.Servant.{Kind}
 use Rattle.cp_objects.specs.Rounds.{Gives, Handles, WorksOff}
 use Rattle.cp_objects.specs.Work.{Work, Lives}
 
-module _ {A : Type 0} (kind : Kind A) where
+module _ {H : Type 0} (hall : HallKind H) where
   -- The connection took the first bytes of a piece, and it is said whether a frame ended with them. What then happened was worked off, and nothing else was
   -- done with the connection.
-  abbrev pub Receives : Work → List ℕ → ℕ → Bool → Work → List A → List A → Type 0
+  abbrev pub Receives : Work → List ℕ → ℕ → Bool → Work → H → H → Type 0
   Receives old piece count has_ended new objects others =
       (link : Link) × connection.Receives old.link piece count link × ((has_ended ≡ true) ↔ (taken_of link.reading ≡ 0))
-      × WorksOff kind (record old { link = link }) new objects others × Lives link new.link
+      × WorksOff hall (record old { link = link }) new objects others × Lives link new.link
 
   -- a call that is lent is given to its object, which replies this
-  abbrev pub GivesLent : Lent → Reply → Work → Work → List A → List A → Type 0
-  GivesLent lent reply old new objects others = Gives kind lent.object lent.ticket (asked_by lent) reply old new objects others
+  abbrev pub GivesLent : Lent → Reply → Work → Work → H → H → Type 0
+  GivesLent lent reply old new objects others = Gives hall lent.object lent.ticket (asked_by lent) reply old new objects others
 
   -- a call that is lent is done as one that was delivered, if there is one
-  abbrev pub HandlesLent : Option Lent → Work → Work → List A → List A → Type 0
-  HandlesLent (Some lent) old new objects others = Handles kind (delivered lent) old new objects others
+  abbrev pub HandlesLent : Option Lent → Work → Work → H → H → Type 0
+  HandlesLent (Some lent) old new objects others = Handles hall (delivered lent) old new objects others
   HandlesLent None old new objects others = (new ≡ old) × (others ≡ objects)
 
 -- Why a piece isn't taken to the end of a message and what follows of it: it isn't received, and no object was called; or memory ran out for what follows.
-pub data IsCutShort {A : Type 0} (old : Link) (piece : List ℕ) (fault : ConnectionFault) (new : Link) (objects others : List A) : Type 0 where
+pub data IsCutShort {H : Type 0} (old : Link) (piece : List ℕ) (fault : ConnectionFault) (new : Link) (objects others : H) : Type 0 where
   is_unreceived : (taken : List ℕ) → connection.IsUnreceived old piece taken fault new → others ≡ objects → IsCutShort old piece fault new objects others
   ran_out : (count : ℕ) (mid : Link) → connection.Receives old piece count mid → Lives mid new → fault ≡ faults.OutOfMemory → IsCutShort old piece fault new objects others

@@ -1,5 +1,5 @@
 -- What a connection asks of its objects, and what they give.
-use Rattle.std.specs.Prelude.{◌≡◌, ℕ, ◌+◌, ◌≤◌, Bool, true, false, ◌||◌, IsSome, List, [], ◌∷◌, Option, Some, None, length}
+use Rattle.std.specs.Prelude.{◌≡◌, ℕ, ◌+◌, Bool, true, false, ◌||◌, IsSome, [], ◌∷◌, Option, Some, None}
 use Rattle.std.specs.FinMap.{get, remove}
 use Rattle.cp_refs.specs.declared.call.Origin.{Origin}
 use Rattle.cp_refs.specs.declared.call.Request.{Request}
@@ -7,15 +7,15 @@ use Rattle.cp_connection.specs.declared.happening.Happening.{Happening}
 use Rattle.cp_connection.specs.declared.happening.Happening.TheVariants as happenings
 use Rattle.cp_connection.specs.Link.{Link}
 use Rattle.cp_connection.specs.Receiving.{HandsOut}
+use Rattle.cp_makers.specs.Hall.{HallKind}
 use Rattle.cp_objects.specs.declared.notice.Notice.{Notice}
 use Rattle.cp_objects.specs.declared.notice.Notice.TheVariants as notices
 use Rattle.cp_servants.specs.declared.servant.Reply.{Reply}
 use Rattle.cp_servants.specs.declared.servant.Reply.TheVariants as replies
 use Rattle.cp_servants.specs.declared.servant.Settled.{Settled}
 use Rattle.cp_servants.specs.Outcomes.{no_such_object}
-use Rattle.cp_servants.specs.Servant.{Kind, CallsAt, PollsAt}
 use Rattle.cp_objects.specs.Work.{Work, Answers, GivesUp, Holds, Notes, Replies, Releases}
-use Rattle.cp_objects.specs.Calling.{HandsBack, MakesCalls}
+use Rattle.cp_objects.specs.Calling.{HandsBack, Lacks, MakesCalls}
 
 -- What a poll gave settles a call that is awaited, once the object gave imports up. A ticket that isn't awaited is dropped.
 pub data Settles (old : Work) : Option Settled → Bool → Work → Type 0 where
@@ -25,41 +25,42 @@ pub data Settles (old : Work) : Option Settled → Bool → Work → Type 0 wher
       → GivesUp settled.gives_up (record old { awaited = remove old.awaited settled.ticket }) mid → Answers mid.link origin settled.outcome link
       → new ≡ record mid { link = link } → Settles old (Some settled) true new
 
--- Of objects of one kind.
-module _ {A : Type 0} (kind : Kind A) where
-  -- The object at this place is called, so it is given the call's capabilities, and replies this; past the objects the call fails.
-  pub data Gives (k ticket : ℕ) (call : Request) (reply : Reply) (old new : Work) (objects others : List A) : Type 0 where
-    by_object : Holds call.caps old new → CallsAt kind k ticket call reply objects others → Gives k ticket call reply old new objects others
-    by_none : length objects ≤ k → reply ≡ replies.Now no_such_object [] → new ≡ old → others ≡ objects → Gives k ticket call reply old new objects others
+-- Of the objects of one hall.
+module _ {H : Type 0} (hall : HallKind H) where
+  -- The object of this number is called, so it is given the call's capabilities, and replies this; if there is none the call fails.
+  pub data Gives (number ticket : ℕ) (call : Request) (reply : Reply) (old new : Work) (objects others : H) : Type 0 where
+    by_object : Holds call.caps old new → hall.calls number ticket call reply objects others → Gives number ticket call reply old new objects others
+    by_none : Lacks hall number objects → reply ≡ replies.Now no_such_object [] → new ≡ old → others ≡ objects → Gives number ticket call reply old new objects others
 
   -- What a happening asks is done: a call goes to its object, whose reply counts, and which may make calls then; an outcome is handed back; and that the vat
   -- closed is noted.
-  abbrev pub Handles : Happening → Work → Work → List A → List A → Type 0
+  abbrev pub Handles : Happening → Work → Work → H → H → Type 0
   Handles (happenings.Delivered k origin ticket call) old new objects others =
-      (reply : Reply) × (called mid : Work) × (between : List A) × Gives k ticket call reply old called objects between × Replies called origin ticket reply mid
-      × MakesCalls kind k mid new between others
-  Handles (happenings.Settled question outcome) old new objects others = HandsBack kind question outcome old new objects others
+      (reply : Reply) × (called mid : Work) × (between : H) × Gives k ticket call reply old called objects between × Replies called origin ticket reply mid
+      × MakesCalls hall k mid new between others
+  Handles (happenings.Settled question outcome) old new objects others = HandsBack hall question outcome old new objects others
   Handles (happenings.Closed reason) old new objects others = Notes (notices.Closed reason) old new × (others ≡ objects)
 
   -- What happened is worked off, in order, until nothing is left.
-  pub data WorksOff : Work → Work → List A → List A → Type 0 where
-    none_left : {old : Work} {objects : List A} → old.link.happened ≡ [] → WorksOff old old objects objects
-    handles : {old mid new : Work} {objects between others : List A} (first : Happening) (link : Link) → HandsOut old.link (Some first) link
+  pub data WorksOff : Work → Work → H → H → Type 0 where
+    none_left : {old : Work} {objects : H} → old.link.happened ≡ [] → WorksOff old old objects objects
+    handles : {old mid new : Work} {objects between others : H} (first : Happening) (link : Link) → HandsOut old.link (Some first) link
         → Handles first (record old { link = link }) mid objects between → WorksOff mid new between others → WorksOff old new objects others
 
-  -- The objects from this place on are polled, one after another. Each may make calls then, and what that leads to is worked off before the next. It is noted
-  -- whether one gave an outcome that was awaited. Once the connection ended, no more is polled.
-  pub data PollsFrom : ℕ → Work → Bool → Work → List A → List A → Type 0 where
-    none_left : {place : ℕ} {old : Work} {objects : List A} → length objects ≤ place → PollsFrom place old false old objects objects
-    has_ended : {place : ℕ} {old : Work} {objects : List A} → IsSome old.link.fault → PollsFrom place old false old objects objects
-    polls : {place : ℕ} {old mid called done new : Work} {objects between asked last others : List A} {gave : Bool} (settled : Option Settled) (first more : Bool)
-        → old.link.fault ≡ None → PollsAt kind place settled objects between → Settles old settled first mid → MakesCalls kind place mid called between asked
-        → WorksOff called done asked last → PollsFrom (place + 1) done more new last others → gave ≡ (first || more) → PollsFrom place old gave new objects others
+  -- The objects from this number on are polled that are to be, in order. Each may make calls then, and what that leads to is worked off before the next. It is
+  -- noted whether one gave an outcome that was awaited. Once the connection ended, no more is polled.
+  pub data PollsFrom : ℕ → Work → Bool → Work → H → H → Type 0 where
+    none_left : {from : ℕ} {old : Work} {objects : H} → hall.is_next from None objects → PollsFrom from old false old objects objects
+    has_ended : {from : ℕ} {old : Work} {objects : H} → IsSome old.link.fault → PollsFrom from old false old objects objects
+    polls : {from : ℕ} {old mid called done new : Work} {objects between asked last others : H} {gave : Bool} (number : ℕ) (settled : Option Settled) (first more : Bool)
+        → old.link.fault ≡ None → hall.is_next from (Some number) objects → hall.polls number settled objects between → Settles old settled first mid
+        → MakesCalls hall number mid called between asked → WorksOff called done asked last → PollsFrom (number + 1) done more new last others → gave ≡ (first || more)
+        → PollsFrom from old gave new objects others
 
-  -- A round: each object is polled once, in order; then the imports that were given up are tried, and what that leads to is worked off.
-  pub data Rounds (old : Work) (gave : Bool) (new : Work) (objects others : List A) : Type 0 where
+  -- A round: each object is polled once that is to be, in order; then the imports that were given up are tried, and what that leads to is worked off.
+  pub data Rounds (old : Work) (gave : Bool) (new : Work) (objects others : H) : Type 0 where
     has_ended : PollsFrom 0 old gave new objects others → IsSome new.link.fault → Rounds old gave new objects others
-    releases : (mid released : Work) (between : List A) → PollsFrom 0 old gave mid objects between → mid.link.fault ≡ None → Releases mid released
+    releases : (mid released : Work) (between : H) → PollsFrom 0 old gave mid objects between → mid.link.fault ≡ None → Releases mid released
         → WorksOff released new between others → Rounds old gave new objects others
 
 -- the first notice that wasn't taken is handed out, if there is one

@@ -3,6 +3,7 @@
 
 mod asker;
 mod holders;
+mod idle;
 mod notice;
 mod objects;
 

@@ -20,10 +20,11 @@ use crate::asker::Asker;
 use crate::holders::ImportHolders;
 use crate::notice::{Notice, noticed_memory};
 use cp_connection::{Connection, ConnectionFault, Happening};
+use cp_makers::Hall;
 use cp_refs::{Caps, Origin, Outcome, Request};
 use cp_servants::{
-    Ask, Awaited, Reply, RequestView, Servant, Settled, ask_at, bad_outcome, call_at, call_view_at,
-    named_imports, no_such_object, poll_at, refused_call, tell_at,
+    Ask, Awaited, Reply, RequestView, Settled, bad_outcome, named_imports, no_such_object,
+    refused_call,
 };
 use cp_tables::Entries;
 use cp_vat::Lent;
@@ -33,9 +34,9 @@ use std::alloc::{AllocError, Global};
 use std::collections::VecDeque;
 use std::mem;
 
-/// What a connection's objects owe its peer, and what happened that is no object's business. The objects themselves,
-/// a slice in which the object of number k is at place k, are kept beside the connection. They are of one type: boxes
-/// (`Box<dyn Servant>`) or an enum, where there are several kinds.
+/// What a connection's objects owe its peer, and what happened that is no object's business. The objects themselves are kept beside the
+/// connection: a list, in which the object of number k is at place k, or a family of objects that make others. They are of one type:
+/// boxes (`Box<dyn Servant>`) or an enum, where there are several kinds.
 /// They aren't kept here, since definitions can't name a struct with boxed objects.
 ///
 /// # In which order calls are made
@@ -47,9 +48,10 @@ use std::mem;
 /// 3. Take what is for you by `next`, until it gives none.
 /// 4. After each message, and where nothing comes, call `round`: it polls each object once, answers what is settled
 ///    by then, and gives back imports that objects gave up.
-/// 5. Before you wait for the peer, go on with rounds while `any_again` says that an object may give more, and write
+/// 5. Before you wait for the peer, go on with rounds while `Hall::again` says that an object may give more, and write
 ///    what is to go out.
-/// 6. Where objects may call, and you hold no import yourself, call `release_idle` from time to time.
+/// 6. Where objects may call, and you hold no import yourself, call `release_idle` from time to time; and `drop_idle` where objects
+///    make others.
 ///
 /// # What becomes of a call
 ///
@@ -78,7 +80,7 @@ use std::mem;
 /// Where memory runs out as holders are counted, the object wasn't called or told, and holds only some of the imports, or
 /// none.
 pub struct Objects {
-    alloc: Global,
+    pub(crate) alloc: Global,
     /// Whether objects may call.
     may_call: bool,
     awaited: Awaited,
@@ -128,13 +130,13 @@ impl Objects {
     /// # Errors
     ///
     /// Those of `Connection::receive`, and then no object was called. Else memory ran out for what the message leads to.
-    pub fn receive<O: Servant>(
+    pub fn receive<H: Hall>(
         &mut self,
         connection: &mut Connection,
-        objects: &mut [O],
+        objects: &mut H,
         piece: &[u8],
     ) -> Result<(usize, bool), ConnectionFault>
-        ensures received { IfOk result (λ r. Receives O.kind (work_of self.old connection.old) piece.now r.0 r.1 (work_of self.new connection.new) objects.old objects.new) }
+        ensures received { IfOk result (λ r. Receives H.hall (work_of self.old connection.old) piece.now r.0 r.1 (work_of self.new connection.new) objects.old objects.new) }
         ensures goes_on { IfOk result (λ r. 0 < length piece.now → 0 < r.0) }
         ensures unreceived { IfErr result (λ fault. IsCutShort connection.old piece.now fault connection.new objects.old objects.new) }
     {
@@ -150,12 +152,12 @@ impl Objects {
     }
 
     /// Does what happened on a connection asks of its objects, in order, until nothing is left.
-    pub fn work_off<O: Servant>(
+    pub fn work_off<H: Hall>(
         &mut self,
         connection: &mut Connection,
-        objects: &mut [O],
+        objects: &mut H,
     ) -> Result<(), AllocError>
-        ensures done { OnOk result (WorksOff O.kind (work_of self.old connection.old) (work_of self.new connection.new) objects.old objects.new) }
+        ensures done { OnOk result (WorksOff H.hall (work_of self.old connection.old) (work_of self.new connection.new) objects.old objects.new) }
         ensures lives { Lives connection.old connection.new }
     {
         // Bounded, since every function has to return.
@@ -168,14 +170,14 @@ impl Objects {
         Err(AllocError)
     }
 
-    /// Polls each object once, in order, and tries to release the imports that were given up; what each poll and the
+    /// Polls each object once that is to be polled, in order, and tries to release the imports that were given up; what each poll and the
     /// releases lead to is worked off. Says whether an object gave an outcome that was awaited.
-    pub fn round<O: Servant>(
+    pub fn round<H: Hall>(
         &mut self,
         connection: &mut Connection,
-        objects: &mut [O],
+        objects: &mut H,
     ) -> Result<bool, AllocError>
-        ensures done { IfOk result (λ gave. Rounds O.kind (work_of self.old connection.old) gave (work_of self.new connection.new) objects.old objects.new) }
+        ensures done { IfOk result (λ gave. Rounds H.hall (work_of self.old connection.old) gave (work_of self.new connection.new) objects.old objects.new) }
         ensures lives { Lives connection.old connection.new }
     {
         let gave = self.poll_each(connection, objects)?;
@@ -252,13 +254,13 @@ impl Objects {
     }
 
     /// Does what one happening asks.
-    fn handle<O: Servant>(
+    fn handle<H: Hall>(
         &mut self,
         connection: &mut Connection,
-        objects: &mut [O],
+        objects: &mut H,
         happening: Happening,
     ) -> Result<(), AllocError>
-        ensures done { OnOk result (Handles O.kind happening (work_of self.old connection.old) (work_of self.new connection.new) objects.old objects.new) }
+        ensures done { OnOk result (Handles H.hall happening (work_of self.old connection.old) (work_of self.new connection.new) objects.old objects.new) }
         ensures lives { Lives connection.old connection.new }
     {
         match happening {
@@ -268,10 +270,9 @@ impl Objects {
                 ticket,
                 call,
             } => {
-                let place = object as usize;
-                let reply = self.reply_of(objects, place, ticket, call)?;
+                let reply = self.reply_of(objects, object, ticket, call)?;
                 self.reply(connection, origin, ticket, reply)?;
-                self.make_calls(connection, objects, place)
+                self.make_calls(connection, objects, object)
             }
             Happening::Settled { question, outcome } => {
                 self.hand_back(connection, objects, question, outcome)
@@ -281,34 +282,34 @@ impl Objects {
     }
 
     /// Hands a call that is lent to its object, if there is one, and answers it at once where the object does.
-    fn answer_lent<O: Servant>(
+    fn answer_lent<H: Hall>(
         &mut self,
         connection: &mut Connection,
-        objects: &mut [O],
+        objects: &mut H,
         lent: Option<Lent<'_>>,
     ) -> Result<(), AllocError>
-        ensures done { OnOk result (HandlesLent O.kind lent.entry (work_of self.old connection.old) (work_of self.new connection.new) objects.old objects.new) }
+        ensures done { OnOk result (HandlesLent H.hall lent.entry (work_of self.old connection.old) (work_of self.new connection.new) objects.old objects.new) }
         ensures lives { Lives connection.old connection.new }
     {
         let Some(lent) = lent else {
             return Ok(());
         };
-        let (place, origin, ticket) = (lent.object as usize, lent.origin, lent.ticket);
+        let (object, origin, ticket) = (lent.object, lent.origin, lent.ticket);
         let reply = self.reply_to_lent(objects, lent)?;
         self.reply(connection, origin, ticket, reply)?;
-        self.make_calls(connection, objects, place)
+        self.make_calls(connection, objects, object)
     }
 
     /// What an object replies to a call that is lent, as `reply_of` says it.
-    fn reply_to_lent<O: Servant>(
+    fn reply_to_lent<H: Hall>(
         &mut self,
-        objects: &mut [O],
+        objects: &mut H,
         lent: Lent<'_>,
     ) -> Result<Reply, AllocError>
-        ensures { IfOk result (λ reply. (link : Link) → GivesLent O.kind lent.entry reply (work_of self.old link) (work_of self.new link) objects.old objects.new) }
+        ensures { IfOk result (λ reply. (link : Link) → GivesLent H.hall lent.entry reply (work_of self.old link) (work_of self.new link) objects.old objects.new) }
     {
-        let place = lent.object as usize;
-        if place < objects.len() {
+        let number = lent.object;
+        if objects.has(number) {
             self.hold(&lent.caps)?;
             let request = RequestView {
                 interface: lent.interface,
@@ -316,7 +317,7 @@ impl Objects {
                 content: lent.content,
                 caps: lent.caps,
             };
-            let reply = call_view_at(self.alloc, objects, place, lent.ticket, request)?;
+            let reply = objects.call_view_at(self.alloc, number, lent.ticket, request)?;
             return Ok(reply);
         }
         self.reply_of_none()
@@ -341,14 +342,14 @@ impl Objects {
     }
 
     /// Hands an outcome back to the object whose call it is of, which may make calls then, or notes it for the user.
-    fn hand_back<O: Servant>(
+    fn hand_back<H: Hall>(
         &mut self,
         connection: &mut Connection,
-        objects: &mut [O],
+        objects: &mut H,
         question: u32,
         outcome: Outcome,
     ) -> Result<(), AllocError>
-        ensures done { OnOk result (HandsBack O.kind question outcome (work_of self.old connection.old) (work_of self.new connection.new) objects.old objects.new) }
+        ensures done { OnOk result (HandsBack H.hall question outcome (work_of self.old connection.old) (work_of self.new connection.new) objects.old objects.new) }
         ensures lives { Lives connection.old connection.new }
     {
         let Some(asker) = self.asked.remove(question) else {
@@ -356,66 +357,66 @@ impl Objects {
         };
         // An object names no question, so none of its paths is needed any more.
         finish(connection, question)?;
-        self.tell(objects, asker.place, asker.mark, outcome)?;
-        self.make_calls(connection, objects, asker.place)
+        self.tell(objects, asker.number, asker.mark, outcome)?;
+        self.make_calls(connection, objects, asker.number)
     }
 
-    /// Makes the calls that the object at a place asks for, until it asks for no more.
-    fn make_calls<O: Servant>(
+    /// Makes the calls that an object asks for, until it asks for no more.
+    fn make_calls<H: Hall>(
         &mut self,
         connection: &mut Connection,
-        objects: &mut [O],
-        place: usize,
+        objects: &mut H,
+        number: u32,
     ) -> Result<(), AllocError>
-        ensures done { OnOk result (MakesCalls O.kind place (work_of self.old connection.old) (work_of self.new connection.new) objects.old objects.new) }
+        ensures done { OnOk result (MakesCalls H.hall number (work_of self.old connection.old) (work_of self.new connection.new) objects.old objects.new) }
         ensures lives { Lives connection.old connection.new }
     {
         for _ in 0..u64::MAX {
-            let Some(ask) = self.next_call(connection, objects, place)? else {
+            let Some(ask) = self.next_call(connection, objects, number)? else {
                 return Ok(());
             };
-            self.make_call(connection, objects, place, ask)?;
+            self.make_call(connection, objects, number, ask)?;
         }
         Err(AllocError)
     }
 
-    /// The next call of the object at a place: none where objects may not call, and once the connection ended.
-    fn next_call<O: Servant>(
+    /// The next call of an object: none where objects may not call, and once the connection ended.
+    fn next_call<H: Hall>(
         &self,
         connection: &Connection,
-        objects: &mut [O],
-        place: usize,
+        objects: &mut H,
+        number: u32,
     ) -> Result<Option<Ask>, AllocError>
-        ensures { IfOk result (λ ask. NextCall O.kind place (work_of self.now connection.now) ask objects.old objects.new) }
+        ensures { IfOk result (λ ask. NextCall H.hall number (work_of self.now connection.now) ask objects.old objects.new) }
     {
-        if !self.may_call || place >= objects.len() || has_ended(connection) {
+        if !self.may_call || !objects.has(number) || has_ended(connection) {
             return Ok(None);
         }
-        let ask = ask_at(objects, place)?;
+        let ask = objects.ask_at(number)?;
         Ok(ask)
     }
 
-    /// Makes a call of the object at a place. Where the vat refuses it the object is told so.
-    fn make_call<O: Servant>(
+    /// Makes a call of an object. Where the vat refuses it the object is told so.
+    fn make_call<H: Hall>(
         &mut self,
         connection: &mut Connection,
-        objects: &mut [O],
-        place: usize,
+        objects: &mut H,
+        number: u32,
         ask: Ask,
     ) -> Result<(), AllocError>
-        ensures done { OnOk result (MakesCall O.kind place ask (work_of self.old connection.old) (work_of self.new connection.new) objects.old objects.new) }
+        ensures done { OnOk result (MakesCall H.hall number ask (work_of self.old connection.old) (work_of self.new connection.new) objects.old objects.new) }
         ensures lives { Lives connection.old connection.new }
     {
         let mark = ask.mark;
         let fault = match connection.call(ask.cap, ask.request) {
-            Ok(question) => return self.asked.put(question, Asker { place, mark }),
+            Ok(question) => return self.asked.put(question, Asker { number, mark }),
             Err(fault) => fault,
         };
         match fault {
             ConnectionFault::OutOfMemory => Err(AllocError),
             ConnectionFault::Refused(_) => {
                 let outcome = refused_call(self.alloc)?;
-                self.tell(objects, place, mark, outcome)
+                self.tell(objects, number, mark, outcome)
             }
             // The connection ended, so no outcome will come.
             ConnectionFault::Closed => Ok(()),
@@ -443,38 +444,37 @@ impl Objects {
         }
     }
 
-    /// What the object at a place replies to a call, whose capabilities it is given; past the objects the call fails.
-    fn reply_of<O: Servant>(
+    /// What an object replies to a call, whose capabilities it is given; where there is no such object the call fails.
+    fn reply_of<H: Hall>(
         &mut self,
-        objects: &mut [O],
-        place: usize,
+        objects: &mut H,
+        number: u32,
         ticket: u64,
         request: Request,
     ) -> Result<Reply, AllocError>
-        ensures { IfOk result (λ reply. (link : Link) → Gives O.kind place ticket request reply (work_of self.old link) (work_of self.new link) objects.old objects.new) }
+        ensures { IfOk result (λ reply. (link : Link) → Gives H.hall number ticket request reply (work_of self.old link) (work_of self.new link) objects.old objects.new) }
     {
-        if place < objects.len() {
+        if objects.has(number) {
             self.hold(&request.caps)?;
-            let reply = call_at(objects, place, ticket, request)?;
+            let reply = objects.call_at(number, ticket, request)?;
             return Ok(reply);
         }
         self.reply_of_none()
     }
 
-    /// Tells the object at a place what a call of its own came to, whose capabilities it is given. Past the objects
-    /// nobody is told.
-    fn tell<O: Servant>(
+    /// Tells an object what a call of its own came to, whose capabilities it is given. Where there is no such object nobody is told.
+    fn tell<H: Hall>(
         &mut self,
-        objects: &mut [O],
-        place: usize,
+        objects: &mut H,
+        number: u32,
         mark: u64,
         outcome: Outcome,
     ) -> Result<(), AllocError>
-        ensures { OnOk result ((link : Link) → Hears O.kind place mark outcome (work_of self.old link) (work_of self.new link) objects.old objects.new) }
+        ensures { OnOk result ((link : Link) → Hears H.hall number mark outcome (work_of self.old link) (work_of self.new link) objects.old objects.new) }
     {
-        if place < objects.len() {
+        if objects.has(number) {
             self.hold_given(&outcome)?;
-            return tell_at(objects, place, mark, outcome);
+            return objects.tell_at(number, mark, outcome);
         }
         Ok(())
     }
@@ -504,7 +504,7 @@ impl Objects {
     }
 
     /// Notes that an object gives imports up.
-    fn give_up(&mut self, imports: &Ids) -> Result<(), AllocError>
+    pub(crate) fn give_up(&mut self, imports: &Ids) -> Result<(), AllocError>
         ensures { OnOk result ((link : Link) → GivesUp imports.now (work_of self.old link) (work_of self.new link)) }
     {
         for import in imports.ids() {
@@ -523,26 +523,40 @@ impl Objects {
         self.free(import)
     }
 
-    /// Polls each object once, in order, until the connection ended. Says whether an outcome was given that was awaited.
-    fn poll_each<O: Servant>(
+    /// Polls each object once that is to be polled, in order, until the connection ended. Says whether an outcome was given that was
+    /// awaited.
+    fn poll_each<H: Hall>(
         &mut self,
         connection: &mut Connection,
-        objects: &mut [O],
+        objects: &mut H,
     ) -> Result<bool, AllocError>
-        ensures done { IfOk result (λ gave. PollsFrom O.kind 0 (work_of self.old connection.old) gave (work_of self.new connection.new) objects.old objects.new) }
+        ensures done { IfOk result (λ gave. PollsFrom H.hall 0 (work_of self.old connection.old) gave (work_of self.new connection.new) objects.old objects.new) }
         ensures lives { Lives connection.old connection.new }
     {
         let mut gave = false;
-        for place in 0..objects.len() {
+        let mut from = 0;
+        for _ in 0..u64::MAX {
             if has_ended(connection) {
                 return Ok(gave);
             }
-            let settled = poll_at(objects, place)?;
+            let Some(number) = objects.next_from(from) else {
+                return Ok(gave);
+            };
+            // A hall names no object that isn't there.
+            if !objects.has(number) {
+                return Err(AllocError);
+            }
+            let settled = objects.poll_at(number)?;
             gave |= self.settle(connection, settled)?;
-            self.make_calls(connection, objects, place)?;
+            self.make_calls(connection, objects, number)?;
             self.work_off(connection, objects)?;
+            // No object has the last number of all.
+            let Some(next) = number.checked_add(1) else {
+                return Err(AllocError);
+            };
+            from = next;
         }
-        Ok(gave)
+        Err(AllocError)
     }
 
     /// Answers a call with what an object settled it with, if it did. Says whether it was awaited: if not, what the

@@ -1,5 +1,6 @@
 -- How rounds follow where the messages end, and how a run ends.
 use Rattle.std.proofs.Common.{◌≡◌, inr, ℕ, ◌+◌, ◌-◌, ◌^◌, min, IsSome, Bool, true, List, [], ◌++◌, Option, None, refl, sym, ap, ◌∙◌, subst, length, append-nil, length-append, add_assoc, drop, arith}
+use Rattle.std.specs.Global.{Vec}
 use Rattle.std.specs.Io.KnownBytes.{Appends, Consumes}
 use Rattle.cp_frame.specs.declared.mode.Mode.{Mode}
 use Rattle.cp_messages.specs.declared.message.Message.{Message}
@@ -50,10 +51,10 @@ module _ {A : Type 0} {kind : Kind A} where
     ends_closed s others to h ended = (true, h, inr (closed_work s.connection h.last (owed s) h.rests.matches ended h.rests.none_left))
 
     -- One round more followed.
-    module _ (mid s : Server) {between others : List A} (gave : Bool) (to : Device) (h : Closes kind first old seen before true mid between to) (is_open : mid.connection.fault ≡ None)
+    module _ (mid s : Server) {between others : Vec A} (gave : Bool) (to : Device) (h : Closes kind first old seen before true mid between.items to) (is_open : mid.connection.fault ≡ None)
         (round : Rounded kind mid gave s between others) (ready : s.ready ≡ length s.connection.unwritten) where
       abbrev Went : Type 0
-      Went = (next : Work) × Rounds kind h.last between gave next others × Matches mid.connection next (owed s) × (next.effects ≡ [])
+      Went = (next : Work) × Rounds kind h.last between.items gave next others.items × Matches mid.connection next (owed s) × (next.effects ≡ [])
 
       went : Went
       went = follows_round round h.last h.rests.matches h.rests.none_left
@@ -81,7 +82,7 @@ module _ {A : Type 0} {kind : Kind A} where
 
       -- all of it
       pub closes_more : (new : Server) (after : Device) → new.connection ≡ record s.connection { unwritten = drop s.ready s.connection.unwritten } → new ≡ record s { connection = new.connection; ready = 0 }
-          → Appends to.bytes after.bytes (ready_of s) → after.failures ≡ to.failures → Closes kind first old seen before gave new others after
+          → Appends to.bytes after.bytes (ready_of s) → after.failures ≡ to.failures → Closes kind first old seen before gave new others.items after
       closes_more new after l e moved same =
           let sent : List Message = went.0.sent in
           let tally : new.connection.tally ≡ s.connection.tally = ap (λ (x : Link). x.tally) l in
@@ -109,7 +110,7 @@ module _ {A : Type 0} {kind : Kind A} where
         gave = gave;
         sent = h.sent ++ went.0.sent;
         last = written went.0;
-        others = others;
+        others = others.items;
         closes = one_more h.closes still went.1 refl refl;
         writes = part_later h.sent went.0.sent before to after h.writes (breaks_part {held = to} to after (ready_of s) gone left splits moved (writes_none to) (writes_all to (ahead to (ready_of s)) goes));
       }

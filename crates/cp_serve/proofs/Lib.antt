@@ -1,4 +1,3 @@
-pub mod Objects
 pub mod Closing
 pub mod Simulating
 pub mod Written

@@ -5,6 +5,7 @@ use Rattle.std.proofs.lemmas.Bool.Decides.{nat_tests}
 use Rattle.std.proofs.lemmas.List.{length_push, length-drop, nil_from_length}
 use Rattle.std.proofs.Math.Seq.{take-append_seam, take-length, drop-append_seam}
 use Rattle.std.proofs.Math.ListN.{drop_of_length-le}
+use Rattle.std.specs.Global.{Vec}
 use Rattle.std.specs.Io.KnownBytes.{Consumes, IsAtEnd}
 use Rattle.std.proofs.KnownBytes.{Consumes-trans}
 use Rattle.cp_words.specs.Limits.{Bounds, standard}
@@ -39,6 +40,8 @@ use Rattle.cp_connection.specs.Refusing.{refusal_of}
 use Rattle.cp_connection.proofs.Living.{lives_move}
 use Rattle.cp_connection.proofs.Moving.{moves_received, moves_unreceived}
 use Rattle.cp_servants.specs.Servant.{Kind}
+use Rattle.cp_makers.specs.Hall.{HallKind}
+use Rattle.cp_makers.specs.Listed.{listed}
 use Rattle.cp_objects.specs.Receiving.{IsCutShort, is_unreceived, ran_out}
 use Rattle.cp_objects.specs.Rounds as rounds
 use Rattle.cp_objects.specs.Work as objects
@@ -158,7 +161,7 @@ module _ {A : Type 0} {kind : Kind A} {mode : Mode} {start : List A} {held : Dev
 
   -- ---- a message more
 
-  module _ (bytes rest front : List ℕ) (s new : Server) (m : Message) (mid link : Link) {seen others : List A} {to : Device} (r : Reached kind mode start held bytes rest s seen to) (on : ReadsOn rest s)
+  module _ (bytes rest front : List ℕ) (s new : Server) (m : Message) (mid link : Link) {seen others : Vec A} {to : Device} (r : Reached kind mode start held bytes rest s seen.items to) (on : ReadsOn rest s)
       (reads : Reads s.connection front m mid) (d : Does mid (events.Receive m) (Ok values.Nothing) link) (works : WorksOut kind (record s { connection = link }) new seen others)
       (ready : new.ready ≡ length new.connection.unwritten) where
     begins : IsAllDone r.last (record (owed s) { link = mid })
@@ -170,8 +173,8 @@ module _ {A : Type 0} {kind : Kind A} {mode : Mode} {start : List A} {held : Dev
     is_frame : IsFrameOf mode standard (rest ++ front) m
     is_frame = subst (λ (l : Bounds). IsFrameOf mode l (rest ++ front) m) r.same_limits (subst (λ (x : Mode). IsFrameOf x s.connection.limits (rest ++ front) m) r.same_mode (reads.is_frame rest on.came))
 
-    goes_on_after : (next : Work) → Matches mid next (owed new) → next.effects ≡ [] → TakesAll kind new_work start (r.taken ++ m ∷ []) (r.sent ++ next.sent) (written next) others
-        → GoesOn kind mode start held (bytes ++ front) new others to
+    goes_on_after : (next : Work) → Matches mid next (owed new) → next.effects ≡ [] → TakesAll kind new_work start (r.taken ++ m ∷ []) (r.sent ++ next.sent) (written next) others.items
+        → GoesOn kind mode start held (bytes ++ front) new others.items to
     goes_on_after next matches none takes = by new.connection.fault refl
       where
         same_mode : mid.mode ≡ mode
@@ -185,7 +188,7 @@ module _ {A : Type 0} {kind : Kind A} {mode : Mode} {start : List A} {held : Dev
         goes_out : new.connection.unwritten ≡ s.connection.unwritten ++ matches.bytes
         goes_out = matches.goes_out ∙ ap (λ (x : List ℕ). x ++ matches.bytes) (ap (λ (l : Link). l.unwritten) reads.same)
 
-        there : Reached kind mode start held (bytes ++ front) [] new others to
+        there : Reached kind mode start held (bytes ++ front) [] new others.items to
         there = record {
           taken = r.taken ++ m ∷ [];
           sent = r.sent ++ next.sent;
@@ -211,11 +214,11 @@ module _ {A : Type 0} {kind : Kind A} {mode : Mode} {start : List A} {held : Dev
         came : HasCome new.connection []
         came = rw (matches.same_mode, matches.same_limits, matches.same_reading) reads.fresh
 
-        by : (f : Option ConnectionFault) → new.connection.fault ≡ f → GoesOn kind mode start held (bytes ++ front) new others to
+        by : (f : Option ConnectionFault) → new.connection.fault ≡ f → GoesOn kind mode start held (bytes ++ front) new others.items to
         by None e = inl ([], there, record { came = came; is_open = e })
         by (Some fault) e = inr ([], there, subst (λ (f : Option ConnectionFault). IsSome f) (sym e) refl)
 
-    serves_more : GoesOn kind mode start held (bytes ++ front) new others to
+    serves_more : GoesOn kind mode start held (bytes ++ front) new others.items to
     serves_more =
         let more = follows_message m link works.2 d works.3 works.4 r.last begins.matches in
         let still = (open_work s.connection r.last (owed s) r.rests.matches on.is_open).0 in
@@ -315,7 +318,7 @@ refusal_full refusal = by (refusal_is refusal)
     by (inr h) = ap fault_of h.1
 
 -- nothing is worked off where nothing happened
-works_none : {A : Type 0} {kind : Kind A} {old new : objects.Work} {seen others : List A} → old.link.happened ≡ [] → rounds.WorksOff kind old new seen others → (new ≡ old) × (others ≡ seen)
+works_none : {H : Type 0} {hall : HallKind H} {old new : objects.Work} {seen others : H} → old.link.happened ≡ [] → rounds.WorksOff hall old new seen others → (new ≡ old) × (others ≡ seen)
 works_none none (rounds.none_left e) = (refl, refl)
 works_none none (rounds.handles first link hands handled rest) = let e : ◌≡◌ {A = List Happening} [] (first ∷ link.happened) = sym none ∙ hands.0 in absurd (cc (e))
 
@@ -371,8 +374,8 @@ module _ {A : Type 0} {kind : Kind A} (old : Server) (piece : List ℕ) (link : 
       absurd (some (ap (λ (s : frames.State). frames.taken_of s) h.7.same_reading ∙ came_is h.3.mode h.3.limits h.3.reading [] h.6.fresh.0 h.6.fresh.1))
 
   -- a frame ends in it
-  takes_one : (count : ℕ) (back : List ℕ) (new : Server) {seen others : List A} → Receives old.connection piece count link → frames.taken_of link.reading ≡ 0 → 0 < length piece → back ≡ drop count piece
-      → WorksOut kind (record old { connection = link }) new seen others → new.ready ≡ length new.connection.unwritten → TakesFront kind old piece back new seen others
+  takes_one : (count : ℕ) (back : List ℕ) (new : Server) {seen others : Vec A} → Receives old.connection piece count link → frames.taken_of link.reading ≡ 0 → 0 < length piece → back ≡ drop count piece
+      → WorksOut kind (record old { connection = link }) new seen others → new.ready ≡ length new.connection.unwritten → TakesFront kind old piece back new seen.items others.items
   takes_one count back new (inl h) none some e works ready mode start held to bytes serves =
       let came = h.1.came serves.0 serves.2.came in
       absurd (omega (arith, some, none, came_is link.mode link.limits link.reading (serves.0 ++ piece) came.0 came.1, length-append serves.0 piece))
@@ -383,20 +386,20 @@ module _ {A : Type 0} {kind : Kind A} (old : Server) (piece : List ℕ) (link : 
   )
 
   -- either way
-  pub takes_front : (count : ℕ) (back : List ℕ) (has_ended : Bool) (mid new : Server) {seen between others : List A} → Receives old.connection piece count link
+  pub takes_front : (count : ℕ) (back : List ℕ) (has_ended : Bool) (mid new : Server) {seen between : Vec A} (others : Vec A) → Receives old.connection piece count link
       → ((has_ended ≡ true) ↔ (frames.taken_of link.reading ≡ 0)) → 0 < length piece → back ≡ drop count piece
-      → rounds.WorksOff kind (owed (record old { connection = link })) (owed mid) seen between → mid.ready ≡ old.ready → FollowsIf kind has_ended mid new between others
-      → TakesFront kind old piece back new seen others
-  takes_front count back true mid new received ended some e works ready follows =
+      → rounds.WorksOff (listed kind) (owed (record old { connection = link })) (owed mid) seen between → mid.ready ≡ old.ready → FollowsIf kind has_ended mid new between others
+      → TakesFront kind old piece back new seen.items others.items
+  takes_front count back true mid new others received ended some e works ready follows =
       takes_one count back new received (ended.0 refl) some e (owed mid, _, follows.0.0, works, follows.0.1) follows.1
-  takes_front count back false mid new {seen = seen} received ended some e works ready follows = λ mode start held to bytes serves.
+  takes_front count back false mid new {seen = seen} others received ended some e works ready follows = λ mode start held to bytes serves.
       let open_ : frames.taken_of link.reading ≢ 0 = λ none. true≢false (sym (ended.1 none)) in
       let rests = serves.1.rests in
       let none : link.happened ≡ [] = no_news old piece link count received open_ (rests.matches.happens ∙ ap (λ (es : List Effect). happening_by es) rests.none_left) in
       let same = works_none none works in
       let fills = takes_none count back received open_ e mode start held to bytes serves in
-      subst (λ (os : List A). Fills kind mode start held bytes piece back new os to) (sym (follows.1 ∙ same.1))
-      (subst (λ (x : Server). Fills kind mode start held bytes piece back x seen to) (sym follows.0) (fills.0, fills.1, goes_by (bytes ++ fills.0) (record old { connection = link }) mid same.0 ready fills.2))
+      subst (λ (os : Vec A). Fills kind mode start held bytes piece back new os.items to) (sym (follows.1 ∙ same.1))
+      (subst (λ (x : Server). Fills kind mode start held bytes piece back x seen.items to) (sym follows.0) (fills.0, fills.1, goes_by (bytes ++ fills.0) (record old { connection = link }) mid same.0 ready fills.2))
 
   -- memory ran out for what a message leads to
   pub stops_working : (count : ℕ) (new : Server) {seen : List A} (others : List A) → Receives old.connection piece count link → objects.Lives link new.connection → new.ready ≡ old.ready
@@ -425,13 +428,13 @@ module _ {A : Type 0} {kind : Kind A} (old : Server) (piece : List ℕ) (link : 
           (cut_there bytes serves.0 piece left.bytes serves.1)
 
 -- a piece wasn't taken to the end of a message and what follows of it
-pub stops_short : {A : Type 0} {kind : Kind A} (old : Server) (piece : List ℕ) (fault : ConnectionFault) (new : Server) (told : ServeFault) {seen others : List A}
-    → IsCutShort old.connection piece fault new.connection seen others → new.ready ≡ old.ready → told ≡ fault_of fault → FrontStops kind old piece new told seen others
+pub stops_short : {A : Type 0} {kind : Kind A} (old : Server) (piece : List ℕ) (fault : ConnectionFault) (new : Server) (told : ServeFault) {seen others : Vec A}
+    → IsCutShort old.connection piece fault new.connection seen others → new.ready ≡ old.ready → told ≡ fault_of fault → FrontStops kind old piece new told seen.items others.items
 stops_short {A = A} {kind = kind} old piece fault new told {seen = seen} (is_unreceived taken unreceived same) ready e =
-    subst (λ (os : List A). FrontStops kind old piece new told seen os) (sym same)
-    (subst (λ (n : ℕ). FrontStops kind old piece (record new { ready = n }) told seen seen) (sym ready) (stops_receiving old piece new.connection taken fault told unreceived e))
+    subst (λ (os : Vec A). FrontStops kind old piece new told seen.items os.items) (sym same)
+    (subst (λ (n : ℕ). FrontStops kind old piece (record new { ready = n }) told seen.items seen.items) (sym ready) (stops_receiving old piece new.connection taken fault told unreceived e))
 stops_short {kind = kind} old piece fault new told {seen = seen} {others = others} (ran_out count mid received lives memory) ready e =
-    subst (λ (f : ServeFault). FrontStops kind old piece new f seen others) (sym (e ∙ ap fault_of memory)) (stops_working old piece mid count new others received lives ready)
+    subst (λ (f : ServeFault). FrontStops kind old piece new f seen.items others.items) (sym (e ∙ ap fault_of memory)) (stops_working old piece mid count new others.items received lives ready)
 
 -- ---- the clauses of a block and a piece
 

@@ -1,8 +1,9 @@
 -- What is done for objects on a connection is what a server does by its queue of effects.
-use Rattle.std.proofs.Common.{◌≡◌, ◌≢◌, ◌⊎◌, inl, inr, ℕ, ◌+◌, ◌-◌, ◌^◌, min, ◌||◌, ◌&&◌, not, Bool, true, false, true≢false, IsSome, List, [], ◌∷◌, ◌++◌, Option, Some, None, Result, Ok, Err, refl, sym, ap, ◌∙◌, subst, length, append-nil, append_assoc, length-append, add_assoc, arith}
+use Rattle.std.proofs.Common.{◌≡◌, ◌≢◌, ◌⊎◌, inl, inr, ℕ, ◌<◌, ◌≤◌, ◌+◌, ◌-◌, ◌^◌, min, ◌||◌, ◌&&◌, not, Bool, true, false, true≢false, IsSome, List, [], ◌∷◌, ◌++◌, Option, Some, None, Result, Ok, Err, refl, sym, ap, ◌∙◌, subst, length, append-nil, append_assoc, length-append, add_assoc, arith}
 use Rattle.std.proofs.lemmas.Bool.{false≢true}
 use Rattle.std.specs.List.{list_any}
 use Rattle.std.specs.Ordering.{nat_cmp}
+use Rattle.std.specs.Global.{Vec}
 use Rattle.std.specs.FinMap.{get, insert, remove, get-empty}
 use Rattle.cp_frame.specs.declared.mode.Mode.{Mode}
 use Rattle.cp_tables.specs.Table.{Table}
@@ -51,6 +52,8 @@ use Rattle.cp_servants.specs.declared.servant.Reply.TheVariants as replies
 use Rattle.cp_servants.specs.declared.servant.Settled.{Settled}
 use Rattle.cp_servants.specs.Outcomes.{bad_outcome, no_such_object}
 use Rattle.cp_servants.specs.Servant.{Kind}
+use Rattle.cp_makers.specs.Hall.{HallKind}
+use Rattle.cp_makers.specs.Listed.{listed}
 use Rattle.cp_objects.specs.declared.asker.Asker.{Asker}
 use Rattle.cp_objects.specs.declared.notice.Notice.{Notice}
 use Rattle.cp_objects.specs.declared.notice.Notice.TheVariants as notices
@@ -461,16 +464,19 @@ follows_settles {base = base} {w = w} {o = o} h settled gave (rounds.is_awaited 
 
 -- ---- objects that may not call make no calls
 
-module _ {A : Type 0} {kind : Kind A} where
-  next_none : {place : ℕ} {o : objects.Work} {ask : Option Ask} {seen others : List A} → o.may_call ≡ false → calling.NextCall kind place o ask seen others → (ask ≡ None) × (others ≡ seen)
+module _ {H : Type 0} {hall : HallKind H} where
+  next_none : {number : ℕ} {o : objects.Work} {ask : Option Ask} {seen others : H} → o.may_call ≡ false → calling.NextCall hall number o ask seen others → (ask ≡ None) × (others ≡ seen)
   next_none off (calling.asks may still asked) = absurd (true≢false (sym may ∙ off))
   next_none off (calling.is_unasked why none same) = (none, same)
 
-  no_calls : {place : ℕ} {o new : objects.Work} {seen others : List A} → o.may_call ≡ false → calling.MakesCalls kind place o new seen others → (new ≡ o) × (others ≡ seen)
+  no_calls : {number : ℕ} {o new : objects.Work} {seen others : H} → o.may_call ≡ false → calling.MakesCalls hall number o new seen others → (new ≡ o) × (others ≡ seen)
   no_calls off (calling.makes_none next) = (refl, (next_none off next).1)
   no_calls off (calling.makes_one ask next made more) = none_out (sym (next_none off next).0)
 
 -- ---- effects that are worked off
+
+at_least : (a b : ℕ) → (a < b → ⊥) → b ≤ a
+at_least a b h = omega (arith, h)
 
 abbrev HasNoSend : List Effect → Type 0
 HasNoSend (effects.Send m ∷ more) = ⊥
@@ -506,27 +512,27 @@ module _ {A : Type 0} {kind : Kind A} where
   sends_off seen (effects.Closed reason ∷ more) w e h = (w, (λ next last k. k), h, subst HasNoSend (sym e) tt)
 
   -- a call that is delivered
-  delivers : {base : Link} {w : Work} {o given mid new : objects.Work} {seen between others : List A} (k : ℕ) (origin : Origin) (ticket : ℕ) (call : Request) (reply : Reply)
-      → Matches base w o → rounds.Gives kind k ticket call reply o given seen between → objects.Replies given origin ticket reply mid → calling.MakesCalls kind k mid new between others
-      → (next : Work) × Delivers kind w seen k origin ticket call next others × Matches base next new
+  delivers : {base : Link} {w : Work} {o given mid new : objects.Work} {seen between others : Vec A} (k : ℕ) (origin : Origin) (ticket : ℕ) (call : Request) (reply : Reply)
+      → Matches base w o → rounds.Gives (listed kind) k ticket call reply o given seen between → objects.Replies given origin ticket reply mid → calling.MakesCalls (listed kind) k mid new between others
+      → (next : Work) × Delivers kind w seen.items k origin ticket call next others.items × Matches base next new
   delivers {base = base} {w = w} {o = o} {given = given} {mid = mid} {seen = seen} {between = between} {others = others} k origin ticket call reply h gives replied called =
       let more = follows_replies h origin ticket reply (subst (λ (x : objects.Work). objects.Replies x origin ticket reply mid) (unnoted gives) replied) in
       let none = no_calls more.2.none_call called in
       (more.0, by more.0 more.1 none.1 gives, subst (λ (x : objects.Work). Matches base more.0 x) (sym none.0) more.2)
     where
-      unnoted : rounds.Gives kind k ticket call reply o given seen between → given ≡ o
+      unnoted : rounds.Gives (listed kind) k ticket call reply o given seen between → given ≡ o
       unnoted (rounds.by_object holds changes) = holds_unnoted call.caps o h.none_call holds
       unnoted (rounds.by_none past is same still) = same
 
-      by : (next : Work) → Replies w origin ticket reply next → others ≡ between → rounds.Gives kind k ticket call reply o given seen between → Delivers kind w seen k origin ticket call next others
-      by next r same (rounds.by_object holds changes) = subst (λ (x : List A). Delivers kind w seen k origin ticket call next x) (sym same) (to_object reply changes r)
+      by : (next : Work) → Replies w origin ticket reply next → others ≡ between → rounds.Gives (listed kind) k ticket call reply o given seen between → Delivers kind w seen.items k origin ticket call next others.items
+      by next r same (rounds.by_object holds changes) = subst (λ (x : Vec A). Delivers kind w seen.items k origin ticket call next x.items) (sym same) (to_object reply changes r)
       by next r same (rounds.by_none past is idle still) =
-          to_none past
-          (subst (λ (g : List ℕ). Answers (record w { given_up = g }) origin no_such_object next) (append-nil w.given_up) (subst (λ (x : Reply). Replies w origin ticket x next) is r)) (same ∙ still)
+          to_none (at_least k (length seen.items) past)
+          (subst (λ (g : List ℕ). Answers (record w { given_up = g }) origin no_such_object next) (append-nil w.given_up) (subst (λ (x : Reply). Replies w origin ticket x next) is r)) (ap (λ (v : Vec A). v.items) (same ∙ still))
 
 -- what one happening asks
-abbrev Acted : {A : Type 0} → Kind A → Link → Work → objects.Work → List A → List A → Type 0
-Acted kind base v mid seen between = (effect : Effect) × (rest : List Effect) × (next : Work) × (v.effects ≡ effect ∷ rest) × service.Acts kind effect (record v { effects = rest }) seen next between × Matches base next mid
+abbrev Acted : {A : Type 0} → Kind A → Link → Work → objects.Work → Vec A → Vec A → Type 0
+Acted kind base v mid seen between = (effect : Effect) × (rest : List Effect) × (next : Work) × (v.effects ≡ effect ∷ rest) × service.Acts kind effect (record v { effects = rest }) seen.items next between.items × Matches base next mid
 
 module _ {base : Link} {o : objects.Work} (first : Happening) (link : Link) (out : HandsOut o.link (Some first) link) (v : Work) (h : Matches base v o) where
   -- the first of what happened is that of the first effect, and the others are those of the others
@@ -542,18 +548,18 @@ module _ {base : Link} {o : objects.Work} (first : Happening) (link : Link) (out
       (closes_rest v.closed effect rest v.vat.is_closed (subst (λ (x : List Effect). ClosesBy v.closed x v.vat.is_closed) e h.closes_by) shuts)
       (over_rest v.closed effect rest shuts ∙ ap (is_over v.closed) (sym e)) h.reason)
 
-  module _ {A : Type 0} {kind : Kind A} {mid : objects.Work} {seen between : List A} (handled : rounds.Handles kind first (record o { link = link }) mid seen between) where
+  module _ {A : Type 0} {kind : Kind A} {mid : objects.Work} (seen between : Vec A) (handled : rounds.Handles (listed kind) first (record o { link = link }) mid seen between) where
     one_delivered : (k : ℕ) (origin : Origin) (ticket : ℕ) (call : Request) (rest : List Effect) → v.effects ≡ effects.Deliver k origin ticket call ∷ rest → Acted kind base v mid seen between
     one_delivered k origin ticket call rest e =
         let all : first ∷ link.happened ≡ happenings.Delivered k origin ticket call ∷ happening_by rest = happens_by (effects.Deliver k origin ticket call) rest e in
         let heads : first ≡ happenings.Delivered k origin ticket call = cc (all) in
         let tails : link.happened ≡ happening_by rest = cc (all) in
-        let parts = subst (λ (x : Happening). rounds.Handles kind x (record o { link = link }) mid seen between) heads handled in
+        let parts = subst (λ (x : Happening). rounds.Handles (listed kind) x (record o { link = link }) mid seen between) heads handled in
         let done = delivers k origin ticket call parts.0 (one_taken (effects.Deliver k origin ticket call) rest e refl refl tails) parts.4 parts.5 parts.6 in
         (effects.Deliver k origin ticket call, rest, done.0, e, done.1, done.2)
 
     one_settled : (q : ℕ) (outcome : Outcome) (rest : List Effect) → v.effects ≡ effects.Settled q outcome ∷ rest → Acted kind base v mid seen between
-    one_settled q outcome rest e = by (subst (λ (x : Happening). rounds.Handles kind x (record o { link = link }) mid seen between) heads handled)
+    one_settled q outcome rest e = by (subst (λ (x : Happening). rounds.Handles (listed kind) x (record o { link = link }) mid seen between) heads handled)
       where
         all : first ∷ link.happened ≡ happenings.Settled q outcome ∷ happening_by rest
         all = happens_by (effects.Settled q outcome) rest e
@@ -567,13 +573,13 @@ module _ {base : Link} {o : objects.Work} (first : Happening) (link : Link) (out
         here : Matches base (record v { effects = rest }) (record o { link = link })
         here = one_taken (effects.Settled q outcome) rest e refl refl tails
 
-        by : calling.HandsBack kind q outcome (record o { link = link }) mid seen between → Acted kind base v mid seen between
+        by : calling.HandsBack (listed kind) q outcome (record o { link = link }) mid seen between → Acted kind base v mid seen between
         by (calling.to_user none notes same) = (
           effects.Settled q outcome,
           rest,
           record v { effects = rest },
           e,
-          (refl, same),
+          (refl, ap (λ (v : Vec A). v.items) same),
           subst (λ (x : objects.Work). Matches base (record v { effects = rest }) x) (sym notes)
               (worked base (record v { effects = rest }) (record o { link = link }) here rest v.sent v.closed link.happened (o.notices ++ notices.Settled q outcome ∷ []) tails refl here.closes_by refl
               (reason_settled o.notices q outcome ∙ here.reason)),
@@ -585,7 +591,7 @@ module _ {base : Link} {o : objects.Work} (first : Happening) (link : Link) (out
         let all : first ∷ link.happened ≡ happenings.Closed reason ∷ [] = happens_by (effects.Closed reason) rest e in
         let heads : first ≡ happenings.Closed reason = cc (all) in
         let tails : link.happened ≡ [] = cc (all) in
-        let notes = subst (λ (x : Happening). rounds.Handles kind x (record o { link = link }) mid seen between) heads handled in
+        let notes = subst (λ (x : Happening). rounds.Handles (listed kind) x (record o { link = link }) mid seen between) heads handled in
         let by : ClosesBy v.closed (effects.Closed reason ∷ rest) v.vat.is_closed = subst (λ (x : List Effect). ClosesBy v.closed x v.vat.is_closed) e h.closes_by in
         let none : v.closed ≡ None = not_closed_yet v.closed (effects.Closed reason) rest v.vat.is_closed by in
         let shut : v.vat.is_closed ≡ true = subst (λ (c : Option Reason). ClosesBy c (effects.Closed reason ∷ rest) v.vat.is_closed) none by refl in (
@@ -593,7 +599,7 @@ module _ {base : Link} {o : objects.Work} (first : Happening) (link : Link) (out
           rest,
           record v { closed = Some reason; effects = [] },
           e,
-          (refl, notes.1),
+          (refl, ap (λ (v : Vec A). v.items) notes.1),
           subst (λ (x : objects.Work). Matches base (record v { closed = Some reason; effects = [] }) x) (sym notes.0)
               (subst (λ (l : Link). Matches base (record v { closed = Some reason; effects = [] }) (record o { link = l; notices = o.notices ++ notices.Closed reason ∷ [] })) (sym out.1)
               (worked base v o h [] v.sent (Some reason) link.happened (o.notices ++ notices.Closed reason ∷ []) tails (ap (λ (x : List Message). v.sent ++ x) (ap sent_of (sym e))) (shut, refl)
@@ -609,31 +615,32 @@ module _ {base : Link} {o : objects.Work} (first : Happening) (link : Link) (out
     one_off (effects.Closed reason ∷ rest) e n = one_closed reason rest e
 
 module _ {A : Type 0} {kind : Kind A} where
-  pub follows_works_off : {base : Link} {o new : objects.Work} {seen others : List A} → rounds.WorksOff kind o new seen others → (w : Work) → Matches base w o
-      → (next : Work) × WorksOff kind w seen next others × Matches base next new × (next.effects ≡ [])
+  pub follows_works_off : {base : Link} {o new : objects.Work} {seen others : Vec A} → rounds.WorksOff (listed kind) o new seen others → (w : Work) → Matches base w o
+      → (next : Work) × WorksOff kind w seen.items next others.items × Matches base next new × (next.effects ≡ [])
   follows_works_off {seen = seen} (rounds.none_left none) w h =
-      let led = sends_off seen w.effects w refl h in
+      let led = sends_off seen.items w.effects w refl h in
       let all : led.0.effects ≡ [] = first_none led.0.effects led.3 (sym led.2.happens ∙ none) in
-      (led.0, led.1 led.0 seen (none_left all), led.2, all)
-  follows_works_off {seen = seen} {others = others} (rounds.handles first link out handled tail) w h =
-      let led = sends_off seen w.effects w refl h in
-      let one = one_off first link out led.0 led.2 handled led.0.effects refl led.3 in
+      (led.0, led.1 led.0 seen.items (none_left all), led.2, all)
+  follows_works_off {seen = seen} {others = others} (rounds.handles {between = between} first link out handled tail) w h =
+      let led = sends_off seen.items w.effects w refl h in
+      let one = one_off first link out led.0 led.2 seen between handled led.0.effects refl led.3 in
       let more = follows_works_off tail one.2 one.5 in
-      (more.0, led.1 more.0 others (acts one.0 one.1 one.3 one.4 more.1), more.2, more.3)
+      (more.0, led.1 more.0 others.items (acts one.0 one.1 one.3 one.4 more.1), more.2, more.3)
 
 -- ---- rounds
 
 module _ {A : Type 0} {kind : Kind A} where
-  pub follows_polls : {place : ℕ} {base : Link} {o new : objects.Work} {seen others : List A} {gave : Bool} → rounds.PollsFrom kind place o gave new seen others → (w : Work) → Matches base w o → w.effects ≡ []
-      → (next : Work) × PollsFrom kind place w seen gave next others × Matches base next new × (next.effects ≡ [])
+  pub follows_polls : {place : ℕ} {base : Link} {o new : objects.Work} {seen others : Vec A} {gave : Bool} → rounds.PollsFrom (listed kind) place o gave new seen others → (w : Work) → Matches base w o → w.effects ≡ []
+      → (next : Work) × PollsFrom kind place w seen.items gave next others.items × Matches base next new × (next.effects ≡ [])
   follows_polls (rounds.none_left past) w h rest = (w, service.none_left past, h, rest)
   follows_polls {base = base} {o = o} (rounds.has_ended some) w h rest = (w, service.is_closed (closed_work base w o h some rest), h, rest)
-  follows_polls {base = base} {o = o} (rounds.polls {last = last} settled first more still polled settles calls off tail e) w h rest =
+  follows_polls {base = base} {o = o} {seen = seen} {others = others} {gave = gave} (rounds.polls {last = last} number settled first more still next polled settles calls off tail e) w h rest =
       let one = follows_settles h settled first settles in
       let none = no_calls one.2.none_call calls in
       let two = follows_works_off off one.0 (subst (λ (x : objects.Work). Matches base one.0 x) (sym none.0) one.2) in
       let three = follows_polls tail two.0 two.2 two.3 in
-      (three.0, service.polls {new = three.0} settled first more (open_work base w o h still).0 polled one.1 (subst (λ (x : List A). WorksOff kind one.0 x two.0 last) none.1 two.1) three.1 e, three.2, three.3)
+      let polls = service.polls {new = three.0} settled first more (open_work base w o h still).0 polled one.1 (subst (λ (x : Vec A). WorksOff kind one.0 x.items two.0 last.items) none.1 two.1) three.1 e in
+      (three.0, subst (λ (n : ℕ). PollsFrom kind n w seen.items gave three.0 others.items) next.0 polls, three.2, three.3)
 
 follows_each : {base : Link} (imports : List ℕ) {w : Work} {o new : objects.Work} → Matches base w o → objects.TriesEach o imports new → (next : Work) × TriesEach w imports next × Matches base next new
 follows_each {base = base} [] {w = w} h e = (w, refl, subst (λ (x : objects.Work). Matches base w x) (sym e) h)
@@ -647,8 +654,8 @@ follows_releases {base = base} {w = w} {o = o} {new = new} h releases =
     follows_each w.given_up (owes base w o h w.awaited o.awaited [] [] h.awaited refl) (subst (λ (x : List ℕ). objects.TriesEach (record o { given_up = [] }) x new) h.given_up releases)
 
 module _ {A : Type 0} {kind : Kind A} where
-  pub follows_round : {base : Link} {o new : objects.Work} {seen others : List A} {gave : Bool} → rounds.Rounds kind o gave new seen others → (w : Work) → Matches base w o → w.effects ≡ []
-      → (next : Work) × Rounds kind w seen gave next others × Matches base next new × (next.effects ≡ [])
+  pub follows_round : {base : Link} {o new : objects.Work} {seen others : Vec A} {gave : Bool} → rounds.Rounds (listed kind) o gave new seen others → (w : Work) → Matches base w o → w.effects ≡ []
+      → (next : Work) × Rounds kind w seen.items gave next others.items × Matches base next new × (next.effects ≡ [])
   follows_round {base = base} {new = new} (rounds.has_ended polled some) w h rest =
       let one = follows_polls polled w h rest in
       (one.0, service.is_closed one.1 (closed_work base one.0 new one.2 some one.3), one.2, one.3)
@@ -656,19 +663,19 @@ module _ {A : Type 0} {kind : Kind A} where
       let one = follows_polls polled w h rest in
       let two = follows_releases one.2 tried in
       let three = follows_works_off off two.0 two.2 in
-      (three.0, service.releases one.0 two.0 between one.1 (open_work base one.0 mid one.2 still).0 two.1 three.1, three.2, three.3)
+      (three.0, service.releases one.0 two.0 between.items one.1 (open_work base one.0 mid one.2 still).0 two.1 three.1, three.2, three.3)
 
   -- a message is taken
-  pub follows_message : {base : Link} {o mid new : objects.Work} {seen between others : List A} (m : Message) (link : Link) (gave : Bool) → Does o.link (events.Receive m) (Ok values.Nothing) link
-      → rounds.WorksOff kind (record o { link = link }) mid seen between → rounds.Rounds kind mid gave new between others → (w : Work) → Matches base w o
-      → (next : Work) × TakesMessage kind w seen m next others × Matches base next new × (next.effects ≡ [])
+  pub follows_message : {base : Link} {o mid new : objects.Work} {seen between others : Vec A} (m : Message) (link : Link) (gave : Bool) → Does o.link (events.Receive m) (Ok values.Nothing) link
+      → rounds.WorksOff (listed kind) (record o { link = link }) mid seen between → rounds.Rounds (listed kind) mid gave new between others → (w : Work) → Matches base w o
+      → (next : Work) × TakesMessage kind w seen.items m next others.items × Matches base next new × (next.effects ≡ [])
   follows_message {base = base} {o = o} {between = between} m link gave d off round w h =
       let received : Work = record w { vat = link.vat; effects = w.effects ++ d.effects } in
       let done : IsDone w (events.Receive m) received =
       record { result = Ok values.Nothing; effects = d.effects; vat = link.vat; step = step_at base w o h (events.Receive m) values.Nothing link d.effects (steps_alone d h.no_tails); memory = tt; did = refl } in
       let one = follows_works_off off received (does base w o h (events.Receive m) values.Nothing link d) in
       let two = follows_round round one.0 one.2 one.3 in
-      (two.0, takes received one.0 between gave done one.1 two.1, two.2, two.3)
+      (two.0, takes received one.0 between.items gave done one.1 two.1, two.2, two.3)
 
 -- ---- between messages
 

@@ -44,19 +44,15 @@ pub record Ends (A : Type 0) : Type 0 where
   pub new : Device
 
 -- these of a call, by its objects and by what its reader and its writer tell of their bytes
-abbrev pub ends_of : {O R W : Type 0} → List O → List O → (R → Option (List ℕ)) → Tap R → Tap R → (W → Option (List ℕ)) → Tap W → Tap W → Ends O
-ends_of objects others remaining from left contents old new = record {
-  objects = objects;
-  others = others;
+abbrev pub ends : {O R W : Type 0} → Vec O → Vec O → (R → Option (List ℕ)) → Tap R → Tap R → (W → Option (List ℕ)) → Tap W → Tap W → Ends O
+ends objects others remaining from left contents old new = record {
+  objects = objects.items;
+  others = others.items;
   from = device remaining from;
   left = device remaining left;
   old = device contents old;
   new = device contents new;
 }
-
--- the same, of objects in a vector
-abbrev pub ends : {O R W : Type 0} → Vec O → Vec O → (R → Option (List ℕ)) → Tap R → Tap R → (W → Option (List ℕ)) → Tap W → Tap W → Ends O
-ends objects others remaining from left contents old new = ends_of objects.items others.items remaining from left contents old new
 
 -- the bytes are the frames of these messages, each of one segment, one after another
 abbrev pub AreWrittenAs : Mode → List Message → List ℕ → Type 0

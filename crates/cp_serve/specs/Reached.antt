@@ -1,5 +1,6 @@
 -- What a server has come to. No public clause names these.
 use Rattle.std.specs.Prelude.{◌≡◌, ◌≢◌, ◌⊎◌, ℕ, ◌-◌, ◌^◌, min, Bool, true, false, IsSome, List, [], ◌++◌, Option, Some, None, length, take}
+use Rattle.std.specs.Global.{Vec}
 use Rattle.std.specs.Io.KnownBytes.{append_known, Consumes}
 use Rattle.cp_words.specs.Limits.{standard}
 use Rattle.cp_frame.specs.declared.mode.Mode.{Mode}
@@ -12,6 +13,7 @@ use Rattle.cp_stream.specs.Tap.{failures_of}
 use Rattle.cp_stream.specs.declared.tap.Tap.{Tap}
 use Rattle.cp_connection.specs.Counting.{CountsMore}
 use Rattle.cp_connection.specs.Link.{Link, HasCome, new_link}
+use Rattle.cp_makers.specs.Listed.{listed}
 use Rattle.cp_objects.specs.Work as work
 use Rattle.cp_objects.specs.Rounds as rounds
 use Rattle.cp_objects.specs.WorkOf.{work_of}
@@ -71,8 +73,8 @@ pub record Out (A : Type 0) : Type 0 where
   pub old : Device
   pub new : Device
 
-abbrev pub out : {O W : Type 0} → List O → List O → (W → Option (List ℕ)) → Tap W → Tap W → Out O
-out objects others contents old new = record { objects = objects; others = others; old = device contents old; new = device contents new }
+abbrev pub out : {O W : Type 0} → Vec O → Vec O → (W → Option (List ℕ)) → Tap W → Tap W → Out O
+out objects others contents old new = record { objects = objects.items; others = others.items; old = device contents old; new = device contents new }
 
 -- Nothing has come to the server, nothing is owed, and nothing is to go out.
 pub record IsNew (mode : Mode) (s : Server) : Type 0 where
@@ -200,19 +202,19 @@ module _ {A : Type 0} (kind : Kind A) where
       → StopsFor kind mode start (bytes ++ piece) from left held (ahead to (ready_of new)) others fault
 
   -- what a message leads to was worked off, and a round followed
-  abbrev pub WorksOut : Server → Server → List A → List A → Type 0
+  abbrev pub WorksOut : Server → Server → Vec A → Vec A → Type 0
   WorksOut old new seen others =
-      (mid : work.Work) × (between : List A) × (gave : Bool) × rounds.WorksOff kind (owed old) mid seen between × rounds.Rounds kind mid gave (owed new) between others
+      (mid : work.Work) × (between : Vec A) × (gave : Bool) × rounds.WorksOff (listed kind) (owed old) mid seen between × rounds.Rounds (listed kind) mid gave (owed new) between others
 
   -- Where a message ended a round followed, and all that is to go out is ready then; and else nothing is done.
-  abbrev pub FollowsIf : Bool → Server → Server → List A → List A → Type 0
+  abbrev pub FollowsIf : Bool → Server → Server → Vec A → Vec A → Type 0
   FollowsIf true old new objects others =
-      ((gave : Bool) × rounds.Rounds kind (owed old) gave (owed new) objects others) × (new.ready ≡ length new.connection.unwritten)
+      ((gave : Bool) × rounds.Rounds (listed kind) (owed old) gave (owed new) objects others) × (new.ready ≡ length new.connection.unwritten)
   FollowsIf false old new objects others = (new ≡ old) × (others ≡ objects)
 
   -- a round followed
-  abbrev pub Rounded : Server → Bool → Server → List A → List A → Type 0
-  Rounded old gave new objects others = rounds.Rounds kind (owed old) gave (owed new) objects others
+  abbrev pub Rounded : Server → Bool → Server → Vec A → Vec A → Type 0
+  Rounded old gave new objects others = rounds.Rounds (listed kind) (owed old) gave (owed new) objects others
 
   -- rounds followed to their end
   abbrev pub EndsAll : Server → Out A → Server → Type 0

@@ -6,7 +6,7 @@ ghost use Rattle.cp_stream.specs.Tap.{failures_of};
 ghost use Rattle.cp_stream.specs.Write.{Sends};
 ghost use Rattle.cp_objects.specs.Work.{Lives};
 ghost use Rattle.cp_serve.specs.Matching.{reason_in};
-ghost use Rattle.cp_serve.specs.Output.{IsServedAt, IsStoppedAt, ReadsUpTo, ends, ends_of};
+ghost use Rattle.cp_serve.specs.Output.{IsServedAt, IsStoppedAt, ReadsUpTo, ends};
 ghost use Rattle.cp_serve.specs.Reached.{BreaksOff, EndingStops, EndsAll, FollowsIf, FrontStops, IsNew, PieceStops, Rounded, RunStops, Runs, RunsTo, RunsUnread, TakesFront, TakesPiece, TakesToEnd, TakesUnread, TakingStops, out, owed, ready_of, report_of};
 
 use crate::fault::ServeFault;
@@ -55,7 +55,7 @@ pub fn serve<R: Read, W: Write>(
     // A fault says why it was cut off, and what was written is a beginning of one.
     ensures stopped { IfErr result (IsStoppedAt ⟦<Boxed as Servant>⟧.kind mode (ends objects.old objects.new R.remaining from.old from.new W.contents to.old to.new)) }
 {
-    serve_each(alloc, from, to, objects.as_mut_slice(), mode)
+    serve_each(alloc, from, to, objects, mode)
 }
 
 /// Serves objects of one type, an enum for example, as `serve` does boxed ones.
@@ -64,13 +64,13 @@ pub fn serve_each<O: Servant, R: Read, W: Write>(
     alloc: Global,
     from: &mut Tap<R>,
     to: &mut Tap<W>,
-    objects: &mut [O],
+    objects: &mut Vec<O>,
     mode: Mode,
 ) -> Result<Report, ServeFault>
-    ensures served { IfOk result (IsServedAt O.kind mode (ends_of objects.old objects.new R.remaining from.old from.new W.contents to.old to.new)) }
+    ensures served { IfOk result (IsServedAt O.kind mode (ends objects.old objects.new R.remaining from.old from.new W.contents to.old to.new)) }
     ensures read { OnOk result (failures_of from.new ≡ failures_of from.old) }
-    ensures unread { IfErr result (ReadsUpTo O.kind mode (ends_of objects.old objects.new R.remaining from.old from.new W.contents to.old to.new)) }
-    ensures stopped { IfErr result (IsStoppedAt O.kind mode (ends_of objects.old objects.new R.remaining from.old from.new W.contents to.old to.new)) }
+    ensures unread { IfErr result (ReadsUpTo O.kind mode (ends objects.old objects.new R.remaining from.old from.new W.contents to.old to.new)) }
+    ensures stopped { IfErr result (IsStoppedAt O.kind mode (ends objects.old objects.new R.remaining from.old from.new W.contents to.old to.new)) }
 {
     Server::new(alloc, mode).serve(from, to, objects)
 }
@@ -104,12 +104,12 @@ impl Server {
         mut self,
         from: &mut Tap<R>,
         to: &mut Tap<W>,
-        objects: &mut [O],
+        objects: &mut Vec<O>,
     ) -> Result<Report, ServeFault>
-        ensures served { IfOk result (Runs O.kind self (ends_of objects.old objects.new R.remaining from.old from.new W.contents to.old to.new)) }
+        ensures served { IfOk result (Runs O.kind self (ends objects.old objects.new R.remaining from.old from.new W.contents to.old to.new)) }
         ensures read { OnOk result (failures_of from.new ≡ failures_of from.old) }
-        ensures unread { IfErr result (RunsUnread O.kind self (ends_of objects.old objects.new R.remaining from.old from.new W.contents to.old to.new)) }
-        ensures stopped { IfErr result (RunStops O.kind self (ends_of objects.old objects.new R.remaining from.old from.new W.contents to.old to.new)) }
+        ensures unread { IfErr result (RunsUnread O.kind self (ends objects.old objects.new R.remaining from.old from.new W.contents to.old to.new)) }
+        ensures stopped { IfErr result (RunStops O.kind self (ends objects.old objects.new R.remaining from.old from.new W.contents to.old to.new)) }
     {
         // The server goes before the answer is looked at, so that it is dropped in one place.
         let ended = self.run(from, to, objects);
@@ -123,12 +123,12 @@ impl Server {
         &mut self,
         from: &mut Tap<R>,
         to: &mut Tap<W>,
-        objects: &mut [O],
+        objects: &mut Vec<O>,
     ) -> Result<(), ServeFault>
-        ensures served { IfOk result (λ _. RunsTo O.kind self.old (ends_of objects.old objects.new R.remaining from.old from.new W.contents to.old to.new) self.new) }
+        ensures served { IfOk result (λ _. RunsTo O.kind self.old (ends objects.old objects.new R.remaining from.old from.new W.contents to.old to.new) self.new) }
         ensures read { OnOk result (failures_of from.new ≡ failures_of from.old) }
-        ensures unread { IfErr result (RunsUnread O.kind self.old (ends_of objects.old objects.new R.remaining from.old from.new W.contents to.old to.new)) }
-        ensures stopped { IfErr result (RunStops O.kind self.old (ends_of objects.old objects.new R.remaining from.old from.new W.contents to.old to.new)) }
+        ensures unread { IfErr result (RunsUnread O.kind self.old (ends objects.old objects.new R.remaining from.old from.new W.contents to.old to.new)) }
+        ensures stopped { IfErr result (RunStops O.kind self.old (ends objects.old objects.new R.remaining from.old from.new W.contents to.old to.new)) }
     {
         self.take_all(from, to, objects)?;
         self.end_all(to, objects)?;
@@ -164,12 +164,12 @@ impl Server {
         &mut self,
         from: &mut Tap<R>,
         to: &mut Tap<W>,
-        objects: &mut [O],
+        objects: &mut Vec<O>,
     ) -> Result<(), ServeFault>
-        ensures taken { OnOk result (TakesToEnd O.kind self.old (ends_of objects.old objects.new R.remaining from.old from.new W.contents to.old to.new) self.new) }
+        ensures taken { OnOk result (TakesToEnd O.kind self.old (ends objects.old objects.new R.remaining from.old from.new W.contents to.old to.new) self.new) }
         ensures read { OnOk result (failures_of from.new ≡ failures_of from.old) }
-        ensures unread { IfErr result (TakesUnread O.kind self.old (ends_of objects.old objects.new R.remaining from.old from.new W.contents to.old to.new)) }
-        ensures stopped { IfErr result (TakingStops O.kind self.old (ends_of objects.old objects.new R.remaining from.old from.new W.contents to.old to.new)) }
+        ensures unread { IfErr result (TakesUnread O.kind self.old (ends objects.old objects.new R.remaining from.old from.new W.contents to.old to.new)) }
+        ensures stopped { IfErr result (TakingStops O.kind self.old (ends objects.old objects.new R.remaining from.old from.new W.contents to.old to.new)) }
     {
         let mut storage = vec![in self.alloc; 0u8; PIECE]?;
         let buffer = storage.as_mut_slice();
@@ -194,7 +194,7 @@ impl Server {
         &mut self,
         piece: &[u8],
         to: &mut Tap<W>,
-        objects: &mut [O],
+        objects: &mut Vec<O>,
     ) -> Result<(), ServeFault>
         ensures taken { OnOk result (TakesPiece O.kind self.old piece.now (out objects.old objects.new W.contents to.old to.new) self.new) }
         ensures stopped { IfErr result (PieceStops O.kind self.old piece.now (out objects.old objects.new W.contents to.old to.new)) }
@@ -217,12 +217,12 @@ impl Server {
     fn fill_block<'a, O: Servant>(
         &mut self,
         piece: &'a [u8],
-        objects: &mut [O],
+        objects: &mut Vec<O>,
     ) -> Result<&'a [u8], ServeFault>
         requires { 0 < length piece.now }
         ensures shorter { IfOk result (λ left. length left.now < length piece.now) }
-        ensures taken { IfOk result (λ left. TakesFront O.kind self.old piece.now left.now self.new objects.old objects.new) }
-        ensures stopped { IfErr result (λ fault. FrontStops O.kind self.old piece.now self.new fault objects.old objects.new) }
+        ensures taken { IfOk result (λ left. TakesFront O.kind self.old piece.now left.now self.new objects.old.items objects.new.items) }
+        ensures stopped { IfErr result (λ fault. FrontStops O.kind self.old piece.now self.new fault objects.old.items objects.new.items) }
     {
         let mut left = piece;
         'filling: while !left.is_empty() {
@@ -248,12 +248,12 @@ impl Server {
     fn take_next<'a, O: Servant>(
         &mut self,
         piece: &'a [u8],
-        objects: &mut [O],
+        objects: &mut Vec<O>,
     ) -> Result<&'a [u8], ServeFault>
         requires { 0 < length piece.now }
         ensures shorter { IfOk result (λ left. length left.now < length piece.now) }
-        ensures taken { IfOk result (λ left. TakesFront O.kind self.old piece.now left.now self.new objects.old objects.new) }
-        ensures stopped { IfErr result (λ fault. FrontStops O.kind self.old piece.now self.new fault objects.old objects.new) }
+        ensures taken { IfOk result (λ left. TakesFront O.kind self.old piece.now left.now self.new objects.old.items objects.new.items) }
+        ensures stopped { IfErr result (λ fault. FrontStops O.kind self.old piece.now self.new fault objects.old.items objects.new.items) }
     {
         let (count, has_ended) = self.objects.receive(&mut self.connection, objects, piece)?;
         self.follow(objects, has_ended)?;
@@ -261,7 +261,11 @@ impl Server {
     }
 
     /// Where a message ended, a round follows.
-    fn follow<O: Servant>(&mut self, objects: &mut [O], has_ended: bool) -> Result<(), AllocError>
+    fn follow<O: Servant>(
+        &mut self,
+        objects: &mut Vec<O>,
+        has_ended: bool,
+    ) -> Result<(), AllocError>
         ensures done { OnOk result (FollowsIf O.kind has_ended self.old self.new objects.old objects.new) }
         ensures kept { OnErr result (self.new.ready ≡ self.old.ready) }
         ensures lives { Lives self.old.connection self.new.connection }
@@ -274,7 +278,7 @@ impl Server {
     }
 
     /// A round of polls. Says whether an outcome was given that was awaited.
-    fn round<O: Servant>(&mut self, objects: &mut [O]) -> Result<bool, AllocError>
+    fn round<O: Servant>(&mut self, objects: &mut Vec<O>) -> Result<bool, AllocError>
         ensures done { IfOk result (λ gave. Rounded O.kind self.old gave self.new objects.old objects.new) }
         ensures ready { OnOk result (self.new.ready ≡ length self.new.connection.unwritten) }
         ensures kept { OnErr result (self.new.ready ≡ self.old.ready) }
@@ -290,7 +294,7 @@ impl Server {
     fn end_all<O: Servant, W: Write>(
         &mut self,
         to: &mut Tap<W>,
-        objects: &mut [O],
+        objects: &mut Vec<O>,
     ) -> Result<(), ServeFault>
         ensures ends { OnOk result (EndsAll O.kind self.old (out objects.old objects.new W.contents to.old to.new) self.new) }
         ensures stopped { IfErr result (EndingStops O.kind self.old (out objects.old objects.new W.contents to.old to.new)) }

@@ -1,6 +1,6 @@
--- What follows of a test, and of a slice that was lent.
-use Rattle.std.proofs.Common.{◌≡◌, ◌==◌, ◌<◌, ◌≤◌, ◌↔◌, ◌⊎◌, ◌++◌, ◌∙◌, ℕ, List, Bool, true, false, IsTrue, Result, Ok, Err, IfOk, IfErr, OnOk, OnErr, inl, inr, refl, ap, subst, sym, take, drop, length, arith}
-use Rattle.std.proofs.Math.Seq.{take-append_seam}
+-- What follows of a test, and of what a call gave.
+use Rattle.std.proofs.Common.{◌≡◌, ◌==◌, ◌<◌, ◌≤◌, ◌↔◌, ◌⊎◌, ◌||◌, ℕ, Bool, true, false, IsTrue, Result, Ok, Err, IfOk, IfErr, OnOk, OnErr, inl, inr, refl, arith}
+use Rattle.std.proofs.lemmas.Bool.{false≢true}
 use Rattle.std.proofs.lemmas.Bool.Decides.{nat_tests}
 use Rattle.cp_session.specs.Search.{from_then}
 
@@ -22,14 +22,6 @@ pub on_err : {T E : Type 0} {P Q : Type 0} (r : Result T E) → OnErr r P → (P
 on_err (Ok x) h f = tt
 on_err (Err e) h f = f h
 
--- a vector's items, once a slice of them all was changed
-pub lent_back : {X : Type 0} (items new : List X) (len : ℕ) → len ≡ length new → take len (new ++ drop (length new) items) ≡ new
-lent_back items new len same = ap (λ (m : ℕ). take m (new ++ drop (length new) items)) same ∙ take-append_seam new (drop (length new) items)
-
--- what was done with a slice was done with the vector
-pub lent_to : {X : Type 0} (P : List X → List X → Type 0) (lent old new back : List X) → lent ≡ old → back ≡ new → P lent new → P old back
-lent_to P lent old new back e f h = subst (λ os. P os back) e (subst (λ os. P lent os) (sym f) h)
-
 -- from when on imports are sought again
 pub sought : (n i i2 p p2 m m2 : ℕ) → n ≡ from_then i p m → i ≡ i2 → p ≡ p2 → m ≡ m2 → n ≡ from_then i2 p2 m2
 sought n i i2 p p2 m m2 e a b c = rw (← a, ← b, ← c) e
@@ -49,6 +41,21 @@ either_second {P = P} {Q = Q} b not h = (λ t. inr (h.0 t), λ s. the_second s)
 -- a number that isn't 0 is more
 pub more_than_none : (b : Bool) (n : ℕ) → b ≡ (n == 0) → b ≡ false → 0 < n
 more_than_none b n is not = grind (arith, nat_tests)
+
+-- one of three things is so, by a test of each
+pub is_one : (a b c : Bool) → (a ≡ true) ⊎ ((b ≡ true) ⊎ (c ≡ true)) → (a || (b || c)) ≡ true
+is_one true b c h = refl
+is_one false true c h = refl
+is_one false false true h = refl
+is_one false false false (inl e) = absurd (false≢true e)
+is_one false false false (inr (inl e)) = absurd (false≢true e)
+is_one false false false (inr (inr e)) = absurd (false≢true e)
+
+pub is_none : (a b c : Bool) → ((a ≡ true) ⊎ ((b ≡ true) ⊎ (c ≡ true)) → ⊥) → (a || (b || c)) ≡ false
+is_none true b c h = absurd (h (inl refl))
+is_none false true c h = absurd (h (inr (inl refl)))
+is_none false false true h = absurd (h (inr (inr refl)))
+is_none false false false h = refl
 
 -- the order of two numbers that aren't ordered so
 pub less_unless : (a b : ℕ) → (a ≤ b → ⊥) → b < a

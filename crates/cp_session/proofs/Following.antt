@@ -1,7 +1,8 @@
 -- A call that comes where nobody serves, and what is taken where no byte may wait.
-use Rattle.std.proofs.Common.{◌≡◌, ◌<◌, ◌+◌, ◌++◌, ◌∷◌, ℕ, List, [], sym, ap, arith, length}
+use Rattle.std.proofs.Common.{◌≡◌, ◌+◌, ◌++◌, ◌∷◌, List, [], sym, ap, ◌∙◌, arith, length}
 use Rattle.std.proofs.lemmas.List.{nil_from_length, length-append}
 use Rattle.cp_objects.specs.Rounds.{by_object, by_none}
+use Rattle.cp_makers.specs.Hall.{HallKind}
 use Rattle.cp_servants.specs.Servant.{Kind}
 use Rattle.cp_session.specs.Doing.{drops, holds_up, takes}
 use Rattle.cp_session.specs.Laws.{NobodyServes, WrittenFirst}
@@ -13,10 +14,10 @@ nothing_in {A = A} front x back e =
     omega (arith, ap (λ (l : List A). length l) e, long)
 
 pub nobody_serves : {A : Type 0} (kind : Kind A) → NobodyServes kind
-nobody_serves kind k ticket call reply old new others (by_object holds calls) = absurd (nothing_in calls.front calls.before calls.back calls.was)
-nobody_serves kind k ticket call reply old new others (by_none few is same left) = (is, same, left)
+nobody_serves kind k ticket call reply old new objects others none (by_object holds calls) = absurd (nothing_in calls.front calls.before calls.back (sym none ∙ calls.was))
+nobody_serves kind k ticket call reply old new objects others none (by_none few is same left) = (is, same, left)
 
-pub written_first : {A : Type 0} (kind : Kind A) → WrittenFirst kind
-written_first kind old new piece now count (drops draining all same) none not_draining some = absurd (not_draining draining)
-written_first kind old new piece now count (holds_up drains why is same) none not_draining some = absurd (omega (arith, is, some))
-written_first kind old new piece now count (takes mid may some front settles) none not_draining more = nil_from_length _ (omega (arith, may.few, none))
+pub written_first : {H : Type 0} (hall : HallKind H) → WrittenFirst hall
+written_first hall old new piece now count (drops draining all same) none not_draining some = absurd (not_draining draining)
+written_first hall old new piece now count (holds_up drains why is same) none not_draining some = absurd (omega (arith, is, some))
+written_first hall old new piece now count (takes mid may some front settles) none not_draining more = nil_from_length _ (omega (arith, may.few, none))

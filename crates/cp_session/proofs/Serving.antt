@@ -1,5 +1,5 @@
 -- How what is done for objects follows what a connection took.
-use Rattle.std.proofs.Common.{◌≡◌, ◌≤◌, ℕ, List, refl, inl, inr, arith, length}
+use Rattle.std.proofs.Common.{◌≤◌, ℕ, List, refl, inl, inr, arith, length}
 use Rattle.std.proofs.lemmas.List.{length-append}
 use Rattle.cp_connection.specs.declared.fault.ConnectionFault.TheVariants as faults
 use Rattle.cp_connection.specs.Link.{Link}
@@ -9,7 +9,7 @@ use Rattle.cp_objects.specs.Work.{Lives}
 use Rattle.cp_objects.proofs.Living.{lives_both}
 
 -- memory ran out after bytes were taken
-pub cut_later : {A : Type 0} {old mid done new : Link} {objects others : List A} (piece : List ℕ) (count : ℕ) → connection.Receives old piece count mid → Lives mid done → Lives done new
+pub cut_later : {H : Type 0} {old mid done new : Link} {objects others : H} (piece : List ℕ) (count : ℕ) → connection.Receives old piece count mid → Lives mid done → Lives done new
     → IsCutShort old piece faults.OutOfMemory new objects others
 cut_later piece count received lives more = ran_out count _ received (lives_both lives more) refl
 

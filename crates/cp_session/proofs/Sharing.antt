@@ -1,12 +1,12 @@
 -- What sessions take of the pool, and what they keep together.
-use Rattle.std.proofs.Common.{◌≡◌, ℕ, ◌+◌, ◌-◌, ◌*◌, ◌≤◌, List, [], ◌∷◌, map, length, Option, Some, None, refl, sym, ap, ◌∙◌, arith}
+use Rattle.std.proofs.Common.{◌≡◌, ℕ, ◌+◌, ◌-◌, ◌*◌, ◌≤◌, List, [], ◌∷◌, length, Option, Some, None, refl, sym, ap, ◌∙◌, arith}
 use Rattle.std.specs.List.{sum_by}
 use Rattle.std.proofs.lemmas.List.{length-map}
 use Rattle.std.proofs.lemmas.List.Sums.{sum_by-cons}
-use Rattle.std.specs.FinMap.{get, insert, remove, empty, entries, values, len, len-entries}
+use Rattle.std.specs.FinMap.{get, insert, empty, entries, values, len, len-entries}
 use Rattle.cp_tables.specs.Table.{Table}
 use Rattle.cp_refs.proofs.Sums.{of_entry, held-insert, held-remove, held-empty}
-use Rattle.cp_session.specs.Budget.{Keeping, beyond, taken_of, own_of, others_of, allowed, IsWithin, KeepNoMore, StaysWithin}
+use Rattle.cp_session.specs.Budget.{beyond, taken_of, own_of, others_of, KeepNoMore, StaysWithin}
 
 pub none_taken : (share : ℕ) → taken_of share empty ≡ 0
 none_taken share = held-empty (beyond share)

@@ -14,7 +14,7 @@ pub knows_closed : (told : Bool) (reason : Reason) → knows_by (if told then No
 knows_closed true reason = refl
 knows_closed false reason = refl
 
-pub tells_closed : {A : Type 0} (old new : State A) (event : Option SessionEvent) (work : Work) (reason : Reason) → HandsOver old.service.work (Some (notices.Closed reason)) work
+pub tells_closed : {H : Type 0} (old new : State H) (event : Option SessionEvent) (work : Work) (reason : Reason) → HandsOver old.service.work (Some (notices.Closed reason)) work
     → event ≡ told_of old (Some (notices.Closed reason))
     → new ≡ with_progress (record old { service = record old.service { work = work } }) (record old.progress { is_told = true }) → Tells old event new
 tells_closed old new event work reason hands is e =

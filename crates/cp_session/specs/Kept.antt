@@ -8,8 +8,8 @@ use Rattle.cp_connection.specs.Contents.{happened_memory, kept_contents}
 use Rattle.cp_objects.specs.Noticed.{noticed_memory}
 use Rattle.cp_objects.specs.Work.{Work}
 
--- The bytes that are kept: of the open message, of what waits to be written, 640 for each entry of the vat and 272 for each promise, and of the contents
--- that the vat keeps and that weren't taken.
-abbrev pub kept_of : Work → ℕ
-kept_of work =
-    counted (taken_of work.link.reading + length work.link.unwritten + entries_of work.link.vat * 640 + len work.link.vat.values.promises * 272 + kept_contents work.link + happened_memory work.link.happened + noticed_memory work.notices)
+-- The bytes that are kept: of the open message, of what waits to be written, 640 for each entry of the vat and each object that may go, 272 for each promise, and
+-- of the contents that the vat keeps and that weren't taken.
+abbrev pub kept_of : Work → ℕ → ℕ
+kept_of work guests =
+    counted (taken_of work.link.reading + length work.link.unwritten + (entries_of work.link.vat + guests) * 640 + len work.link.vat.values.promises * 272 + kept_contents work.link + happened_memory work.link.happened + noticed_memory work.notices)

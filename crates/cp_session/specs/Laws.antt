@@ -1,8 +1,11 @@
 -- What follows of what is done with a session.
 use Rattle.std.specs.Prelude.{◌≡◌, ℕ, ◌<◌, List, []}
+use Rattle.std.specs.Global.{Vec}
 use Rattle.cp_connection.specs.declared.happening.Happening.{Happening}
 use Rattle.cp_connection.specs.Lives.{Course}
 use Rattle.cp_refs.specs.declared.call.Request.{Request}
+use Rattle.cp_makers.specs.Hall.{HallKind}
+use Rattle.cp_makers.specs.Listed.{listed}
 use Rattle.cp_objects.specs.Rounds.{Gives}
 use Rattle.cp_objects.specs.Work.{Work}
 use Rattle.cp_servants.specs.declared.servant.Reply.{Reply}
@@ -14,21 +17,21 @@ use Rattle.cp_session.specs.Progress.{IsDraining}
 use Rattle.cp_session.specs.Runs.{Deed, Runs}
 use Rattle.cp_session.specs.State.{State, link_of}
 
-module _ {A : Type 0} (kind : Kind A) where
-  -- a call that comes where nobody serves fails with `no such object`, and nothing else is done for it
-  abbrev pub NobodyServes : Type 0
-  NobodyServes =
-      (k ticket : ℕ) (call : Request) (reply : Reply) (old new : Work) (others : List A) → Gives kind k ticket call reply old new [] others
-      → (reply ≡ replies.Now no_such_object []) × (new ≡ old) × (others ≡ [])
+-- a call that comes where nobody serves fails with `no such object`, and nothing else is done for it
+abbrev pub NobodyServes : {A : Type 0} → Kind A → Type 0
+NobodyServes {A} kind =
+    (k ticket : ℕ) (call : Request) (reply : Reply) (old new : Work) (objects others : Vec A) → objects.items ≡ [] → Gives (listed kind) k ticket call reply old new objects others
+    → (reply ≡ replies.Now no_such_object []) × (new ≡ old) × (others ≡ objects)
 
+module _ {H : Type 0} (hall : HallKind H) where
   -- where no byte may wait, nothing is taken of the peer before all that is to go out was written
   abbrev pub WrittenFirst : Type 0
   WrittenFirst =
-      (old new : State A) (piece : List ℕ) (now count : ℕ) → Receives kind old piece now count new → old.limits.ahead ≡ 0
+      (old new : State H) (piece : List ℕ) (now count : ℕ) → Receives hall old piece now count new → old.limits.ahead ≡ 0
       → (IsDraining old.progress.phase → ⊥) → 0 < count → (link_of old).unwritten ≡ []
 
   -- Whatever is done with a session, its connection took those of the given bytes, and was told that those were written, and no others.
   abbrev pub LivesOn : Type 0
   LivesOn =
-      (first last : State A) (deed : Deed) → Runs kind first deed last
+      (first last : State H) (deed : Deed) → Runs hall first deed last
       → (handed : List Happening) × Course (link_of first) deed.taken deed.written handed (link_of last)

@@ -2,6 +2,7 @@ pub mod Limits
 pub mod Progress
 pub mod Service
 pub mod Search
+pub mod Sweep
 pub mod Refusing
 pub mod Serves
 pub mod State

@@ -5,12 +5,13 @@ use Rattle.cp_vat_machine.specs.declared.event.Value.{Value}
 use Rattle.cp_connection.specs.declared.fault.ConnectionFault.{ConnectionFault}
 use Rattle.cp_connection.specs.Link.{Link}
 use Rattle.cp_connection.specs.Lives.{IsCall}
+use Rattle.cp_makers.specs.declared.waker.Waker.{Waker}
+use Rattle.cp_makers.specs.Hall.{HallKind}
 use Rattle.cp_objects.specs.Receiving.{IsCutShort, is_unreceived, ran_out}
-use Rattle.cp_servants.specs.Servant.{Kind}
 use Rattle.cp_session.specs.declared.event.SessionEvent.{SessionEvent}
 use Rattle.cp_session.specs.declared.progress.Phase.{Phase}
 use Rattle.cp_session.specs.declared.progress.Phase.TheVariants as phases
-use Rattle.cp_session.specs.Doing.{Did, EndsBytes, EndsCut, IsUntaken, PollsOn, Receives, RunsOut, Tells, Ticks, Writes}
+use Rattle.cp_session.specs.Doing.{Did, EndsBytes, EndsCut, HandsOn, IsRefused, IsUntaken, PollsOn, Receives, RunsOut, Tells, Ticks, Wakes, Writes}
 use Rattle.cp_session.specs.State.{State, link_of}
 
 -- a call that the program made, and what it gave
@@ -19,17 +20,18 @@ pub record Call : Type 0 where
   pub result : Result Value ConnectionFault
 
 -- What one call of a session did: it was given these bytes, of which its connection took those, and dropped the others; it was told that these were written;
--- the program made these calls; and these events were handed out.
+-- the program made these calls; these events were handed out; and so were these objects of other sessions, which are to be woken.
 pub record Deed : Type 0 where
   pub given : List ℕ
   pub taken : List ℕ
   pub written : List ℕ
   pub called : List Call
   pub told : List SessionEvent
+  pub woken : List Waker
 
 -- nothing of all this
 abbrev pub nothing : Deed
-nothing = record { given = []; taken = []; written = []; called = []; told = [] }
+nothing = record { given = []; taken = []; written = []; called = []; told = []; woken = [] }
 
 -- one after the other
 abbrev pub both : Deed → Deed → Deed
@@ -39,6 +41,7 @@ both one other = record {
   written = one.written ++ other.written;
   called = one.called ++ other.called;
   told = one.told ++ other.told;
+  woken = one.woken ++ other.woken;
 }
 
 -- these bytes were given, and what the connection took of them
@@ -51,29 +54,33 @@ taken_in (phases.Draining since) given = []
 taken_in other given = given
 
 -- what a connection took of a piece that was cut short
-abbrev pub taken_by : {A : Type 0} {old : Link} {piece : List ℕ} {fault : ConnectionFault} {new : Link} {objects others : List A}
+abbrev pub taken_by : {H : Type 0} {old : Link} {piece : List ℕ} {fault : ConnectionFault} {new : Link} {objects others : H}
     → IsCutShort old piece fault new objects others → List ℕ
 taken_by (is_unreceived taken unreceived same) = taken
 taken_by {piece = piece} (ran_out count mid received lives memory) = take count piece
 
-module _ {A : Type 0} (kind : Kind A) where
+module _ {H : Type 0} (hall : HallKind H) where
   -- one call of a session
-  pub data Does (old : State A) : Deed → State A → Type 0 where
-    receives : {deed : Deed} {new : State A} (piece : List ℕ) (now count : ℕ) → Receives kind old piece now count new
+  pub data Does (old : State H) : Deed → State H → Type 0 where
+    receives : {deed : Deed} {new : State H} (piece : List ℕ) (now count : ℕ) → Receives hall old piece now count new
         → deed ≡ giving (take count piece) (taken_in old.progress.phase (take count piece)) → Does old deed new
-    fails : {deed : Deed} {new : State A} (piece : List ℕ) (now : ℕ) (fault : ConnectionFault) (cut : IsUntaken kind old piece now fault new)
+    fails : {deed : Deed} {new : State H} (piece : List ℕ) (now : ℕ) (fault : ConnectionFault) (cut : IsUntaken hall old piece now fault new)
         → deed ≡ giving [] (taken_by cut.cut.cut) → Does old deed new
-    ends : {deed : Deed} {new : State A} (now : ℕ) → EndsBytes kind old now new → deed ≡ nothing → Does old deed new
-    ends_inside : {deed : Deed} {new : State A} (now : ℕ) (fault : ConnectionFault) → EndsCut kind old now fault new → deed ≡ nothing → Does old deed new
-    polls : {deed : Deed} {new : State A} (now : ℕ) → PollsOn kind old now new → deed ≡ nothing → Does old deed new
-    runs_out : {deed : Deed} {new : State A} (now : ℕ) → RunsOut kind old now new → deed ≡ nothing → Does old deed new
-    writes : {deed : Deed} {new : State A} (count now : ℕ) → Writes kind old count now new → deed ≡ record nothing { written = take count (link_of old).unwritten }
+    ends : {deed : Deed} {new : State H} (now : ℕ) → EndsBytes hall old now new → deed ≡ nothing → Does old deed new
+    ends_inside : {deed : Deed} {new : State H} (now : ℕ) (fault : ConnectionFault) → EndsCut hall old now fault new → deed ≡ nothing → Does old deed new
+    polls : {deed : Deed} {new : State H} (now : ℕ) → PollsOn hall old now new → deed ≡ nothing → Does old deed new
+    runs_out : {deed : Deed} {new : State H} (now : ℕ) → RunsOut hall old now new → deed ≡ nothing → Does old deed new
+    writes : {deed : Deed} {new : State H} (count now : ℕ) → Writes hall old count now new → deed ≡ record nothing { written = take count (link_of old).unwritten }
         → Does old deed new
-    ticks : {deed : Deed} {new : State A} (now : ℕ) → Ticks kind old now new → deed ≡ nothing → Does old deed new
-    tells : {deed : Deed} {new : State A} (event : Option SessionEvent) → Tells old event new → deed ≡ record nothing { told = option_to_list event } → Does old deed new
-    calls : {deed : Deed} {new : State A} (call : Call) → IsCall call.event → Did old call.event call.result new → deed ≡ record nothing { called = call ∷ [] } → Does old deed new
+    ticks : {deed : Deed} {new : State H} (now : ℕ) → Ticks hall old now new → deed ≡ nothing → Does old deed new
+    refuses : {deed : Deed} {new : State H} (now : ℕ) → IsRefused hall old now new → deed ≡ nothing → Does old deed new
+    tells : {deed : Deed} {new : State H} (event : Option SessionEvent) → Tells old event new → deed ≡ record nothing { told = option_to_list event } → Does old deed new
+    wakes : {deed : Deed} {new : State H} (object : ℕ) → Wakes hall object old new → deed ≡ nothing → Does old deed new
+    hands_on : {deed : Deed} {new : State H} (waker : Option Waker) → HandsOn hall waker old new → deed ≡ record nothing { woken = option_to_list waker }
+        → Does old deed new
+    calls : {deed : Deed} {new : State H} (call : Call) → IsCall call.event → Did old call.event call.result new → deed ≡ record nothing { called = call ∷ [] } → Does old deed new
 
   -- Calls of a session, one after another, and nothing else, which together did this.
-  pub data Runs (first : State A) : Deed → State A → Type 0 where
+  pub data Runs (first : State H) : Deed → State H → Type 0 where
     begins : Runs first nothing first
-    goes_on : {before deed all : Deed} {mid new : State A} → Runs first before mid → Does mid deed new → all ≡ both before deed → Runs first all new
+    goes_on : {before deed all : Deed} {mid new : State H} → Runs first before mid → Does mid deed new → all ≡ both before deed → Runs first all new

@@ -6,21 +6,27 @@ use Rattle.cp_objects.specs.WorkOf.{work_of}
 use Rattle.cp_session.specs.declared.options.SessionOptions.{SessionOptions}
 use Rattle.cp_session.specs.declared.endpoint.Endpoint.{Endpoint}
 use Rattle.cp_session.specs.declared.search.Search.{Search}
+use Rattle.cp_session.specs.declared.sweep.Sweep.{Sweep}
 
 -- The connection with what is owed to its objects, when imports are sought that nobody holds, if they are, and whether an object gave what was awaited when
--- all were polled last.
+-- all were polled last; and when objects are sought that nothing refers to.
 pub record Service : Type 0 where
   pub work : Work
   pub search : Option Search
   pub gave : Bool
+  pub sweep : Sweep
 
 -- an endpoint by its parts
 abbrev pub service_of : Endpoint → Service
-service_of endpoint = record { work = work_of endpoint.work endpoint.connection; search = endpoint.search; gave = endpoint.gave }
+service_of endpoint = record { work = work_of endpoint.work endpoint.connection; search = endpoint.search; gave = endpoint.gave; sweep = endpoint.sweep }
 
 -- nothing was sought, if something is
 abbrev pub first_search : Bool → Option Search
 first_search releases_idle = if releases_idle then Some (record { from = 0 }) else None
+
+-- no objects were sought
+abbrev pub unswept : Sweep
+unswept = record { from = 0; at = None }
 
 -- nothing came to it
 abbrev pub new_service : SessionOptions → Service
@@ -28,6 +34,7 @@ new_service options = record {
   work = begun options.may_call (new_link_with_tails options.mode options.messages options.bootstrap);
   search = first_search options.releases_idle;
   gave = false;
+  sweep = unswept;
 }
 
 -- the same, with another connection

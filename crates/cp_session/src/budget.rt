@@ -12,8 +12,8 @@ use std::marker::Model;
 /// # In which order calls are made
 ///
 /// 1. `new` makes it, for no sessions.
-/// 2. Where a session may have come to keep more, ask `allowed`. If it keeps more than that, end it and call `forget`; and else say by
-///    `note` what it keeps. Each has a number of yours.
+/// 2. Where a session may have come to keep more, ask `allowed`. If it keeps more than that, call `Session::refuse`. If it still does
+///    then, end it and call `forget`; and else say by `note` what it keeps. Each has a number of yours.
 pub struct Budget {
     share: u64,
     pool: u64,

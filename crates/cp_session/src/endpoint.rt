@@ -11,12 +11,14 @@ ghost use Rattle.cp_session.specs.Search.{IsDue, Seeks};
 ghost use Rattle.cp_session.specs.Refusing.{Refuses};
 ghost use Rattle.cp_session.specs.Serves.{Ends, Follows, HasGiven, IsUnended, MayGive, Polls, Takes, WorksOn};
 ghost use Rattle.cp_session.specs.Service.{first_search, new_service, service_of};
+ghost use Rattle.cp_session.specs.Sweep.{Sweeps, SweepsAll, SweepsInTime};
 
 use crate::options::SessionOptions;
 use crate::search::Search;
+use crate::sweep::{Sweep, has_come};
 use cp_connection::{Connection, ConnectionFault, Excess};
+use cp_makers::Hall;
 use cp_objects::Objects;
-use cp_servants::{Servant, any_again};
 use std::alloc::{AllocError, Global};
 
 /// The bytes that an entry of a vat takes at most, its content aside, and those that a promise takes.
@@ -33,6 +35,7 @@ pub(crate) struct Endpoint {
     search: Option<Search>,
     /// An object gave what was awaited when all were polled last.
     gave: bool,
+    sweep: Sweep,
 }
 
 impl Endpoint {
@@ -50,42 +53,44 @@ impl Endpoint {
             work: objects_that(options.may_call, alloc),
             search: search_if(options.releases_idle),
             gave: false,
+            sweep: Sweep::new(),
         }
     }
 
     /// Takes a piece up to the end of a message, and says how many bytes. After a message each object is polled once.
-    pub(crate) fn receive<O: Servant>(
+    pub(crate) fn receive<H: Hall>(
         &mut self,
-        objects: &mut [O],
+        objects: &mut H,
         piece: &[u8],
+        now: u64,
     ) -> Result<usize, ConnectionFault>
-        ensures takes { IfOk result (λ count. Takes O.kind (service_of self.old) piece.now count (service_of self.new) objects.old objects.new) }
+        ensures takes { IfOk result (λ count. Takes H.hall now (service_of self.old) piece.now count (service_of self.new) objects.old objects.new) }
         ensures some { IfOk result (λ count. 0 < length piece.now → 0 < count) }
         ensures few { IfOk result (λ count. count ≤ length piece.now) }
         ensures cut { IfErr result (λ fault. IsCutShort self.old.connection piece.now fault self.new.connection objects.old objects.new) }
     {
         let (count, has_ended) = self.work.receive(&mut self.connection, objects, piece)?;
-        self.follow(objects, has_ended)?;
+        self.follow(objects, has_ended, now)?;
         Ok(count)
     }
 
     /// Ends the peer's bytes, and polls each object once.
-    pub(crate) fn end<O: Servant>(&mut self, objects: &mut [O]) -> Result<(), ConnectionFault>
-        ensures ends { OnOk result (Ends O.kind (service_of self.old) (service_of self.new) objects.old objects.new) }
+    pub(crate) fn end<H: Hall>(&mut self, objects: &mut H, now: u64) -> Result<(), ConnectionFault>
+        ensures ends { OnOk result (Ends H.hall now (service_of self.old) (service_of self.new) objects.old objects.new) }
         ensures unended { IfErr result (λ fault. IsUnended self.old.connection fault self.new.connection objects.old objects.new) }
     {
         self.connection.end()?;
-        self.round(objects)?;
+        self.round(objects, now)?;
         Ok(())
     }
 
     /// Does what happened asks of the objects, and polls each of them once.
-    pub(crate) fn poll<O: Servant>(&mut self, objects: &mut [O]) -> Result<(), AllocError>
-        ensures works { OnOk result (WorksOn O.kind (service_of self.old) (service_of self.new) objects.old objects.new) }
+    pub(crate) fn poll<H: Hall>(&mut self, objects: &mut H, now: u64) -> Result<(), AllocError>
+        ensures works { OnOk result (WorksOn H.hall now (service_of self.old) (service_of self.new) objects.old objects.new) }
         ensures lives { Lives self.old.connection self.new.connection }
     {
         self.work.work_off(&mut self.connection, objects)?;
-        self.round(objects)
+        self.round(objects, now)
     }
 
     /// Tells the peer what is too much, if something is: the connection is aborted for that.
@@ -100,11 +105,11 @@ impl Endpoint {
     }
 
     /// Whether a poll may give more, though nothing more comes.
-    pub(crate) fn has_more<O: Servant>(&self, objects: &[O]) -> bool
-        ensures more { result ≡ true → MayGive O.kind (service_of self.now) objects.now }
+    pub(crate) fn has_more<H: Hall>(&self, objects: &H) -> bool
+        ensures more { result ≡ true → MayGive H.hall (service_of self.now) objects.now }
         ensures none { result ≡ false → HasGiven (service_of self.now) }
     {
-        self.gave || self.connection.held().happenings > 0 || any_again(objects)
+        self.gave || self.connection.held().happenings > 0 || objects.again()
     }
 
     /// Whether the connection ended.
@@ -121,14 +126,15 @@ impl Endpoint {
         self.connection.held().came > 0
     }
 
-    /// The bytes that are kept: of the open message, of what waits to be written, `ENTRY` for each entry of the vat and `PROMISE` for
-    /// each promise, and of the contents that the vat keeps and that weren't taken.
-    pub(crate) fn kept(&self) -> u64
-        ensures { result ≡ kept_of (service_of self.now).work }
+    /// The bytes that are kept: of the open message, of what waits to be written, `ENTRY` for each entry of the vat and each object that
+    /// may go, `PROMISE` for each promise, and of the contents that the vat keeps and that weren't taken.
+    pub(crate) fn kept<H: Hall>(&self, objects: &H) -> u64
+        ensures { result ≡ kept_of (service_of self.now).work (H.hall.guests objects.now) }
     {
         let held = self.connection.held();
         let bytes = held.came.saturating_add(held.unwritten as u64);
-        let entries = (held.entries as u64).saturating_mul(ENTRY);
+        let entries = (held.entries as u64).saturating_add(objects.guests() as u64);
+        let entries = entries.saturating_mul(ENTRY);
         let promises = (held.promises as u64).saturating_mul(PROMISE);
         let tables = entries.saturating_add(promises);
         let happened = self.connection.happened_memory();
@@ -138,23 +144,74 @@ impl Endpoint {
     }
 
     /// Where a message ended, polls each object once.
-    fn follow<O: Servant>(&mut self, objects: &mut [O], has_ended: bool) -> Result<(), AllocError>
-        ensures follows { OnOk result (Follows O.kind has_ended (service_of self.old) (service_of self.new) objects.old objects.new) }
+    fn follow<H: Hall>(
+        &mut self,
+        objects: &mut H,
+        has_ended: bool,
+        now: u64,
+    ) -> Result<(), AllocError>
+        ensures follows { OnOk result (Follows H.hall now has_ended (service_of self.old) (service_of self.new) objects.old objects.new) }
         ensures lives { Lives self.old.connection self.new.connection }
     {
         if !has_ended {
             return Ok(());
         }
-        self.round(objects)
+        self.round(objects, now)
     }
 
     /// Polls each object once, and then releases the imports that nobody holds, where it is due.
-    fn round<O: Servant>(&mut self, objects: &mut [O]) -> Result<(), AllocError>
-        ensures polls { OnOk result (Polls O.kind (service_of self.old) (service_of self.new) objects.old objects.new) }
+    fn round<H: Hall>(&mut self, objects: &mut H, now: u64) -> Result<(), AllocError>
+        ensures polls { OnOk result (Polls H.hall now (service_of self.old) (service_of self.new) objects.old objects.new) }
         ensures lives { Lives self.old.connection self.new.connection }
     {
         self.gave = self.work.round(&mut self.connection, objects)?;
-        self.release_idle()
+        self.release_idle()?;
+        self.sweep_objects(objects, now)
+    }
+
+    /// When objects are to be sought that nothing refers to, though no message comes.
+    pub(crate) fn sweep_time(&self) -> Option<u64>
+        ensures { result ≡ self.now.sweep.at }
+    {
+        self.sweep.at
+    }
+
+    /// Time passed: seeks objects that nothing refers to, where it is time for that.
+    pub(crate) fn tick<H: Hall>(&mut self, objects: &mut H, now: u64) -> Result<(), AllocError>
+        ensures sweeps { OnOk result (SweepsInTime H.hall now (service_of self.old) (service_of self.new) objects.old objects.new) }
+        ensures same { self.new.connection ≡ self.old.connection }
+    {
+        if !has_come(self.sweep.at, now) {
+            return Ok(());
+        }
+        self.sweep_all(objects, now)
+    }
+
+    /// Drops the objects that nothing refers to, where messages or time paid for it, and else later.
+    fn sweep_objects<H: Hall>(&mut self, objects: &mut H, now: u64) -> Result<(), AllocError>
+        ensures sweeps { OnOk result (Sweeps H.hall now (service_of self.old) (service_of self.new) objects.old objects.new) }
+        ensures same { self.new.connection ≡ self.old.connection }
+    {
+        if objects.guests() == 0 {
+            return Ok(());
+        }
+        if self.sweep.is_due(self.connection.tally().messages, now) {
+            return self.sweep_all(objects, now);
+        }
+        self.sweep = self.sweep.later(now);
+        Ok(())
+    }
+
+    /// Drops the objects that nothing refers to.
+    fn sweep_all<H: Hall>(&mut self, objects: &mut H, now: u64) -> Result<(), AllocError>
+        ensures sweeps { OnOk result (SweepsAll H.hall now (service_of self.old) (service_of self.new) objects.old objects.new) }
+        ensures same { self.new.connection ≡ self.old.connection }
+    {
+        let before = objects.guests();
+        self.work.drop_idle(&self.connection, objects)?;
+        let messages = self.connection.tally().messages;
+        self.sweep = Sweep::after(before, objects.guests(), messages, now);
+        Ok(())
     }
 
     /// Where it is due, releases the imports that nothing of the vat uses and that no object holds.

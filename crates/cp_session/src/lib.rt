@@ -11,6 +11,7 @@ mod options;
 mod progress;
 mod search;
 mod session;
+mod sweep;
 
 pub use budget::Budget;
 pub use event::SessionEvent;

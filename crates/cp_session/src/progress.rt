@@ -205,7 +205,7 @@ impl Progress {
     }
 
     /// A limit is met: nothing is left to be done, unless the peer is to be told what is too much.
-    fn meet(&mut self, limit: Limit) -> Option<Excess>
+    pub(crate) fn meet(&mut self, limit: Limit) -> Option<Excess>
         ensures told { result ≡ excess_by limit self.old.phase }
         ensures met { self.new ≡ met limit self.old }
     {
@@ -307,7 +307,7 @@ fn went_by(since: u64, time: u64, now: u64) -> bool
 }
 
 /// The earlier of two times.
-fn earlier(one: Option<u64>, other: Option<u64>) -> Option<u64>
+pub(crate) fn earlier(one: Option<u64>, other: Option<u64>) -> Option<u64>
     ensures { result ≡ earlier one other }
 {
     match (one, other) {

@@ -5,9 +5,9 @@ ghost use Rattle.cp_vat_machine.specs.declared.event.Event.TheVariants as machin
 ghost use Rattle.cp_vat_machine.specs.declared.event.Value.TheVariants as values;
 ghost use Rattle.cp_connection.specs.Doing.{answered};
 ghost use Rattle.cp_objects.specs.declared.notice.Notice.TheVariants as notices;
-ghost use Rattle.cp_session.specs.Doing.{Did, EndsBytes, EndsCut, Finishes, GivesMore, GivesNone, GoesOn, HasMore, HasNone, IsCut, IsUnfinished, IsSettled, IsStopped, IsUnsettled, IsUntaken, IsUnworked, MayTake, PollsOn, Receives, RunsOut, Settles, TakesIn, Tells, Ticks, Writes, ending_by, exporting, fault_of, knows_by, next_cap, told_of};
+ghost use Rattle.cp_session.specs.Doing.{ActsInTime, Adds, Did, EndsBytes, EndsCut, Exports, Finishes, GivesMore, GivesNone, GoesBy, GoesOn, HandsOn, HasMore, HasNone, IsCut, IsRefused, IsUnfinished, IsSettled, IsStopped, IsUnsettled, IsUntaken, IsUnworked, Lists, MayTake, PassesTime, PollsOn, Receives, RunsOut, Settles, TakesIn, Tells, Ticks, Wakes, Writes, alarm_of, due_of, ending_by, fault_of, knows_by, next_cap, told_of};
 ghost use Rattle.cp_session.specs.Kept.{kept_of};
-ghost use Rattle.cp_session.specs.Progress.{IsDraining, deadline_of};
+ghost use Rattle.cp_session.specs.Progress.{IsDraining};
 ghost use Rattle.cp_session.specs.State.{State, link_of, new_state, state_of};
 ghost use Rattle.cp_session.specs.declared.event.SessionEvent.TheVariants as events;
 ghost use Rattle.cp_session.specs.declared.progress.Phase.TheVariants as phases;
@@ -16,8 +16,10 @@ use crate::endpoint::Endpoint;
 use crate::event::SessionEvent;
 use crate::limits::SessionLimits;
 use crate::options::SessionOptions;
-use crate::progress::Progress;
+use crate::progress::{Limit, Progress, earlier};
+use crate::sweep::has_come;
 use cp_connection::{ConnectionFault, Tally};
+use cp_makers::{Family, Hall, Maker, Waker};
 use cp_objects::Notice;
 use cp_refs::{Cap, PromiseId, Request};
 use cp_servants::Servant;
@@ -37,7 +39,9 @@ const MOST: usize = 0xffff_ffff;
 /// 3. While `has_more` says so, call `poll`: an object may give more though nothing comes, or a call of yours is one of an object
 ///    here.
 /// 4. After each of these take the events by `poll_event`, until there is none, and write `outgoing`; `wrote` notes how much went out.
-/// 5. At `deadline`, and after what came was taken, call `tick`: it ends the session where that meets a limit.
+///    Objects of other sessions are to be woken that `next_wake` names: `wake` them, and `poll` those sessions.
+/// 5. At `deadline`, and after what came was taken, call `tick`: it ends the session where that meets a limit. Where `kept` says more
+///    than you allow, call `refuse`.
 /// 6. Once `is_draining`, all went out: close the stream for writing, unless the peer closed. Once `is_over`, close it.
 ///
 /// `call` and the other calls of the program may come between any two of these. What they send goes out by `outgoing`.
@@ -52,14 +56,14 @@ const MOST: usize = 0xffff_ffff;
 /// # Errors
 ///
 /// Where memory runs out, a call or an outcome may be lost. So the session ends then.
-pub struct Session<O> {
+pub struct Session<H> {
     endpoint: Endpoint,
-    objects: Vec<O>,
+    objects: H,
     limits: SessionLimits,
     progress: Progress,
 }
 
-impl<O: Drop> Drop for Session<O> {
+impl<H: Drop> Drop for Session<H> {
     fn drop(self) {
         let Session {
             endpoint: _,
@@ -70,10 +74,10 @@ impl<O: Drop> Drop for Session<O> {
     }
 }
 
-impl<O: Servant> Session<O> {
+impl<H: Hall> Session<H> {
     /// A session to which nothing came.
-    pub fn new(alloc: Global, options: &SessionOptions, objects: Vec<O>, now: u64) -> Session<O>
-        ensures { state_of result ≡ new_state options.now objects.items now }
+    pub fn new(alloc: Global, options: &SessionOptions, objects: H, now: u64) -> Session<H>
+        ensures { state_of result ≡ new_state options.now objects now }
     {
         Session {
             endpoint: Endpoint::new(alloc, options),
@@ -91,9 +95,9 @@ impl<O: Servant> Session<O> {
     /// Those of `Connection::receive`, or memory ran out for what the message leads to. The session ends, and an event says why. Where
     /// a frame is too large, an Abort says so to the peer.
     pub fn receive(&mut self, piece: &[u8], now: u64) -> Result<usize, ConnectionFault>
-        ensures receives { IfOk result (λ count. Receives O.kind (state_of self.old) piece.now now count (state_of self.new)) }
+        ensures receives { IfOk result (λ count. Receives H.hall (state_of self.old) piece.now now count (state_of self.new)) }
         ensures few { IfOk result (λ count. count ≤ length piece.now) }
-        ensures untaken { IfErr result (λ fault. IsUntaken O.kind (state_of self.old) piece.now now fault (state_of self.new)) }
+        ensures untaken { IfErr result (λ fault. IsUntaken H.hall (state_of self.old) piece.now now fault (state_of self.new)) }
     {
         if self.is_draining() {
             return Ok(piece.len());
@@ -115,15 +119,15 @@ impl<O: Servant> Session<O> {
     ///
     /// As those of `receive`: they end inside a message, or memory ran out.
     pub fn end(&mut self, now: u64) -> Result<(), ConnectionFault>
-        ensures ends { OnOk result (EndsBytes O.kind (state_of self.old) now (state_of self.new)) }
-        ensures cut { IfErr result (λ fault. EndsCut O.kind (state_of self.old) now fault (state_of self.new)) }
+        ensures ends { OnOk result (EndsBytes H.hall (state_of self.old) now (state_of self.new)) }
+        ensures cut { IfErr result (λ fault. EndsCut H.hall (state_of self.old) now fault (state_of self.new)) }
     {
         if !self.progress.is_serving() {
             self.progress.end_again();
             self.settle(now);
             return Ok(());
         }
-        let ended = self.end_bytes();
+        let ended = self.end_bytes(now);
         self.settle(now);
         ended
     }
@@ -134,39 +138,60 @@ impl<O: Servant> Session<O> {
     ///
     /// Memory ran out, and the session ends.
     pub fn poll(&mut self, now: u64) -> Result<(), AllocError>
-        ensures polls { OnOk result (PollsOn O.kind (state_of self.old) now (state_of self.new)) }
-        ensures runs_out { OnErr result (RunsOut O.kind (state_of self.old) now (state_of self.new)) }
+        ensures polls { OnOk result (PollsOn H.hall (state_of self.old) now (state_of self.new)) }
+        ensures runs_out { OnErr result (RunsOut H.hall (state_of self.old) now (state_of self.new)) }
     {
         if !self.has_more() {
             return Ok(());
         }
-        let polled = self.work_on();
+        let polled = self.work_on(now);
         self.settle(now);
         polled
     }
 
-    /// Time passed: the session ends if it meets a limit at this time. Where too much is kept, an Abort says so to the peer first.
+    /// Time passed: the session ends if it meets a limit at this time. Where too much is kept, an Abort says so to the peer first. Where
+    /// none is met objects are woken whose time has come, so that `has_more` says so, and those are dropped that nothing refers to, where
+    /// it is time for that.
     pub fn tick(&mut self, now: u64)
-        ensures { Ticks O.kind (state_of self.old) now (state_of self.new) }
+        ensures { Ticks H.hall (state_of self.old) now (state_of self.new) }
     {
-        let kept = self.endpoint.kept();
+        let kept = self.endpoint.kept(&self.objects);
         let excess = self.progress.tick(&self.limits, kept, now);
         self.endpoint.refuse(excess);
+        self.go_by(now);
+        self.settle(now);
+    }
+
+    /// Refuses the peer, as more is kept for it than a host allows: the limit of what is kept is met, whatever `kept` says. While bytes of
+    /// the peer are taken an Abort says so to it first; else the session is over.
+    pub fn refuse(&mut self, now: u64)
+        ensures { IsRefused H.hall (state_of self.old) now (state_of self.new) }
+    {
+        if self.is_over() {
+            return;
+        }
+        let told = self.progress.meet(Limit::Kept);
+        self.endpoint.refuse(told);
         self.settle(now);
     }
 
     /// How many bytes are kept for it, as its limit counts them: so that a host can keep all its sessions within a budget.
     pub fn kept(&self) -> u64
-        ensures { result ≡ kept_of (state_of self.now).service.work }
+        ensures { let state = state_of self.now in result ≡ kept_of state.service.work (H.hall.guests state.objects) }
     {
-        self.endpoint.kept()
+        self.endpoint.kept(&self.objects)
     }
 
-    /// When the next limit of time is met, if no byte moves before.
+    /// When to call `tick` next: a limit of time is met then, if no byte moves before, or an object is to be woken, or objects are sought
+    /// that nothing refers to.
     pub fn deadline(&self) -> Option<u64>
-        ensures { let state = state_of self.now in result ≡ deadline_of state.limits state.progress state.progress.phase }
+        ensures { result ≡ due_of H.hall (state_of self.now) }
     {
-        self.progress.deadline(&self.limits)
+        let limit = self.progress.deadline(&self.limits);
+        if self.is_stopped() {
+            return limit;
+        }
+        earlier(limit, self.alarm())
     }
 
     /// The bytes that are to be written to the peer.
@@ -178,7 +203,7 @@ impl<O: Servant> Session<O> {
 
     /// Notes that the first bytes of `outgoing` were written, this many, at this time.
     pub fn wrote(&mut self, count: usize, now: u64)
-        ensures { Writes O.kind (state_of self.old) count now (state_of self.new) }
+        ensures { Writes H.hall (state_of self.old) count now (state_of self.new) }
     {
         self.endpoint.connection.wrote(count);
         self.progress.move_at(now);
@@ -207,8 +232,8 @@ impl<O: Servant> Session<O> {
 
     /// Whether `poll` may give more now, though nothing more comes.
     pub fn has_more(&self) -> bool
-        ensures more { result ≡ true → HasMore O.kind (state_of self.now) }
-        ensures none { result ≡ false → HasNone O.kind (state_of self.now) }
+        ensures more { result ≡ true → HasMore H.hall (state_of self.now) }
+        ensures none { result ≡ false → HasNone H.hall (state_of self.now) }
     {
         self.is_read() && self.gives_more()
     }
@@ -237,26 +262,25 @@ impl<O: Servant> Session<O> {
         }
     }
 
-    /// Adds an object, and gives the capability of it, which a table may name. `None`: there are 2^32 of them.
-    pub fn export(&mut self, object: O) -> Result<Option<Cap>, AllocError>
-        ensures cap { IfOk result (λ cap. cap ≡ next_cap (length (state_of self.old).objects)) }
-        ensures added { IfOk result (λ cap. state_of self.new ≡ exporting cap object (state_of self.old)) }
-        ensures left { OnErr result (state_of self.new ≡ state_of self.old) }
-    {
-        let place = self.objects.len();
-        if place > MOST {
-            drop(object);
-            return Ok(None);
-        }
-        self.objects.push(object)?;
-        Ok(Some(Cap::Object(place as u32)))
-    }
-
-    /// The objects, in the order of their numbers.
-    pub fn objects(&self) -> &[O]
+    /// The objects.
+    pub fn hall(&self) -> &H
         ensures { result.now ≡ (state_of self.now).objects }
     {
-        self.objects.as_slice()
+        &self.objects
+    }
+
+    /// Has an object polled, if it is there: then `has_more` says so.
+    pub fn wake(&mut self, object: u32) -> Result<(), AllocError>
+        ensures { OnOk result (Wakes H.hall object (state_of self.old) (state_of self.new)) }
+    {
+        self.objects.wake(object)
+    }
+
+    /// Takes out the first object of another session that an object here wants to be woken.
+    pub fn next_wake(&mut self) -> Option<Waker>
+        ensures { HandsOn H.hall result (state_of self.old) (state_of self.new) }
+    {
+        self.objects.next_wake()
     }
 
     /// How many bytes and messages were taken, and how many messages were sent.
@@ -318,11 +342,12 @@ impl<O: Servant> Session<O> {
 
     /// Takes bytes up to the end of a message, at this time.
     fn take(&mut self, piece: &[u8], now: u64) -> Result<usize, ConnectionFault>
-        ensures takes { IfOk result (λ count. TakesIn O.kind (state_of self.old) piece.now now count (state_of self.new)) }
+        ensures takes { IfOk result (λ count. TakesIn H.hall (state_of self.old) piece.now now count (state_of self.new)) }
         ensures few { IfOk result (λ count. count ≤ length piece.now) }
-        ensures cut { IfErr result (λ fault. IsCut O.kind (state_of self.old) piece.now now fault (state_of self.new)) }
+        ensures cut { IfErr result (λ fault. IsCut H.hall (state_of self.old) piece.now now fault (state_of self.new)) }
     {
-        let taken = self.endpoint.receive(self.objects.as_mut_slice(), piece);
+        self.objects.set_now(now);
+        let taken = self.endpoint.receive(&mut self.objects, piece, now);
         self.progress.take_at(now, self.endpoint.is_open());
         match taken {
             Ok(count) => Ok(count),
@@ -335,11 +360,12 @@ impl<O: Servant> Session<O> {
     }
 
     /// Ends the bytes of the peer while they are taken.
-    fn end_bytes(&mut self) -> Result<(), ConnectionFault>
-        ensures finishes { OnOk result (Finishes O.kind (state_of self.old) (state_of self.new)) }
-        ensures unfinished { IfErr result (λ fault. IsUnfinished O.kind (state_of self.old) fault (state_of self.new)) }
+    fn end_bytes(&mut self, now: u64) -> Result<(), ConnectionFault>
+        ensures finishes { OnOk result (Finishes H.hall now (state_of self.old) (state_of self.new)) }
+        ensures unfinished { IfErr result (λ fault. IsUnfinished H.hall now (state_of self.old) fault (state_of self.new)) }
     {
-        let ended = self.endpoint.end(self.objects.as_mut_slice());
+        self.objects.set_now(now);
+        let ended = self.endpoint.end(&mut self.objects, now);
         self.progress.finish();
         match ended {
             Ok(()) => Ok(()),
@@ -351,17 +377,59 @@ impl<O: Servant> Session<O> {
     }
 
     /// Does what happened asks of the objects, and polls each of them once.
-    fn work_on(&mut self) -> Result<(), AllocError>
-        ensures works { OnOk result (GoesOn O.kind (state_of self.old) (state_of self.new)) }
-        ensures unworked { OnErr result (IsUnworked O.kind (state_of self.old) (state_of self.new)) }
+    fn work_on(&mut self, now: u64) -> Result<(), AllocError>
+        ensures works { OnOk result (GoesOn H.hall now (state_of self.old) (state_of self.new)) }
+        ensures unworked { OnErr result (IsUnworked H.hall (state_of self.old) (state_of self.new)) }
     {
-        match self.endpoint.poll(self.objects.as_mut_slice()) {
+        self.objects.set_now(now);
+        match self.endpoint.poll(&mut self.objects, now) {
             Ok(()) => Ok(()),
             Err(error) => {
                 self.progress.fail(ConnectionFault::OutOfMemory);
                 Err(error)
             }
         }
+    }
+
+    /// Time passes for the objects, unless nothing more is given.
+    fn go_by(&mut self, now: u64)
+        ensures { GoesBy H.hall now (state_of self.old) (state_of self.new) }
+    {
+        if self.is_stopped() {
+            return;
+        }
+        self.pass_time(now);
+    }
+
+    /// Wakes the objects whose time has come, and drops those that nothing refers to, where it is time for that.
+    fn pass_time(&mut self, now: u64)
+        ensures { PassesTime H.hall now (state_of self.old) (state_of self.new) }
+    {
+        if !has_come(self.alarm(), now) {
+            return;
+        }
+        match self.act_in_time(now) {
+            Ok(()) => {}
+            Err(_) => self.progress.fail(ConnectionFault::OutOfMemory),
+        }
+    }
+
+    /// The same, where memory suffices.
+    fn act_in_time(&mut self, now: u64) -> Result<(), AllocError>
+        ensures acts { OnOk result (ActsInTime H.hall now (state_of self.old) (state_of self.new)) }
+        ensures same { state_of self.new ≡ record (state_of self.old) { service = (state_of self.new).service; objects = (state_of self.new).objects } }
+        ensures link { link_of (state_of self.new) ≡ link_of (state_of self.old) }
+    {
+        self.objects.set_now(now);
+        self.objects.wake_due()?;
+        self.endpoint.tick(&mut self.objects, now)
+    }
+
+    /// When an object is to be woken, or objects are to be sought that nothing refers to.
+    fn alarm(&self) -> Option<u64>
+        ensures { result ≡ alarm_of H.hall (state_of self.now) }
+    {
+        earlier(self.objects.deadline(), self.endpoint.sweep_time())
     }
 
     /// Whether more of the peer is taken now.
@@ -380,10 +448,10 @@ impl<O: Servant> Session<O> {
 
     /// Whether something may be given, though nothing more comes.
     fn gives_more(&self) -> bool
-        ensures more { result ≡ true → GivesMore O.kind (state_of self.now) }
-        ensures none { result ≡ false → GivesNone O.kind (state_of self.now) }
+        ensures more { result ≡ true → GivesMore H.hall (state_of self.now) }
+        ensures none { result ≡ false → GivesNone H.hall (state_of self.now) }
     {
-        !self.is_stopped() && self.endpoint.has_more(self.objects.as_slice())
+        !self.is_stopped() && self.endpoint.has_more(&self.objects)
     }
 
     /// Whether nothing more is given: the connection ended, or there was a fault, or a limit was met.
@@ -396,7 +464,7 @@ impl<O: Servant> Session<O> {
     /// Where the connection ended nothing more is taken. Once all went out and nothing more is given, the peer's close is waited for,
     /// if it isn't there.
     fn settle(&mut self, now: u64)
-        ensures { Settles O.kind (state_of self.old) now (state_of self.new) }
+        ensures { Settles H.hall (state_of self.old) now (state_of self.new) }
     {
         self.progress.heed(self.endpoint.connection.fault());
         if !self.is_settled() {
@@ -407,8 +475,8 @@ impl<O: Servant> Session<O> {
 
     /// Whether nothing is taken, all went out, and nothing more is given.
     fn is_settled(&self) -> bool
-        ensures settled { result ≡ true → IsSettled O.kind (state_of self.now) }
-        ensures unsettled { result ≡ false → IsUnsettled O.kind (state_of self.now) }
+        ensures settled { result ≡ true → IsSettled H.hall (state_of self.now) }
+        ensures unsettled { result ≡ false → IsUnsettled H.hall (state_of self.now) }
     {
         self.progress.is_ending() && self.outgoing().is_empty() && !self.gives_more()
     }
@@ -453,5 +521,40 @@ impl<O: Servant> Session<O> {
             return Some(SessionEvent::Ended);
         }
         None
+    }
+}
+
+/// A session of objects that are fixed but for those that the program adds.
+impl<O: Servant> Session<Vec<O>> {
+    /// Adds an object, and gives the capability of it, which a table may name. `None`: there are 2^32 of them.
+    pub fn export(&mut self, object: O) -> Result<Option<Cap>, AllocError>
+        ensures cap { IfOk result (λ cap. cap ≡ next_cap (length self.old.objects.items)) }
+        ensures added { IfOk result (λ cap. Exports cap object (state_of self.old) (state_of self.new)) }
+        ensures left { OnErr result (Lists self.old.objects.items (state_of self.old) (state_of self.new)) }
+    {
+        let place = self.objects.len();
+        if place > MOST {
+            drop(object);
+            return Ok(None);
+        }
+        self.objects.push(object)?;
+        Ok(Some(Cap::Object(place as u32)))
+    }
+
+    /// The objects, in the order of their numbers.
+    pub fn objects(&self) -> &[O]
+        ensures { result.now ≡ (state_of self.now).objects.items }
+    {
+        self.objects.as_slice()
+    }
+}
+
+/// A session of objects that make others.
+impl<O: Maker<Makes = O>> Session<Family<O>> {
+    /// Adds an object that stays as long as the session, as `Family::add`.
+    pub fn add(&mut self, object: O) -> Result<Cap, AllocError>
+        ensures { OnOk result (Adds object (state_of self.old) (state_of self.new)) }
+    {
+        self.objects.add(object)
     }
 }

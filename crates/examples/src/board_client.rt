@@ -26,7 +26,7 @@ pub fn run(rt: &HostRuntime) -> anyhow::Result<()> {
 /// Makes all its calls before the server has answered the first. Returns the notes, and how many there are now.
 pub fn read_and_post<R: Read + Drop, W: Write + Drop>(
     alloc: Global,
-    client: &mut Client<R, W, ReaderServant<Lines>>,
+    client: &mut Client<R, W, Vec<ReaderServant<Lines>>>,
 ) -> anyhow::Result<String> {
     let board = BoardClient::new(alloc, client.bootstrap()?.cap(alloc));
     read(alloc, client, &board)?;
@@ -41,7 +41,7 @@ pub fn read_and_post<R: Read + Drop, W: Write + Drop>(
 /// Asks a board to call an object of the client's with each note.
 fn read<R: Read + Drop, W: Write + Drop>(
     alloc: Global,
-    client: &mut Client<R, W, ReaderServant<Lines>>,
+    client: &mut Client<R, W, Vec<ReaderServant<Lines>>>,
     board: &BoardClient,
 ) -> anyhow::Result<()> {
     let object = Lines {
@@ -59,7 +59,7 @@ fn read<R: Read + Drop, W: Write + Drop>(
 /// Adds a note, and waits for the number of notes.
 fn post<R: Read + Drop, W: Write + Drop>(
     alloc: Global,
-    client: &mut Client<R, W, ReaderServant<Lines>>,
+    client: &mut Client<R, W, Vec<ReaderServant<Lines>>>,
     board: &BoardClient,
 ) -> anyhow::Result<u32> {
     let mut params = BoardPostParamsDraft::new(alloc)?;

@@ -39,7 +39,7 @@ pub fn run(rt: &HostRuntime) -> anyhow::Result<()> {
 /// Gives the client that came a board. All boards have the same notes.
 fn admit(
     alloc: Global,
-    host: &mut Host<BoardServant<Board>>,
+    host: &mut Host<Vec<BoardServant<Board>>>,
     notes: &Rc<RefCell<Vec<String>>>,
 ) -> anyhow::Result<()> {
     let object = Board {

@@ -19,7 +19,8 @@ fn add(rt: &HostRuntime, client: &mut Connection, server: &mut Connection) -> an
     let params = Content::new(alloc).word(41)?;
     let asked = client.call(total, params.request(0xe5a1_0000_0000_0003, 0))?;
     carry(client, server)?;
-    Objects::new(alloc).work_off(server, &mut [Total { alloc, number: 0 }])?;
+    let mut objects = vec![in alloc; Total { alloc, number: 0 }]?;
+    Objects::new(alloc).work_off(server, &mut objects)?;
     carry(server, client)?;
     println!(rt; "the sum is {}", sum_of(client, asked).unwrap_or(0))?;
     Ok(())

@@ -1,4 +1,5 @@
-//! Runs each example on its file of `data/`, under a heading. With the word `server` it serves a board, and with `client` it calls it.
+//! Runs each example on its file of `data/`, under a heading. With the word `server` it serves a board, and with `client` it calls it; with
+//! `notebook` it serves a notebook, and with `writer` it calls that.
 #![tactic(auto)]
 
 mod board_client;
@@ -9,6 +10,9 @@ mod call;
 mod connection;
 mod count;
 mod draft;
+mod notebook_client;
+mod notebook_server;
+mod notebook_test;
 mod serve;
 mod vat;
 mod view;
@@ -20,6 +24,8 @@ fn main(rt: HostRuntime) -> anyhow::Result<()> {
     match env::args(&rt)?.nth(1) {
         Some(word) if word.as_str() == "server" => board_server::run(&rt),
         Some(word) if word.as_str() == "client" => board_client::run(&rt),
+        Some(word) if word.as_str() == "notebook" => notebook_server::run(&rt),
+        Some(word) if word.as_str() == "writer" => notebook_client::run(&rt),
         _ => run_all(&rt),
     }
 }
@@ -45,7 +51,9 @@ fn run_all(rt: &HostRuntime) -> anyhow::Result<()> {
     heading(rt, "vat")?;
     vat::run(rt)?;
     heading(rt, "board_test")?;
-    board_test::run(rt)
+    board_test::run(rt)?;
+    heading(rt, "notebook_test")?;
+    notebook_test::run(rt)
 }
 
 /// Prints an example's name on a line of its own.

@@ -17,7 +17,7 @@
 //! A client answers an incoming call with `no such object`. One made by `with_objects` can have objects: `export` adds one, whose capability
 //! a call's table may name. While the client waits they get the calls that come, and are polled. They may call what they were given
 //! (`server::Servant::ask`). `with_objects` also says which of them the peer's Bootstrap gets, by its number: the first one exported is 0.
-//! `serve` answers until the peer ends.
+//! `serve` answers until the peer ends. `with_family` makes a client of objects that make others (`server::Family`).
 //!
 //! A `Stream` keeps several calls in flight, up to a window, for example those of a `-> stream` method.
 //!

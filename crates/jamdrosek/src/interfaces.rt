@@ -7,6 +7,9 @@
 //! fields and of memory, and `failed` makes one of your own. Capabilities of the params are released with the answer, unless it keeps them
 //! (`Answer::keeping`).
 //!
+//! With `--services` in place of `--interfaces` the methods of `StoreServer` also get the `server::Here` of their call, and the object
+//! implements `ServiceObject`, which names the one type of all objects of its connection. A `StoreServant` is a `server::Maker` then.
+//!
 //! A `StoreClient` calls. Its method `get` takes a `Caller`, for example a `Client`, and a builder of the params, and returns a promise.
 //! Fields of the promise that are structs or capabilities are promises and clients too: call them before anything has arrived (pipelining).
 //! `payload_of` turns the outcome into what the promise's `results` reads. `get_request` is the call as a value, for a `Vat` or for an
@@ -14,6 +17,7 @@
 
 pub use cp_builder::DraftFault;
 pub use cp_refs::failed;
+pub use cp_services::ServiceObject;
 pub use cp_stubs::{
     Answer, CallTarget, Caller, CapFault, MethodCall, MethodFault, NoResults, Promised,
     ResultPayload, Results, ServerObject, StreamResultDraft, StreamResultPromise, Table,

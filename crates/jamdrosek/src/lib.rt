@@ -225,6 +225,23 @@
 //!
 //! An object calls back by `ServerObject::ask`, at a `Host` or at a client.
 //!
+//! # Objects made in calls
+//!
+//! With `--services` in place of `--interfaces` an object's methods get a `Here` too, by which they make other objects.
+//! What a call made is dropped once its client dropped it:
+//!
+//! ```rust crates/examples/src/notebook_server.rt
+//! let mut objects = Family::new(alloc);
+//! objects.add(new_notebook(alloc, shelf, number)?)?;
+//! host.admit(objects)?;
+//! ..
+//! let page = here.make(Served::Second(PageServant { object }))?;
+//! let mut table = Table::new(alloc);
+//! let mut results = NotebookOpenResultsDraft::new(alloc)?;
+//! results.set_page_client(&mut table, PageClient::new(alloc, page))?;
+//! Ok(Answer::naming(alloc, results, table))
+//! ```
+//!
 //! # Without a schema
 //!
 //! An object may be a `Servant` itself, which takes requests as they come. A `Content` is the struct of its results, or of a call's params.
@@ -265,7 +282,8 @@
 //! let params = Content::new(alloc).word(41)?;
 //! let asked = client.call(total, params.request(0xe5a1_0000_0000_0003, 0))?;
 //! carry(client, server)?;
-//! Objects::new(alloc).work_off(server, &mut [Total { alloc, number: 0 }])?;
+//! let mut objects = vec![in alloc; Total { alloc, number: 0 }]?;
+//! Objects::new(alloc).work_off(server, &mut objects)?;
 //! carry(server, client)?;
 //! ```
 //!

@@ -2,7 +2,8 @@
 //!
 //! A `Session` is a `Connection` with its objects and limits. Bytes, times and your calls go in. Bytes, events and the next deadline come
 //! out. An event loop over sockets, pipes or threads only has to read, write and wait. `SessionLimits` say how long a message, a silent
-//! peer and a peer's close may take, how many bytes may wait before more is taken, and how many are kept.
+//! peer and a peer's close may take, how many bytes may wait before more is taken, and how many are kept. The objects are a list, or a
+//! `Family` (`server::Family`).
 //!
 //! `receive` takes bytes up to the end of a message, hands calls to their objects, and polls each object. A `SessionEvent` is the outcome of
 //! a question of yours, or says why the session ended: that one comes once, and last.

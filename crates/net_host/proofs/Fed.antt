@@ -3,26 +3,26 @@ use Rattle.std.proofs.Common.{◌≡◌, ◌-◌, ◌∙◌, ℕ, List, [], ◌+
 use Rattle.std.proofs.Math.Seq.{take-append_seam}
 use Rattle.std.proofs.lemmas.List.{take-append-drop, length-append}
 use Rattle.cp_connection.specs.declared.fault.ConnectionFault.{ConnectionFault}
-use Rattle.cp_servants.specs.Servant.{Kind}
+use Rattle.cp_makers.specs.Hall.{HallKind}
 use Rattle.cp_session.specs.Doing.{IsUntaken, Receives}
 use Rattle.cp_session.specs.Runs.{begins, fails, receives}
 use Rattle.cp_session.specs.State.{State}
 use Rattle.cp_session.proofs.Running.{runs_both, runs_one}
 use Rattle.net_host.specs.Feeding.{IsFed, Leaves}
 
-pub fed_none : {A : Type 0} {kind : Kind A} (s : State A) → IsFed kind s [] s
+pub fed_none : {H : Type 0} {hall : HallKind H} (s : State H) → IsFed hall s [] s
 fed_none s = ([], begins)
 
 -- one piece after another
-pub fed_both : {A : Type 0} {kind : Kind A} {a b c : State A} {one two : List ℕ} → IsFed kind a one b → IsFed kind b two c → IsFed kind a (one ++ two) c
+pub fed_both : {H : Type 0} {hall : HallKind H} {a b c : State H} {one two : List ℕ} → IsFed hall a one b → IsFed hall b two c → IsFed hall a (one ++ two) c
 fed_both h k = (h.0 ++ k.0, runs_both h.1 k.1)
 
 -- what was taken
-pub fed_taken : {A : Type 0} {kind : Kind A} {old new : State A} (piece : List ℕ) (now count : ℕ) → Receives kind old piece now count new → IsFed kind old (take count piece) new
+pub fed_taken : {H : Type 0} {hall : HallKind H} {old new : State H} (piece : List ℕ) (now count : ℕ) → Receives hall old piece now count new → IsFed hall old (take count piece) new
 fed_taken piece now count h = (_, runs_one _ (receives piece now count h refl))
 
 -- nothing is taken at a fault
-pub fed_failed : {A : Type 0} {kind : Kind A} {old new : State A} (piece : List ℕ) (now : ℕ) (fault : ConnectionFault) → IsUntaken kind old piece now fault new → IsFed kind old [] new
+pub fed_failed : {H : Type 0} {hall : HallKind H} {old new : State H} (piece : List ℕ) (now : ℕ) (fault : ConnectionFault) → IsUntaken hall old piece now fault new → IsFed hall old [] new
 fed_failed piece now fault h = (_, runs_one _ (fails piece now fault h refl))
 
 -- a piece is what was taken of it, and then the rest
@@ -37,15 +37,15 @@ goes_down piece done left count e =
     e ∙ ap (λ x. done ++ x) (sym (take-append-drop count left)) ∙ sym (append_assoc done (take count left) (drop count left))
 
 -- what was taken of it, by what is left
-pub fed_so_far : {A : Type 0} {kind : Kind A} {a c : State A} (piece done left : List ℕ) → piece ≡ done ++ left → IsFed kind a done c
-    → IsFed kind a (take (length piece - length left) piece) c
-fed_so_far {kind = kind} {a = a} {c = c} piece done left e h =
+pub fed_so_far : {H : Type 0} {hall : HallKind H} {a c : State H} (piece done left : List ℕ) → piece ≡ done ++ left → IsFed hall a done c
+    → IsFed hall a (take (length piece - length left) piece) c
+fed_so_far {hall = hall} {a = a} {c = c} piece done left e h =
     let n : length (done ++ left) - length left ≡ length done = rw (length-append done left) (omega arith) in
     rw (e, n, take-append_seam done left) h
 
 -- less is left of it
-pub leaves_less : {A : Type 0} {kind : Kind A} {a b c : State A} (piece left : List ℕ) (count : ℕ) → Leaves kind a piece left b → IsFed kind b (take count left) c
-    → Leaves kind a piece (take (length left - count) (drop count left)) c
+pub leaves_less : {H : Type 0} {hall : HallKind H} {a b c : State H} (piece left : List ℕ) (count : ℕ) → Leaves hall a piece left b → IsFed hall b (take count left) c
+    → Leaves hall a piece (take (length left - count) (drop count left)) c
 leaves_less piece left count h k =
     let rest : take (length left - count) (drop count left) ≡ drop count left = take_all (length left - count) (drop count left) (omega (arith, length-drop count left)) in (
       h.0 ++ take count left,

@@ -1,53 +1,72 @@
 -- How turns follow each other, and what a slab of connections shows of them.
-use Rattle.std.proofs.Common.{◌≡◌, ◌∙◌, ℕ, List, ◌∷◌, Option, Some, None, IsSome, inl, inr, refl, sym, ap, subst}
+use Rattle.std.proofs.Common.{◌≡◌, ◌≢◌, ◌∙◌, ℕ, List, ◌∷◌, Option, Some, None, IsSome, inl, inr, refl, sym, ap, subst, ◌≤◌, Bool, cond, is_some, arith}
 use Rattle.std.specs.Option.{option_map}
 use Rattle.std.proofs.lemmas.Bool.{cases_eq}
-use Rattle.slab.specs.Slab.{Slab, Updates, get, with_value}
-use Rattle.slab.proofs.SlabLemmas.{Updates-with_value}
-use Rattle.cp_servants.specs.Servant.{Kind}
-use Rattle.cp_session.specs.Budget.{Keeping}
+use Rattle.std.proofs.lemmas.List.Sums.{sum_by-set}
+use Rattle.slab.specs.Slab.{Slab, Updates, get, slab_len, with_value}
+use Rattle.slab.proofs.SlabLemmas.{ContainsKey-within, Updates-with_value}
+use Rattle.cp_makers.specs.declared.waker.Waker.{Waker}
+use Rattle.cp_makers.specs.Hall.{HallKind}
+use Rattle.cp_session.specs.Doing.{due_of}
+use Rattle.cp_session.specs.Progress.{earlier}
+use Rattle.cp_session.specs.State.{new_state}
 use Rattle.net_sockets.specs.declared.listener.Peer.{Peer}
 use Rattle.net_host.specs.declared.end.End.{End}
+use Rattle.net_host.specs.declared.end.End.TheVariants as all_ends
 use Rattle.net_host.specs.declared.end.Ended.{Ended}
 use Rattle.net_host.specs.declared.event_loop.EventLoop.{EventLoop}
 use Rattle.net_host.specs.declared.guest.Guest.{Guest}
 use Rattle.net_host.specs.declared.host.News.{News}
+use Rattle.net_host.specs.declared.pending.PendingConnection.{PendingConnection}
+use Rattle.net_host.specs.declared.plan.HostPlan.{HostPlan}
 use Rattle.net_host.specs.declared.host.News.TheVariants as all_news
-use Rattle.net_host.specs.Floor.{Begins, Floor, Puts, Reports, Rests, Rounds, Tells, begins, floor_of, seen, turns}
-use Rattle.net_host.specs.Guests.{Served, served_of}
+use Rattle.net_host.specs.Floor.{Floor, IsServed, Puts, Reports, Rests, Rounds, Seats, Tells, begins, floor_of, options_of, seen, turns}
+use Rattle.net_host.specs.Guests.{IsShort, Served, end_or, new_served, served_of}
 use Rattle.net_host.specs.Roster.{Accepts, Roster}
+use Rattle.net_host.specs.Waking.{key_of, session_of}
 
-module _ {A : Type 0} {kind : Kind A} where
+module _ {H : Type 0} {hall : HallKind H} where
   -- turns, and more of them
-  pub rounds_both : {a b c : Floor A} → Rounds kind a b → Rounds kind b c → Rounds kind a c
+  pub rounds_both : {a b c : Floor H} → Rounds hall a b → Rounds hall b c → Rounds hall a c
   rounds_both h begins = h
   rounds_both h (turns before one) = turns (rounds_both h before) one
 
   -- turns, and then more of them and news
-  pub reports_after : {a b : Floor A} (news : Option News) (c : Floor A) → Rounds kind a b → Reports kind b news c → Reports kind a news c
+  pub reports_after : {a b : Floor H} (news : Option News) (c : Floor H) → Rounds hall a b → Reports hall b news c → Reports hall a news c
   reports_after news c h k = (k.0, rounds_both h k.1, k.2)
 
-pub rests_none : {A : Type 0} (floor : Floor A) → Rests floor floor
-rests_none floor = record { same = λ key. refl; ended = refl; budget = refl }
+pub rests_none : {H : Type 0} (floor : Floor H) → Rests floor floor
+rests_none floor = record { same = λ key. refl; ended = refl; budget = refl; wakes = refl; due = refl }
 
-module _ {O : Type 0} where
+module _ {H : Type 0} where
   -- a key has another connection, or none
-  pub seen_puts : (old new : Slab (Guest O)) (key : ℕ) (slot : Option (Guest O)) → Updates old new key slot → Puts (seen old) key (option_map served_of slot) (seen new)
+  pub seen_puts : (old new : Slab (Guest H)) (key : ℕ) (slot : Option (Guest H)) → Updates old new key slot → Puts (seen old) key (option_map served_of slot) (seen new)
   seen_puts old new key slot updates = record {
     here = ap (λ o. option_map served_of o) updates.changed;
     elsewhere = λ other differs. ap (λ o. option_map served_of o) (updates.others other differs);
   }
 
   -- a key that has a connection has one
-  pub is_there : (s : Slab (Guest O)) (key : ℕ) (guest : Guest O) → Some guest ≡ get s key → IsSome (get s key)
+  pub is_there : (s : Slab (Guest H)) (key : ℕ) (guest : Guest H) → Some guest ≡ get s key → IsSome (get s key)
   is_there s key guest e = subst (λ o. IsSome o) e refl
 
   -- a connection was written over
-  pub seen_written : (s : Slab (Guest O)) (key : ℕ) (guest new : Guest O) → Some guest ≡ get s key → Puts (seen s) key (Some (served_of new)) (seen (with_value s key new))
+  pub seen_written : (s : Slab (Guest H)) (key : ℕ) (guest new : Guest H) → Some guest ≡ get s key → Puts (seen s) key (Some (served_of new)) (seen (with_value s key new))
   seen_written s key guest new e = seen_puts s (with_value s key new) key (Some new) (Updates-with_value s key new (is_there s key guest e))
 
+  -- the key is this one
+  pub written_at : {old new : ℕ → Option (Served H)} {key at : ℕ} {slot : Option (Served H)} → key ≡ at → Puts old key slot new → Puts old at slot new
+  written_at {old = old} {new = new} {slot = slot} is puts = subst (λ k. Puts old k slot new) is puts
+
+  -- as many are there
+  pub as_many : (s : Slab (Guest H)) (key : ℕ) (guest new : Guest H) → Some guest ≡ get s key → slab_len (with_value s key new) ≤ slab_len s
+  as_many s key guest new e =
+      let present = is_there s key guest e in
+      let one : ◌≡◌ {A = ℕ} (cond (is_some (get s key)) 1 0) 1 = ap (λ (b : Bool). cond b 1 0) present in
+      omega (arith, sum_by-set (λ o. cond (is_some o) 1 0) s.slots key (Some new) None (ContainsKey-within s key present), one)
+
   -- one was written over that shows the same
-  pub seen_kept : (s : Slab (Guest O)) (key : ℕ) (guest new : Guest O) → Some guest ≡ get s key → served_of new ≡ served_of guest → (other : ℕ) → seen (with_value s key new) other ≡ seen s other
+  pub seen_kept : (s : Slab (Guest H)) (key : ℕ) (guest new : Guest H) → Some guest ≡ get s key → served_of new ≡ served_of guest → (other : ℕ) → seen (with_value s key new) other ≡ seen s other
   seen_kept s key guest new e same other =
       let puts = seen_written s key guest new e in
       elim (cases_eq other key) [
@@ -56,7 +75,7 @@ module _ {O : Type 0} where
       ]
 
   -- one was written over, and then taken out
-  pub seen_taken : (s new : Slab (Guest O)) (key : ℕ) (guest last : Guest O) → Some guest ≡ get s key → Updates (with_value s key last) new key None → Puts (seen s) key None (seen new)
+  pub seen_taken : (s new : Slab (Guest H)) (key : ℕ) (guest last : Guest H) → Some guest ≡ get s key → Updates (with_value s key last) new key None → Puts (seen s) key None (seen new)
   seen_taken s new key guest last e updates =
       let puts = seen_written s key guest last e in
       record {
@@ -64,43 +83,92 @@ module _ {O : Type 0} where
         elsewhere = λ other differs. ap (λ o. option_map served_of o) (updates.others other differs) ∙ puts.elsewhere other differs;
       }
 
+module _ {H : Type 0} where
+  -- no connection is under the key of a session
+  pub unserved_none : (old : EventLoop H) (waker : Waker) (key : ℕ) → key ≡ key_of waker.session → None ≡ get old.guests key → (one : Served H)
+      → IsServed (floor_of old) waker one → ⊥
+  unserved_none old waker key at none one served =
+      absurd (cc (served.there, ap (λ k. seen old.guests k) at, ap (λ o. option_map served_of o) none))
+
+  abbrev number_in : Option (Served H) → ℕ
+  number_in None = 0
+  number_in (Some one) = one.number
+
+  -- the one that is has a session of another number
+  pub unserved_other : (old : EventLoop H) (waker : Waker) (key session : ℕ) (guest : Guest H) → key ≡ key_of waker.session → Some guest ≡ get old.guests key
+      → session ≡ session_of guest.number key → session ≢ waker.session → (one : Served H) → IsServed (floor_of old) waker one → ⊥
+  unserved_other old waker key session guest at there is differs one served =
+      let here : Some (served_of guest) ≡ Some one = ap (λ o. option_map served_of o) there ∙ ap (λ k. seen old.guests k) at ∙ served.there in
+      let number : guest.number ≡ one.number = ap (λ o. number_in o) here in
+      differs (is ∙ ap (λ n. session_of n key) number ∙ ap (λ k. session_of one.number k) at ∙ served.named)
+
+  pub is_served : (old : EventLoop H) (waker : Waker) (key session : ℕ) (guest : Guest H) → key ≡ key_of waker.session → Some guest ≡ get old.guests key
+      → session ≡ session_of guest.number key → session ≡ waker.session → IsServed (floor_of old) waker (served_of guest)
+  is_served old waker key session guest at there is same = record {
+    there = ap (λ k. seen old.guests k) (sym at) ∙ ap (λ o. option_map served_of o) (sym there);
+    named = ap (λ k. session_of guest.number k) (sym at) ∙ sym is ∙ same;
+  }
+
+module _ {H : Type 0} where
+  -- a connection ended as memory ran out while it was woken
+  pub ran_out : (one woken last : Served H) (end : End) → woken ≡ record one { session = woken.session } → last ≡ record woken { end = None } → IsShort woken end
+      → (last.number ≡ one.number) × (last.peer ≡ one.peer) × IsShort one end
+  ran_out one woken last end still same short = (
+    ap (λ (x : Served H). x.number) same ∙ ap (λ (x : Served H). x.number) still,
+    ap (λ (x : Served H). x.peer) same ∙ ap (λ (x : Served H). x.peer) still,
+    (short.0, short.1, short.2 ∙ ap (λ (x : Served H). end_or x.end (all_ends.Failed short.0)) still),
+  )
+
 -- what came is news of no end
-pub tells_accepted : {A : Type 0} (old new : Roster) (news : News) (floor next : Floor A) → Accepts old (Some news) new → next ≡ floor → Tells floor (Some news) next
+pub tells_accepted : {H : Type 0} (old new : Roster) (news : News) (floor next : Floor H) → Accepts old (Some news) new → next ≡ floor → Tells floor (Some news) next
 tells_accepted old new (all_news.Came number peer) floor next accepts e = e
 tells_accepted old new (all_news.Refused peer) floor next accepts e = e
 tells_accepted old new (all_news.Ended number peer end) floor next accepts e = absurd accepts
 
 -- there was no news of an end to give
-pub rests_unended : {O : Type 0} (old new : EventLoop O) → new.guests ≡ old.guests → new.budget ≡ old.budget → old.ended.items ≡ new.ended.items → Rests (floor_of old) (floor_of new)
-rests_unended old new same budget first = record { same = λ key. ap (λ guests. seen guests key) same; ended = sym first; budget = budget }
+pub rests_unended : {H : Type 0} (old new : EventLoop H) → new.guests ≡ old.guests → new.budget ≡ old.budget → new.wakes ≡ old.wakes → new.time ≡ old.time → old.ended.items ≡ new.ended.items
+    → Rests (floor_of old) (floor_of new)
+rests_unended old new same budget wakes time first =
+    record { same = λ key. ap (λ guests. seen guests key) same; ended = sym first; budget = budget; wakes = ap (λ w. w.items) wakes; due = ap (λ t. t.sweep_at) time }
 
 -- nothing was done with any connection where the event loop is the same
-pub rests_same : {O : Type 0} (old new : EventLoop O) → new ≡ old → Rests (floor_of old) (floor_of new)
-rests_same old new e = record { same = λ key. ap (λ event_loop. seen event_loop.guests key) e; ended = ap (λ event_loop. event_loop.ended.items) e; budget = ap (λ event_loop. event_loop.budget) e }
+pub rests_same : {H : Type 0} (old new : EventLoop H) → new ≡ old → Rests (floor_of old) (floor_of new)
+rests_same old new e = record { same = λ key. ap (λ event_loop. seen event_loop.guests key) e; ended = ap (λ event_loop. event_loop.ended.items) e; budget = ap (λ event_loop. event_loop.budget) e; wakes = ap (λ event_loop. event_loop.wakes.items) e; due = ap (λ event_loop. event_loop.time.sweep_at) e }
 
 -- news of an end is of the first of those of which there was none
-pub tells_ended : {O : Type 0} (old new : EventLoop O) (ended : Ended) (news : News) → new.guests ≡ old.guests → new.budget ≡ old.budget → old.ended.items ≡ ended ∷ new.ended.items
-    → news ≡ all_news.Ended ended.number ended.peer ended.end → Tells (floor_of old) (Some news) (floor_of new)
-tells_ended old new ended news same budget first is = rw is (ap (λ guests. seen guests) same, first, budget)
+pub tells_ended : {H : Type 0} (old new : EventLoop H) (ended : Ended) (news : News) → new.guests ≡ old.guests → new.budget ≡ old.budget → new.wakes ≡ old.wakes → new.time ≡ old.time
+    → old.ended.items ≡ ended ∷ new.ended.items → news ≡ all_news.Ended ended.number ended.peer ended.end → Tells (floor_of old) (Some news) (floor_of new)
+tells_ended old new ended news same budget wakes time first is = rw is (ap (λ guests. seen guests) same, first, budget, ap (λ w. w.items) wakes, ap (λ t. t.sweep_at) time)
 
-module _ {O : Type 0} where
+module _ {H : Type 0} where
   -- more room changes no connection
-  pub kept_in_room : (guests mid : Slab (Guest O)) → mid ≡ record guests { capacity = mid.capacity } → (key : ℕ) → seen mid key ≡ seen guests key
-  kept_in_room guests mid e key = ap (λ (s : Slab (Guest O)). seen s key) e
+  pub kept_in_room : (guests mid : Slab (Guest H)) → mid ≡ record guests { capacity = mid.capacity } → (key : ℕ) → seen mid key ≡ seen guests key
+  kept_in_room guests mid e key = ap (λ (s : Slab (Guest H)). seen s key) e
 
-  -- a connection more, once there is room
-  pub begins_in_room : (guests mid after : Slab (Guest O)) (ended later : List Ended) (budget after_budget : Keeping) (key : ℕ) (guest : Guest O) (one : Served O) → mid ≡ record guests { capacity = mid.capacity }
-      → get mid key ≡ None → Updates mid after key (Some guest) → served_of guest ≡ one → later ≡ ended → after_budget ≡ budget
-      → Begins (record { served = seen guests; ended = ended; budget = budget }) one (record { served = seen after; ended = later; budget = after_budget })
-  begins_in_room guests mid after ended later budget after_budget key guest one room vacant updates is same as_much =
-      let puts = seen_puts mid after key (Some guest) updates in
-      record {
-        key = key;
-        free = sym (kept_in_room guests mid room key) ∙ ap (λ o. option_map served_of o) vacant;
-        puts = record { here = puts.here ∙ ap (λ x. Some x) is; elsewhere = λ other differs. puts.elsewhere other differs ∙ kept_in_room guests mid room other };
-        ended = same;
-        budget = as_much;
-      }
+  -- a connection more is served with its objects, once there is room
+  pub seats_in_room : (hall : HallKind H) (plan : HostPlan) (pending : PendingConnection) (objects seated : H) (now : ℕ) (old : EventLoop H) (new : Floor H)
+      → (mid after : Slab (Guest H)) (key : ℕ) (guest : Guest H) → mid ≡ record old.guests { capacity = mid.capacity } → get mid key ≡ None → Updates mid after key (Some guest)
+      → served_of guest ≡ new_served pending (new_state (options_of plan) seated now) → new.served ≡ seen after → new.ended ≡ old.ended.items → new.budget ≡ old.budget
+      → new.wakes ≡ old.wakes.items → new.due ≡ earlier old.time.sweep_at (due_of hall (new_state (options_of plan) seated now))
+      → hall.is_in (session_of pending.number key) objects seated → Seats hall plan (Some pending) objects (floor_of old) new
+  seats_in_room hall plan pending objects seated now old new mid after key guest room vacant updates is shows same as_much no_more due knows =
+      let puts = seen_puts mid after key (Some guest) updates in (
+        now,
+        seated,
+        record {
+          key = key;
+          free = sym (kept_in_room old.guests mid room key) ∙ ap (λ o. option_map served_of o) vacant;
+          puts = record {
+            here = ap (λ f. f key) shows ∙ puts.here ∙ ap (λ x. Some x) is;
+            elsewhere = λ other differs. ap (λ f. f other) shows ∙ puts.elsewhere other differs ∙ kept_in_room old.guests mid room other;
+          };
+          ended = same;
+          budget = as_much;
+          wakes = no_more;
+          due = due;
+        },
+        knows,
+      )
 
 -- the end of a connection that kept its number and peer
 pub ended_as : (ended : Ended) (number n : ℕ) (peer p : Peer) (end : End) → ended ≡ record { number = n; peer = p; end = end } → n ≡ number → p ≡ peer

@@ -1,3 +1,4 @@
+pub mod Awaiting
 pub mod Deciding
 pub mod Fed
 pub mod Floors
@@ -6,4 +7,6 @@ pub mod Overdue
 pub mod Rosters
 pub mod Serving
 pub mod Sharing
+pub mod Timing
 pub mod Unfailed
+pub mod Waking

@@ -2,14 +2,16 @@
 use Rattle.std.proofs.Common.{◌≡◌, ◌≢◌, ◌∙◌, ℕ, ◌+◌, eqb, cond, List, [], ◌∷◌, ◌++◌, Option, Some, None, inl, inr, sym, ap, subst, arith}
 use Rattle.std.proofs.lemmas.Bool.{cases_eq}
 use Rattle.std.proofs.lemmas.Bool.Decides.{nat_tests}
-use Rattle.cp_servants.specs.Servant.{Kind}
+use Rattle.cp_makers.specs.Hall.{HallKind}
+use Rattle.net_host.specs.declared.end.End.{End}
 use Rattle.net_host.specs.declared.end.Ended.{Ended}
 use Rattle.net_host.specs.declared.host.News.{News}
 use Rattle.net_host.specs.declared.host.News.TheVariants as all_news
-use Rattle.net_host.proofs.Serving.{stays_on}
-use Rattle.net_host.specs.Floor.{Begins, Floor, Puts, Rounds, Tells, Turns, begins, ends, goes_on, rests, turns}
+use Rattle.net_host.proofs.Serving.{works_number}
+use Rattle.net_host.specs.Floor.{Begins, Floor, Puts, QueuesEnd, Rounds, Tells, Turns, begins, ends, goes_on, rests, sweeps, turns, wakes, wakes_none, wakes_short}
 use Rattle.net_host.specs.Guests.{Served}
 use Rattle.net_host.specs.Once.{Has, IsGone, IsGoneBy, IsOnce, ends_of}
+use Rattle.net_host.specs.Waking.{key_of}
 
 -- one more end
 pub ends_of-push : (number : ℕ) (before : List Ended) (ended : Ended) → ends_of number (before ++ ended ∷ []) ≡ ends_of number before + cond (eqb ended.number number) 1 0
@@ -22,55 +24,52 @@ is_one a b e = grind (arith, nat_tests)
 is_none : (a b : ℕ) → a ≢ b → ◌≡◌ {A = ℕ} (cond (eqb a b) 1 0) 0
 is_none a b e = grind (arith, nat_tests)
 
-module _ {A : Type 0} where
+module _ {H : Type 0} where
   -- what is there is one
-  the_one : (slot : Option (Served A)) (one : Served A) (number : ℕ) → slot ≡ Some one → Has slot number → one.number ≡ number
+  the_one : (slot : Option (Served H)) (one : Served H) (number : ℕ) → slot ≡ Some one → Has slot number → one.number ≡ number
   the_one slot one number e has = ap number_of (sym e ∙ has.there) ∙ has.named
     where
-      number_of : Option (Served A) → ℕ
+      number_of : Option (Served H) → ℕ
       number_of None = 0
       number_of (Some it) = it.number
 
-  absent : (slot : Option (Served A)) (number : ℕ) → slot ≡ None → Has slot number → ⊥
+  absent : (slot : Option (Served H)) (number : ℕ) → slot ≡ None → Has slot number → ⊥
   absent slot number e has = absurd (cc (e, has.there))
 
   -- fewer are served, and as many ended
-  once_by : (old new : Floor A) (number : ℕ) → ((key : ℕ) → Has (new.served key) number → Has (old.served key) number) → new.ended ≡ old.ended → IsOnce old number → IsOnce new number
+  once_by : (old new : Floor H) (number : ℕ) → ((key : ℕ) → Has (new.served key) number → Has (old.served key) number) → new.ended ≡ old.ended → IsOnce old number → IsOnce new number
   once_by old new number back same once = record {
     one_key = λ key other a b. once.one_key key other (back key a) (back other b);
     unended = λ key a. rw same (once.unended key (back key a));
     one_end = rw same once.one_end;
   }
 
-  gone_by : (old new : Floor A) (number : ℕ) → ((key : ℕ) → Has (new.served key) number → Has (old.served key) number) → new.ended ≡ old.ended → IsGone old number → IsGone new number
+  gone_by : (old new : Floor H) (number : ℕ) → ((key : ℕ) → Has (new.served key) number → Has (old.served key) number) → new.ended ≡ old.ended → IsGone old number → IsGone new number
   gone_by old new number back same gone = record { unserved = λ key a. gone.unserved key (back key a); unended = rw same gone.unended }
 
   -- what is under a key that was written, and what was there before
-  back_over : (old new : ℕ → Option (Served A)) (key : ℕ) (one next : Served A) (number : ℕ) → old key ≡ Some one → next.number ≡ one.number → Puts old key (Some next) new
+  back_over : (old new : ℕ → Option (Served H)) (key : ℕ) (one next : Served H) (number : ℕ) → old key ≡ Some one → next.number ≡ one.number → Puts old key (Some next) new
       → (other : ℕ) → Has (new other) number → Has (old other) number
   back_over old new key one next number was named puts other has =
       elim (cases_eq other key) [
         | inl is ↦
             let here : new other ≡ Some next = ap new is ∙ puts.here in
             record { one = one; there = ap old is ∙ was; named = sym named ∙ the_one (new other) next number here has }
-        | inr differs ↦ subst (λ (slot : Option (Served A)). Has slot number) (puts.elsewhere other differs) has
+        | inr differs ↦ subst (λ (slot : Option (Served H)). Has slot number) (puts.elsewhere other differs) has
       ]
 
   -- what is there, once one was taken out
-  back_out : (old new : ℕ → Option (Served A)) (key number : ℕ) → Puts old key None new → (other : ℕ) → Has (new other) number → (other ≢ key) × Has (old other) number
+  back_out : (old new : ℕ → Option (Served H)) (key number : ℕ) → Puts old key None new → (other : ℕ) → Has (new other) number → (other ≢ key) × Has (old other) number
   back_out old new key number puts other has =
       elim (cases_eq other key) [
         | inl is ↦ absurd (absent (new other) number (ap new is ∙ puts.here) has)
-        | inr differs ↦ (differs, subst (λ (slot : Option (Served A)). Has slot number) (puts.elsewhere other differs) has)
+        | inr differs ↦ (differs, subst (λ (slot : Option (Served H)). Has slot number) (puts.elsewhere other differs) has)
       ]
 
-module _ {A : Type 0} {kind : Kind A} where
-  once_turn : (old new : Floor A) (number : ℕ) → Turns kind old new → IsOnce old number → IsOnce new number
-  once_turn old new number (rests r) once =
-      once_by old new number (λ key has. subst (λ (slot : Option (Served A)). Has slot number) (r.same key) has) r.ended once
-  once_turn old new number (goes_on key now one next was stays puts same noted) once =
-      once_by old new number (back_over old.served new.served key one next number was (stays_on stays).1.number puts) same once
-  once_turn old new number (ends key one end was by puts ended forgotten) once =
+  -- one was taken out, and its end is to be told
+  once_out : (old new : Floor H) (number key : ℕ) (one : Served H) (end : End) → old.served key ≡ Some one → Puts old.served key None new.served
+      → QueuesEnd old one end new → IsOnce old number → IsOnce new number
+  once_out old new number key one end was puts ended once =
       let count : ends_of number new.ended ≡ ends_of number old.ended + cond (eqb one.number number) 1 0 = ap (λ es. ends_of number es) ended ∙ ends_of-push number old.ended _ in
       elim (cases_eq one.number number) [
         | inl named ↦
@@ -90,12 +89,9 @@ module _ {A : Type 0} {kind : Kind A} where
             }
       ]
 
-  gone_turn : (old new : Floor A) (number : ℕ) → Turns kind old new → IsGone old number → IsGone new number
-  gone_turn old new number (rests r) gone =
-      gone_by old new number (λ key has. subst (λ (slot : Option (Served A)). Has slot number) (r.same key) has) r.ended gone
-  gone_turn old new number (goes_on key now one next was stays puts same noted) gone =
-      gone_by old new number (back_over old.served new.served key one next number was (stays_on stays).1.number puts) same gone
-  gone_turn old new number (ends key one end was by puts ended forgotten) gone =
+  gone_out : (old new : Floor H) (number key : ℕ) (one : Served H) (end : End) → old.served key ≡ Some one → Puts old.served key None new.served
+      → QueuesEnd old one end new → IsGone old number → IsGone new number
+  gone_out old new number key one end was puts ended gone =
       let other : one.number ≢ number = λ named. gone.unserved key (record { one = one; there = was; named = named }) in
       let count : ends_of number new.ended ≡ ends_of number old.ended + cond (eqb one.number number) 1 0 = ap (λ es. ends_of number es) ended ∙ ends_of-push number old.ended _ in
       record {
@@ -103,19 +99,50 @@ module _ {A : Type 0} {kind : Kind A} where
         unended = omega (arith, count, gone.unended, is_none one.number number other);
       }
 
-  pub once_rounds : (old new : Floor A) (number : ℕ) → Rounds kind old new → IsOnce old number → IsOnce new number
+module _ {H : Type 0} {hall : HallKind H} where
+  once_turn : (old new : Floor H) (number : ℕ) → Turns hall old new → IsOnce old number → IsOnce new number
+  once_turn old new number (rests r) once =
+      once_by old new number (λ key has. subst (λ (slot : Option (Served H)). Has slot number) (r.same key) has) r.ended once
+  once_turn old new number (goes_on key now one next woken was stays puts same noted added awaits) once =
+      once_by old new number (back_over old.served new.served key one next number was (works_number stays.works) puts) same once
+  once_turn old new number (ends key one woken end was by puts ended forgotten added due) once = once_out old new number key one end was puts ended once
+  once_turn old new number (wakes waker one next first served rouses puts same budget awaits) once =
+      once_by old new number (back_over old.served new.served (key_of waker.session) one next number served.there (ap (λ (x : Served H). x.number) rouses.1) puts) same once
+  once_turn old new number (wakes_none waker first unserved still same budget due) once =
+      once_by old new number (λ key has. subst (λ (slot : Option (Served H)). Has slot number) (still key) has) same once
+  once_turn old new number (wakes_short waker one end first served short puts ended forgotten due) once =
+      once_out old new number (key_of waker.session) one end served.there puts ended once
+  once_turn old new number (sweeps still same budget waits first) once =
+      once_by old new number (λ key has. subst (λ (slot : Option (Served H)). Has slot number) (still key) has) same once
+
+  gone_turn : (old new : Floor H) (number : ℕ) → Turns hall old new → IsGone old number → IsGone new number
+  gone_turn old new number (rests r) gone =
+      gone_by old new number (λ key has. subst (λ (slot : Option (Served H)). Has slot number) (r.same key) has) r.ended gone
+  gone_turn old new number (goes_on key now one next woken was stays puts same noted added awaits) gone =
+      gone_by old new number (back_over old.served new.served key one next number was (works_number stays.works) puts) same gone
+  gone_turn old new number (ends key one woken end was by puts ended forgotten added due) gone = gone_out old new number key one end was puts ended gone
+  gone_turn old new number (wakes waker one next first served rouses puts same budget awaits) gone =
+      gone_by old new number (back_over old.served new.served (key_of waker.session) one next number served.there (ap (λ (x : Served H). x.number) rouses.1) puts) same gone
+  gone_turn old new number (wakes_none waker first unserved still same budget due) gone =
+      gone_by old new number (λ key has. subst (λ (slot : Option (Served H)). Has slot number) (still key) has) same gone
+  gone_turn old new number (wakes_short waker one end first served short puts ended forgotten due) gone =
+      gone_out old new number (key_of waker.session) one end served.there puts ended gone
+  gone_turn old new number (sweeps still same budget waits first) gone =
+      gone_by old new number (λ key has. subst (λ (slot : Option (Served H)). Has slot number) (still key) has) same gone
+
+  pub once_rounds : (old new : Floor H) (number : ℕ) → Rounds hall old new → IsOnce old number → IsOnce new number
   once_rounds old new number begins once = once
   once_rounds old new number (turns {mid = mid} before turn) once = once_turn mid new number turn (once_rounds old mid number before once)
 
-  pub gone_rounds : (old new : Floor A) (number : ℕ) → Rounds kind old new → IsGone old number → IsGone new number
+  pub gone_rounds : (old new : Floor H) (number : ℕ) → Rounds hall old new → IsGone old number → IsGone new number
   gone_rounds old new number begins gone = gone
   gone_rounds old new number (turns {mid = mid} before turn) gone = gone_turn mid new number turn (gone_rounds old mid number before gone)
 
-module _ {A : Type 0} where
+module _ {H : Type 0} where
   -- the first end was reported
-  once_told : (old new : Floor A) (number : ℕ) (ended : Ended) → new.served ≡ old.served → old.ended ≡ ended ∷ new.ended → IsOnce old number → IsOnce new number
+  once_told : (old new : Floor H) (number : ℕ) (ended : Ended) → new.served ≡ old.served → old.ended ≡ ended ∷ new.ended → IsOnce old number → IsOnce new number
   once_told old new number ended served is once =
-      let back : (key : ℕ) → Has (new.served key) number → Has (old.served key) number = λ key has. subst (λ (f : ℕ → Option (Served A)). Has (f key) number) served has in
+      let back : (key : ℕ) → Has (new.served key) number → Has (old.served key) number = λ key has. subst (λ (f : ℕ → Option (Served H)). Has (f key) number) served has in
       let count : ends_of number old.ended ≡ cond (eqb ended.number number) 1 0 + ends_of number new.ended = ap (λ es. ends_of number es) is in
       record {
         one_key = λ key other a b. once.one_key key other (back key a) (back other b);
@@ -123,49 +150,50 @@ module _ {A : Type 0} where
         one_end = omega (arith, count, once.one_end);
       }
 
-  gone_told : (old new : Floor A) (number : ℕ) (ended : Ended) → new.served ≡ old.served → old.ended ≡ ended ∷ new.ended → IsGone old number → IsGone new number
+  gone_told : (old new : Floor H) (number : ℕ) (ended : Ended) → new.served ≡ old.served → old.ended ≡ ended ∷ new.ended → IsGone old number → IsGone new number
   gone_told old new number ended served is gone =
       let count : ends_of number old.ended ≡ cond (eqb ended.number number) 1 0 + ends_of number new.ended = ap (λ es. ends_of number es) is in
       record {
-        unserved = λ key has. gone.unserved key (subst (λ (f : ℕ → Option (Served A)). Has (f key) number) served has);
+        unserved = λ key has. gone.unserved key (subst (λ (f : ℕ → Option (Served H)). Has (f key) number) served has);
         unended = omega (arith, count, gone.unended);
       }
 
   -- the one that was reported is gone
-  gone_reported : (old new : Floor A) (number : ℕ) (ended : Ended) → new.served ≡ old.served → old.ended ≡ ended ∷ new.ended → ended.number ≡ number → IsOnce old number → IsGone new number
+  gone_reported : (old new : Floor H) (number : ℕ) (ended : Ended) → new.served ≡ old.served → old.ended ≡ ended ∷ new.ended → ended.number ≡ number → IsOnce old number → IsGone new number
   gone_reported old new number ended served is named once =
       let count : ends_of number old.ended ≡ cond (eqb ended.number number) 1 0 + ends_of number new.ended = ap (λ es. ends_of number es) is in
       let one = is_one ended.number number named in
       record {
-        unserved = λ key has. let none : ends_of number old.ended ≡ 0 = once.unended key (subst (λ (f : ℕ → Option (Served A)). Has (f key) number) served has) in absurd (omega (arith, count, one, none));
+        unserved = λ key has. let none : ends_of number old.ended ≡ 0 = once.unended key (subst (λ (f : ℕ → Option (Served H)). Has (f key) number) served has) in absurd (omega (arith, count, one, none));
         unended = omega (arith, count, one, once.one_end);
       }
 
-  pub once_tells : (old new : Floor A) (news : Option News) (number : ℕ) → Tells old news new → IsOnce old number → IsOnce new number
-  once_tells old new None number h once = subst (λ (x : Floor A). IsOnce x number) (sym h) once
-  once_tells old new (Some (all_news.Came n peer)) number h once = subst (λ (x : Floor A). IsOnce x number) (sym h) once
-  once_tells old new (Some (all_news.Refused peer)) number h once = subst (λ (x : Floor A). IsOnce x number) (sym h) once
+  pub once_tells : (old new : Floor H) (news : Option News) (number : ℕ) → Tells old news new → IsOnce old number → IsOnce new number
+  once_tells old new None number h once = subst (λ (x : Floor H). IsOnce x number) (sym h) once
+  once_tells old new (Some (all_news.Came n peer)) number h once = subst (λ (x : Floor H). IsOnce x number) (sym h) once
+  once_tells old new (Some (all_news.Refused peer)) number h once = subst (λ (x : Floor H). IsOnce x number) (sym h) once
   once_tells old new (Some (all_news.Ended n peer end)) number h once = once_told old new number _ h.0 h.1 once
 
-  pub gone_tells : (old new : Floor A) (news : Option News) (number : ℕ) → Tells old news new → IsGone old number → IsGone new number
-  gone_tells old new None number h gone = subst (λ (x : Floor A). IsGone x number) (sym h) gone
-  gone_tells old new (Some (all_news.Came n peer)) number h gone = subst (λ (x : Floor A). IsGone x number) (sym h) gone
-  gone_tells old new (Some (all_news.Refused peer)) number h gone = subst (λ (x : Floor A). IsGone x number) (sym h) gone
+  pub gone_tells : (old new : Floor H) (news : Option News) (number : ℕ) → Tells old news new → IsGone old number → IsGone new number
+  gone_tells old new None number h gone = subst (λ (x : Floor H). IsGone x number) (sym h) gone
+  gone_tells old new (Some (all_news.Came n peer)) number h gone = subst (λ (x : Floor H). IsGone x number) (sym h) gone
+  gone_tells old new (Some (all_news.Refused peer)) number h gone = subst (λ (x : Floor H). IsGone x number) (sym h) gone
   gone_tells old new (Some (all_news.Ended n peer end)) number h gone = gone_told old new number _ h.0 h.1 gone
 
-  pub reported_tells : (old new : Floor A) (news : Option News) (number : ℕ) → Tells old news new → IsOnce old number → IsGoneBy news number new
+  pub reported_tells : (old new : Floor H) (news : Option News) (number : ℕ) → Tells old news new → IsOnce old number → IsGoneBy news number new
   reported_tells old new None number h once = tt
   reported_tells old new (Some (all_news.Came n peer)) number h once = tt
   reported_tells old new (Some (all_news.Refused peer)) number h once = tt
   reported_tells old new (Some (all_news.Ended n peer end)) number h once = λ named. gone_reported old new number _ h.0 h.1 named once
 
+module _ {H : Type 0} {hall : HallKind H} where
   -- a connection that begins, whose number none had
-  pub once_begins : (old new : Floor A) (one : Served A) → Begins old one new → IsGone old one.number → IsOnce new one.number
+  pub once_begins : (old new : Floor H) (one : Served H) → Begins hall old one new → IsGone old one.number → IsOnce new one.number
   once_begins old new one h gone =
       let only : (key : ℕ) → Has (new.served key) one.number → key ≡ h.key = λ key has.
       elim (cases_eq key h.key) [
         | inl is ↦ is
-        | inr differs ↦ absurd (gone.unserved key (subst (λ (slot : Option (Served A)). Has slot one.number) (h.puts.elsewhere key differs) has))
+        | inr differs ↦ absurd (gone.unserved key (subst (λ (slot : Option (Served H)). Has slot one.number) (h.puts.elsewhere key differs) has))
       ] in
       let none : ends_of one.number new.ended ≡ 0 = ap (λ es. ends_of one.number es) h.ended ∙ gone.unended in
       record { one_key = λ key other a b. only key a ∙ sym (only other b); unended = λ key a. none; one_end = omega (arith, none) }

@@ -1,39 +1,32 @@
 -- Which connections meet a limit of time.
-use Rattle.std.proofs.Common.{◌≡◌, ◌≤◌, ◌↔◌, ◌⊎◌, ◌∙◌, ℕ, Bool, false, IsTrue, List, [], ◌∷◌, ◌++◌, Some, None, Contains, inl, inr, sym, ap, subst, arith}
-use Rattle.std.proofs.lemmas.Bool.{false≢true}
-use Rattle.std.proofs.lemmas.List.Elements.{Contains-append_left, Contains-push}
+use Rattle.std.proofs.Common.{◌≡◌, ◌≤◌, ◌↔◌, ◌⊎◌, ◌∙◌, ℕ, List, [], ◌∷◌, ◌++◌, Option, Some, None, Contains, inl, inr, refl, sym, ap, subst, arith, option_map}
+use Rattle.std.proofs.lemmas.List.Elements.{Contains-append_left, Contains-append_right, Contains-push}
 use Rattle.slab.specs.Slab.{Slab, entries, get}
 use Rattle.slab.proofs.SlabLemmas.{Contains-cons_cases, Contains-entries}
 use Rattle.cp_session.specs.State.{State, state_of}
-use Rattle.cp_session.specs.Progress.{deadline_of}
+use Rattle.cp_session.specs.Doing.{due_of}
+use Rattle.cp_session.specs.Progress.{earlier}
+use Rattle.cp_makers.specs.Hall.{HallKind}
 use Rattle.net_host.specs.declared.guest.Guest.{Guest}
-use Rattle.net_host.specs.Guests.{IsOverdue}
+use Rattle.net_host.proofs.Awaiting.{by_first, by_second, one_of}
+use Rattle.net_host.specs.Floor.{HasOverdue, IsFirst, seen}
+use Rattle.net_host.specs.Guests.{IsOverdue, Served, served_of}
+use Rattle.net_host.specs.Timing.{ComesBy}
 
--- a deadline is met, or none is there
-pub overdue_at : {A : Type 0} (s : State A) (now deadline : ℕ) (b : Bool) → Some deadline ≡ deadline_of s.limits s.progress s.progress.phase → (IsTrue b ↔ (deadline ≤ now))
-    → IsTrue b ↔ IsOverdue s now
-overdue_at s now deadline b there by = (
-  λ t. (deadline, sym there, by.0 t),
-  λ over. by.1 (subst (λ d. d ≤ now) (same_some over.0 deadline (sym over.1 ∙ sym there)) over.2),
-)
-  where
-    same_some : (x y : ℕ) → Some x ≡ Some y → x ≡ y
-    same_some x y e = grind (arith, e)
+none_in : {X : Type 0} {x : X} → Contains [] x → ⊥
+none_in h = omega (arith, h.1)
 
-pub overdue_none : {A : Type 0} (s : State A) (now : ℕ) → None ≡ deadline_of s.limits s.progress s.progress.phase → IsTrue false ↔ IsOverdue s now
-overdue_none s now none = (λ t. absurd (false≢true t), λ over. absurd (grind (arith, none, over.1)))
-
-module _ {O : Type 0} where
+module _ {H : Type 0} (hall : HallKind H) where
   -- each that meets a limit of time is in the queue, or is left to be looked at
-  abbrev pub Seeks : Slab (Guest O) → ℕ → List ℕ → List (ℕ × Guest O) → Type 0
-  Seeks guests now queue left = (key : ℕ) (guest : Guest O) → get guests key ≡ Some guest → IsOverdue (state_of guest.session) now
+  abbrev pub Seeks : Slab (Guest H) → ℕ → List ℕ → List (ℕ × Guest H) → Type 0
+  Seeks guests now queue left = (key : ℕ) (guest : Guest H) → get guests key ≡ Some guest → IsOverdue hall (state_of guest.session) now
       → Contains queue key ⊎ Contains left (key, guest)
 
-  pub seeks_all : (guests : Slab (Guest O)) (now : ℕ) (queue : List ℕ) (left : List (ℕ × Guest O)) → left ≡ entries guests → Seeks guests now queue left
+  pub seeks_all : (guests : Slab (Guest H)) (now : ℕ) (queue : List ℕ) (left : List (ℕ × Guest H)) → left ≡ entries guests → Seeks guests now queue left
   seeks_all guests now queue left all key guest there overdue = inr (subst (λ es. Contains es (key, guest)) (sym all) ((Contains-entries guests key guest).1 there))
 
   -- one was put into the queue
-  pub seeks_queued : (guests : Slab (Guest O)) (now : ℕ) (queue new : List ℕ) (left rest : List (ℕ × Guest O)) (key : ℕ) (guest : Guest O) → new ≡ queue ++ key ∷ []
+  pub seeks_queued : (guests : Slab (Guest H)) (now : ℕ) (queue new : List ℕ) (left rest : List (ℕ × Guest H)) (key : ℕ) (guest : Guest H) → new ≡ queue ++ key ∷ []
       → left ≡ (key, guest) ∷ rest → Seeks guests now queue left → Seeks guests now new rest
   seeks_queued guests now queue new left rest key guest pushed is before k g there overdue =
       elim (before k g there overdue) [
@@ -46,14 +39,80 @@ module _ {O : Type 0} where
       ]
 
   -- one was passed over that meets none
-  pub seeks_passed : (guests : Slab (Guest O)) (now : ℕ) (queue : List ℕ) (left rest : List (ℕ × Guest O)) (key : ℕ) (guest : Guest O)
-      → (IsOverdue (state_of guest.session) now → ⊥) → left ≡ (key, guest) ∷ rest → Seeks guests now queue left → Seeks guests now queue rest
+  pub seeks_passed : (guests : Slab (Guest H)) (now : ℕ) (queue : List ℕ) (left rest : List (ℕ × Guest H)) (key : ℕ) (guest : Guest H)
+      → (IsOverdue hall (state_of guest.session) now → ⊥) → left ≡ (key, guest) ∷ rest → Seeks guests now queue left → Seeks guests now queue rest
   seeks_passed guests now queue left rest key guest none is before k g there overdue =
       elim (before k g there overdue) [
         | inl queued ↦ inl queued
         | inr listed ↦
             elim (Contains-cons_cases (key, guest) (k, g) rest (subst (λ es. Contains es (k, g)) is listed)) [
-              | inl same ↦ absurd (none (subst (λ (x : Guest O). IsOverdue (state_of x.session) now) (sym (ap (λ e. e.1) same)) overdue))
+              | inl same ↦ absurd (none (subst (λ (x : Guest H). IsOverdue hall (state_of x.session) now) (sym (ap (λ e. e.1) same)) overdue))
               | inr later ↦ inr later
             ]
       ]
+
+  -- all were looked at
+  pub seeks_done : (guests : Slab (Guest H)) (now : ℕ) (queue : List ℕ) (left : List (ℕ × Guest H)) → left ≡ [] → Seeks guests now queue left
+      → HasOverdue hall guests now queue
+  seeks_done guests now queue left none seeks key guest there overdue =
+      elim (seeks key guest there overdue) [
+        | inl queued ↦ queued
+        | inr listed ↦ absurd (none_in (subst (λ es. Contains es (key, guest)) none listed))
+      ]
+
+  -- This is the first of the deadlines of all that aren't left to be looked at.
+  pub record Firsts (guests : Slab (Guest H)) (first : Option ℕ) (left : List (ℕ × Guest H)) : Type 0 where
+    pub each : (key deadline : ℕ) (guest : Guest H) → get guests key ≡ Some guest → due_of hall (state_of guest.session) ≡ Some deadline
+        → ComesBy deadline first ⊎ Contains left (key, guest)
+    pub is_one : (time : ℕ) → first ≡ Some time → (key : ℕ) × (guest : Guest H) × (get guests key ≡ Some guest) × (due_of hall (state_of guest.session) ≡ Some time)
+    pub there : (key : ℕ) (guest : Guest H) → Contains left (key, guest) → get guests key ≡ Some guest
+
+  pub firsts_none : (guests : Slab (Guest H)) (left : List (ℕ × Guest H)) → left ≡ entries guests → Firsts guests None left
+  firsts_none guests left all = record {
+    each = λ key deadline guest at has. inr (subst (λ es. Contains es (key, guest)) (sym all) ((Contains-entries guests key guest).1 at));
+    is_one = λ time e. absurd (grind (arith, e));
+    there = λ key guest listed. (Contains-entries guests key guest).0 (subst (λ es. Contains es (key, guest)) all listed);
+  }
+
+  -- one was looked at
+  pub firsts_next : (guests : Slab (Guest H)) (first next : Option ℕ) (left rest : List (ℕ × Guest H)) (key : ℕ) (guest : Guest H) → left ≡ (key, guest) ∷ rest
+      → next ≡ earlier first (due_of hall (state_of guest.session)) → Firsts guests first left → Firsts guests next rest
+  firsts_next guests first next left rest key guest is next_is before = record {
+    each = λ k deadline g at has.
+        elim (before.each k deadline g at has) [
+          | inl comes ↦ inl (subst (λ t. ComesBy deadline t) (sym next_is) (by_first deadline first (due_of hall (state_of guest.session)) comes))
+          | inr listed ↦
+              elim (Contains-cons_cases (key, guest) (k, g) rest (subst (λ es. Contains es (k, g)) is listed)) [
+                | inl same ↦
+                    let own : due_of hall (state_of guest.session) ≡ Some deadline = ap (λ (e : ℕ × Guest H). due_of hall (state_of e.1.session)) same ∙ has in
+                    inl (subst (λ t. ComesBy deadline t) (sym next_is) (by_second deadline first (due_of hall (state_of guest.session)) (deadline, own, omega arith)))
+                | inr later ↦ inr later
+              ]
+        ];
+    is_one = λ time e.
+        elim (one_of time first (due_of hall (state_of guest.session)) (sym next_is ∙ e)) [
+          | inl old ↦ before.is_one time old
+          | inr own ↦ (key, guest, before.there key guest (subst (λ es. Contains es (key, guest)) (sym is) (Contains-append_left ((key, guest) ∷ []) rest (key, guest) (Contains-push [] (key, guest)))), own)
+        ];
+    there = λ k g listed. before.there k g (subst (λ es. Contains es (k, g)) (sym is) (Contains-append_right ((key, guest) ∷ []) rest (k, g) listed));
+  }
+
+  -- all were
+  pub firsts_all : (guests : Slab (Guest H)) (first : Option ℕ) (left : List (ℕ × Guest H)) → left ≡ [] → Firsts guests first left → IsFirst hall first (seen guests)
+  firsts_all guests first left none firsts = record {
+    each = λ key deadline one at has. by (get guests key) key deadline one refl at has;
+    is_one = λ time e. let one = firsts.is_one time e in (one.0, served_of one.1, ap (λ o. option_map served_of o) one.2, one.3);
+  }
+    where
+      due_in : Option (Served H) → Option ℕ
+      due_in None = None
+      due_in (Some it) = due_of hall it.session
+
+      by : (slot : Option (Guest H)) (key deadline : ℕ) (one : Served H) → get guests key ≡ slot → option_map served_of slot ≡ Some one
+          → due_of hall one.session ≡ Some deadline → ComesBy deadline first
+      by None key deadline one at is has = absurd (grind (arith, is))
+      by (Some guest) key deadline one at is has =
+          elim (firsts.each key deadline guest at (ap (λ o. due_in o) is ∙ has)) [
+            | inl comes ↦ comes
+            | inr listed ↦ absurd (none_in (subst (λ es. Contains es (key, guest)) none listed))
+          ]

@@ -3,9 +3,12 @@ use Rattle.std.specs.Prelude.{◌≡◌, ◌≢◌, ◌≤◌, ◌%◌, ◌^◌,
 use Rattle.std.specs.FinMap as map
 use Rattle.slab.specs.Slab.{Slab, get}
 use Rattle.cp_refs.specs.Memory.{counted}
-use Rattle.cp_servants.specs.Servant.{Kind}
+use Rattle.cp_makers.specs.declared.waker.Waker.{Waker}
+use Rattle.cp_makers.specs.Hall.{HallKind}
 use Rattle.cp_session.specs.Budget.{IsWithin, Keeping, allowed}
 use Rattle.cp_session.specs.declared.options.SessionOptions.{SessionOptions}
+use Rattle.cp_session.specs.Doing.{due_of}
+use Rattle.cp_session.specs.Progress.{earlier}
 use Rattle.cp_session.specs.State.{new_state, state_of}
 use Rattle.net_sockets.specs.Reading.{failure_of}
 use Rattle.net_host.specs.declared.end.End.{End}
@@ -20,35 +23,35 @@ use Rattle.net_host.specs.declared.host.Look.TheVariants as looks
 use Rattle.net_host.specs.declared.limits.HostLimits.{HostLimits}
 use Rattle.net_host.specs.declared.pending.PendingConnection.{PendingConnection}
 use Rattle.net_host.specs.declared.plan.HostPlan.{HostPlan}
-use Rattle.net_host.specs.declared.time.Time.{Time}
-use Rattle.net_host.specs.Guests.{Served, kept_by, served_of, new_served, forgetting, noting, EndsBy, IsOverdue, Stays}
+use Rattle.net_host.specs.Guests.{Served, kept_by, served_of, new_served, forgetting, noting, EndsBy, IsOverdue, IsShort, Rouses, Stays}
 use Rattle.net_host.specs.Limits.{pool_of, share_of}
+use Rattle.net_host.specs.Timing.{ComesBy}
+use Rattle.net_host.specs.Waking.{key_of, session_of}
 
--- The connections that are served, by their keys, the ends of which there was no news yet, and what may be kept for all together.
-pub record Floor (A : Type 0) : Type 0 where
-  pub served : ℕ → Option (Served A)
+-- The connections that are served, by their keys, the ends of which there was no news yet, what may be kept for all together, and the objects that are to be woken,
+-- in order; and when limits of time are looked at next, if a connection has one.
+pub record Floor (H : Type 0) : Type 0 where
+  pub served : ℕ → Option (Served H)
   pub ended : List Ended
   pub budget : Keeping
+  pub wakes : List Waker
+  pub due : Option ℕ
 
 -- the connections that a slab has, by their keys
-abbrev pub seen : {O : Type 0} → Slab (Guest O) → ℕ → Option (Served O)
+abbrev pub seen : {H : Type 0} → Slab (Guest H) → ℕ → Option (Served H)
 seen guests key = option_map served_of (get guests key)
 
 -- the connections of an event loop
-abbrev pub floor_of : {O : Type 0} → EventLoop O → Floor O
-floor_of event_loop = record { served = seen event_loop.guests; ended = event_loop.ended.items; budget = event_loop.budget }
+abbrev pub floor_of : {H : Type 0} → EventLoop H → Floor H
+floor_of event_loop = record { served = seen event_loop.guests; ended = event_loop.ended.items; budget = event_loop.budget; wakes = event_loop.wakes.items; due = event_loop.time.sweep_at }
 
 -- the connections of a host
-abbrev pub connections_of : {O : Type 0} → Host O → Floor O
+abbrev pub connections_of : {H : Type 0} → Host H → Floor H
 connections_of host = floor_of host.event_loop
 
--- limits of time are to be looked at
-abbrev pub IsDue : Time → Type 0
-IsDue time = time.sweep_at ≤ time.at
-
 -- the key of each connection that meets a limit of time by now is among these
-abbrev pub HasOverdue : {O : Type 0} → Slab (Guest O) → ℕ → List ℕ → Type 0
-HasOverdue {O = O} guests now keys = (key : ℕ) (guest : Guest O) → get guests key ≡ Some guest → IsOverdue (state_of guest.session) now → Contains keys key
+abbrev pub HasOverdue : {H : Type 0} → HallKind H → Slab (Guest H) → ℕ → List ℕ → Type 0
+HasOverdue {H = H} hall guests now keys = (key : ℕ) (guest : Guest H) → get guests key ≡ Some guest → IsOverdue hall (state_of guest.session) now → Contains keys key
 
 -- the stream of the connection that waits for its objects, if one does, didn't fail
 abbrev pub IsFresh : Option PendingConnection → Type 0
@@ -56,8 +59,8 @@ IsFresh None = Unit {0}
 IsFresh (Some pending) = failure_of pending.stream ≡ None
 
 -- nobody is served by a host with these limits
-abbrev pub nobody : {A : Type 0} → HostLimits → Floor A
-nobody limits = record { served = λ key. None; ended = []; budget = record { share = share_of limits; pool = pool_of limits; kept = map.empty } }
+abbrev pub nobody : {H : Type 0} → HostLimits → Floor H
+nobody limits = record { served = λ key. None; ended = []; budget = record { share = share_of limits; pool = pool_of limits; kept = map.empty }; wakes = []; due = None }
 
 -- the number of a connection in the budget, by its key (there is no memory for 2^32 connections)
 abbrev pub number_of : ℕ → ℕ
@@ -74,72 +77,125 @@ options_of plan = record {
   limits = plan.limits.session;
 }
 
-module _ {A : Type 0} where
+module _ {H : Type 0} where
   -- under one key there is this now, and under each other one what there was
-  pub record Puts (old : ℕ → Option (Served A)) (key : ℕ) (slot : Option (Served A)) (new : ℕ → Option (Served A)) : Type 0 where
+  pub record Puts (old : ℕ → Option (Served H)) (key : ℕ) (slot : Option (Served H)) (new : ℕ → Option (Served H)) : Type 0 where
     pub here : new key ≡ slot
     pub elsewhere : (other : ℕ) → other ≢ key → new other ≡ old other
 
   -- nothing was done with any connection
-  pub record Rests (old new : Floor A) : Type 0 where
+  pub record Rests (old new : Floor H) : Type 0 where
     pub same : (key : ℕ) → new.served key ≡ old.served key
     pub ended : new.ended ≡ old.ended
     pub budget : new.budget ≡ old.budget
+    pub wakes : new.wakes ≡ old.wakes
+    pub due : new.due ≡ old.due
 
   -- how many bytes may be kept for the connection under a key
-  abbrev pub most_for : Floor A → ℕ → ℕ
+  abbrev pub most_for : Floor H → ℕ → ℕ
   most_for floor key = counted (allowed floor.budget (number_of key))
 
   -- the budget has how much is kept for the connection under a key, or forgets it
-  abbrev pub Notes : Floor A → ℕ → ℕ → Floor A → Type 0
+  abbrev pub Notes : Floor H → ℕ → ℕ → Floor H → Type 0
   Notes old key bytes new = new.budget ≡ noting old.budget (number_of key) bytes
 
-  abbrev pub Forgets : Floor A → ℕ → Floor A → Type 0
+  abbrev pub Forgets : Floor H → ℕ → Floor H → Type 0
   Forgets old key new = new.budget ≡ forgetting old.budget (number_of key)
 
+  -- the connection is served whose session has the number that this waker says
+  pub record IsServed (floor : Floor H) (waker : Waker) (one : Served H) : Type 0 where
+    pub there : floor.served (key_of waker.session) ≡ Some one
+    pub named : session_of one.number (key_of waker.session) ≡ waker.session
+
+  -- news of its end is to come, with its number and peer
+  abbrev pub QueuesEnd : Floor H → Served H → End → Floor H → Type 0
+  QueuesEnd old one end new = new.ended ≡ old.ended ++ record { number = one.number; peer = one.peer; end = end } ∷ []
+
+  -- News of an end is that of the first connection of whose end there was none: its number, its peer, and how it ended.
+  abbrev pub Tells : Floor H → Option News → Floor H → Type 0
+  Tells old (Some (all_news.Ended number peer end)) new =
+      (new.served ≡ old.served) × (old.ended ≡ record { number = number; peer = peer; end = end } ∷ new.ended) × (new.budget ≡ old.budget) × (new.wakes ≡ old.wakes) × (new.due ≡ old.due)
+  Tells old other new = new ≡ old
+
+module _ {H : Type 0} (hall : HallKind H) where
+  -- A connection's deadline: when it meets a limit of time, if no byte moves before, or an object of it is to be woken. This is no later than any of theirs.
+  abbrev pub AwaitsEach : Option ℕ → (ℕ → Option (Served H)) → Type 0
+  AwaitsEach due served = (key deadline : ℕ) (one : Served H) → served key ≡ Some one → due_of hall one.session ≡ Some deadline → ComesBy deadline due
+
+  -- this is the first of their deadlines, if there is one
+  pub record IsFirst (due : Option ℕ) (served : ℕ → Option (Served H)) : Type 0 where
+    pub each : AwaitsEach due served
+    pub is_one : (first : ℕ) → due ≡ Some first → (key : ℕ) × (one : Served H) × (served key ≡ Some one) × (due_of hall one.session ≡ Some first)
+
   -- a connection more is served, and nothing was done with any other
-  pub record Begins (old : Floor A) (one : Served A) (new : Floor A) : Type 0 where
+  pub record Begins (old : Floor H) (one : Served H) (new : Floor H) : Type 0 where
     pub key : ℕ
     pub free : old.served key ≡ None
     pub puts : Puts old.served key (Some one) new.served
     pub ended : new.ended ≡ old.ended
     pub budget : new.budget ≡ old.budget
+    pub wakes : new.wakes ≡ old.wakes
+    pub due : new.due ≡ earlier old.due (due_of hall one.session)
 
-  -- the connection that waited for its objects, if one did, is served with them from now on
-  abbrev pub Seats : HostPlan → Option PendingConnection → List A → Floor A → Floor A → Type 0
+  -- The connection that waited for its objects, if one did, is served with them from now on. They know the number of their session.
+  abbrev pub Seats : HostPlan → Option PendingConnection → H → Floor H → Floor H → Type 0
   Seats plan None objects old new = new ≡ old
-  Seats plan (Some pending) objects old new = (now : ℕ) × Begins old (new_served pending (new_state (options_of plan) objects now)) new
+  Seats plan (Some pending) objects old new =
+      (now : ℕ) × (seated : H) × (seat : Begins old (new_served pending (new_state (options_of plan) seated now)) new)
+      × hall.is_in (session_of pending.number seat.key) objects seated
 
-  -- News of an end is that of the first connection of whose end there was none: its number, its peer, and how it ended.
-  abbrev pub Tells : Floor A → Option News → Floor A → Type 0
-  Tells old (Some (all_news.Ended number peer end)) new =
-      (new.served ≡ old.served) × (old.ended ≡ record { number = number; peer = peer; end = end } ∷ new.ended) × (new.budget ≡ old.budget)
-  Tells old other new = new ≡ old
+  -- limits of time are looked at by the deadline of this connection
+  abbrev pub Awaits : Floor H → Served H → Floor H → Type 0
+  Awaits old next new = new.due ≡ earlier old.due (due_of hall next.session)
 
-module _ {A : Type 0} (kind : Kind A) where
-  -- One connection has a turn. It goes on; or it ended, is served no more, and news of that is to come, with its number and peer. Nothing was done with any other.
-  pub data Turns (old new : Floor A) : Type 0 where
+  -- One connection has a turn. It goes on; or it ended, is served no more, and news of that is to come, with its number and peer. Whom its objects want to be woken
+  -- is to be, in order. Or the first object that is to be woken is woken, in the session that its waker names; or that isn't served any more, and nothing was done;
+  -- or memory ran out for it, and its connection ended. Nothing was done with any other. Where one goes on, limits of time are looked at by its deadline. Or they were
+  -- looked at, and are when the first is met.
+  pub data Turns (old new : Floor H) : Type 0 where
     rests : Rests old new → Turns old new
-    goes_on : (key now : ℕ) (one next : Served A) → old.served key ≡ Some one → Stays kind (most_for old key) now one next
-        → Puts old.served key (Some next) new.served → new.ended ≡ old.ended → Notes old key (kept_by next) new → Turns old new
-    ends : (key : ℕ) (one : Served A) (end : End) → old.served key ≡ Some one → EndsBy kind (most_for old key) one end → Puts old.served key None new.served
-        → new.ended ≡ old.ended ++ record { number = one.number; peer = one.peer; end = end } ∷ [] → Forgets old key new → Turns old new
+    goes_on : (key now : ℕ) (one next : Served H) (woken : List Waker) → old.served key ≡ Some one → Stays hall (most_for old key) now one woken next
+        → Puts old.served key (Some next) new.served → new.ended ≡ old.ended → Notes old key (kept_by hall next) new → new.wakes ≡ old.wakes ++ woken
+        → Awaits old next new → Turns old new
+    ends : (key : ℕ) (one : Served H) (woken : List Waker) (end : End) → old.served key ≡ Some one → EndsBy hall (most_for old key) one woken end
+        → Puts old.served key None new.served → QueuesEnd old one end new → Forgets old key new → new.wakes ≡ old.wakes ++ woken
+        → new.due ≡ old.due → Turns old new
+    wakes : (waker : Waker) (one next : Served H) → old.wakes ≡ waker ∷ new.wakes → IsServed old waker one → Rouses hall waker.object one next
+        → Puts old.served (key_of waker.session) (Some next) new.served → new.ended ≡ old.ended → new.budget ≡ old.budget → Awaits old next new → Turns old new
+    wakes_none : (waker : Waker) → old.wakes ≡ waker ∷ new.wakes → ((one : Served H) → IsServed old waker one → ⊥)
+        → ((key : ℕ) → new.served key ≡ old.served key) → new.ended ≡ old.ended → new.budget ≡ old.budget → new.due ≡ old.due → Turns old new
+    wakes_short : (waker : Waker) (one : Served H) (end : End) → old.wakes ≡ waker ∷ new.wakes → IsServed old waker one → IsShort one end
+        → Puts old.served (key_of waker.session) None new.served → QueuesEnd old one end new → Forgets old (key_of waker.session) new
+        → new.due ≡ old.due → Turns old new
+    sweeps : ((key : ℕ) → new.served key ≡ old.served key) → new.ended ≡ old.ended → new.budget ≡ old.budget → new.wakes ≡ old.wakes
+        → IsFirst new.due new.served → Turns old new
 
   -- turns, one after another, and nothing else
-  pub data Rounds (first : Floor A) : Floor A → Type 0 where
+  pub data Rounds (first : Floor H) : Floor H → Type 0 where
     begins : Rounds first first
-    turns : {mid new : Floor A} → Rounds first mid → Turns mid new → Rounds first new
+    turns : {mid new : Floor H} → Rounds first mid → Turns mid new → Rounds first new
 
   -- turns, and then news
-  abbrev pub Reports : Floor A → Option News → Floor A → Type 0
-  Reports old news new = (mid : Floor A) × Rounds old mid × Tells mid news new
+  abbrev pub Reports : Floor H → Option News → Floor H → Type 0
+  Reports old news new = (mid : Floor H) × Rounds old mid × Tells mid news new
 
   -- what is so once a host looked for news
-  abbrev pub LooksOn : Floor A → Look → Floor A → Type 0
+  abbrev pub LooksOn : Floor H → Look → Floor H → Type 0
   LooksOn old looks.Nothing new = Rounds old new
   LooksOn old (looks.News news) new = Reports old (Some news) new
   LooksOn old looks.Over new = Reports old None new
 
   -- Whatever turns and news there are: where no more is kept for all than their shares and the pool, it stays so.
   abbrev pub ReportsWithin : Type 0
-  ReportsWithin = (old new : Floor A) (news : Option News) → Reports old news new → IsWithin old.budget → IsWithin new.budget
+  ReportsWithin = (old new : Floor H) (news : Option News) → Reports old news new → IsWithin old.budget → IsWithin new.budget
+
+  -- limits of time are looked at by the deadline of each connection
+  abbrev pub AwaitsAll : Floor H → Type 0
+  AwaitsAll floor = AwaitsEach floor.due floor.served
+
+  -- Whatever turns and news there are, and whatever connections begin: it stays so that limits of time are looked at by the deadline of each.
+  abbrev pub ReportsAwaited : Type 0
+  ReportsAwaited = (old new : Floor H) (news : Option News) → Reports old news new → AwaitsAll old → AwaitsAll new
+
+  abbrev pub BeginsAwaited : Type 0
+  BeginsAwaited = (old new : Floor H) (one : Served H) → Begins old one new → AwaitsAll old → AwaitsAll new

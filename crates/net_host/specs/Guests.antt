@@ -4,16 +4,17 @@ use Rattle.std.specs.FinMap as map
 use Rattle.std.specs.IoError.{error_kind, raw_os_error}
 use Rattle.std.specs.declared.io.Error.{Error}
 use Rattle.std.specs.declared.io.ErrorKind.TheVariants as kinds
-use Rattle.cp_servants.specs.Servant.{Kind}
+use Rattle.cp_makers.specs.declared.waker.Waker.{Waker}
+use Rattle.cp_makers.specs.Hall.{HallKind}
 use Rattle.cp_session.specs.declared.event.SessionEvent.{SessionEvent}
 use Rattle.cp_session.specs.Budget.{Keeping}
 use Rattle.cp_session.specs.declared.event.SessionEvent.TheVariants as events
 use Rattle.cp_session.specs.declared.progress.Limit.{Limit}
 use Rattle.cp_session.specs.declared.progress.Limit.TheVariants as limits
 use Rattle.cp_session.specs.declared.progress.Phase.TheVariants as phases
-use Rattle.cp_session.specs.Doing.{MayTake, Ticks, Writes}
+use Rattle.cp_session.specs.Doing.{IsRefused, MayTake, Ticks, Wakes, Writes, due_of}
 use Rattle.cp_session.specs.Kept.{kept_of}
-use Rattle.cp_session.specs.Progress.{IsDraining, Meets, deadline_of}
+use Rattle.cp_session.specs.Progress.{IsDraining, Meets}
 use Rattle.cp_session.specs.Runs.{Deed, Runs, nothing}
 use Rattle.cp_session.specs.State.{State, link_of, state_of}
 use Rattle.net_sockets.specs.declared.listener.Peer.{Peer}
@@ -26,19 +27,21 @@ use Rattle.net_host.specs.declared.guest.Guest.{Guest}
 use Rattle.net_host.specs.declared.pending.PendingConnection.{PendingConnection}
 use Rattle.net_host.specs.declared.guest.Turn.{Turn}
 use Rattle.net_host.specs.declared.guest.Turn.TheVariants as turns
+use Rattle.net_host.specs.Timing.{ComesBy}
+use Rattle.net_host.specs.Waking.{HandsAll, HandsOut}
 
 -- A connection: its number, its peer, its session, what was read of its stream and not taken, how it ended, once an event said so, and the system's code of the
 -- error that its stream gave last, if it gave one and that had a code.
-pub record Served (A : Type 0) : Type 0 where
+pub record Served (H : Type 0) : Type 0 where
   pub number : ℕ
   pub peer : Peer
-  pub session : State A
+  pub session : State H
   pub rest : List ℕ
   pub end : Option End
   pub failure : Option (Option ℤ)
 
 -- a connection by its parts
-abbrev pub served_of : {O : Type 0} → Guest O → Served O
+abbrev pub served_of : {H : Type 0} → Guest H → Served H
 served_of guest = record {
   number = guest.number;
   peer = guest.peer;
@@ -49,34 +52,34 @@ served_of guest = record {
 }
 
 -- how many bytes are kept for it
-abbrev pub kept_by : {A : Type 0} → Served A → ℕ
-kept_by served = kept_of served.session.service.work
+abbrev pub kept_by : {H : Type 0} → HallKind H → Served H → ℕ
+kept_by hall served = kept_of served.session.service.work (hall.guests served.session.objects)
 
 -- something waits to be written, and its stream may take bytes
-abbrev pub CanWrite : {O : Type 0} → Guest O → Type 0
+abbrev pub CanWrite : {H : Type 0} → Guest H → Type 0
 CanWrite guest = (may_write guest.stream ≡ true) × ((link_of (state_of guest.session)).unwritten ≢ [])
 
 -- there may be bytes of the peer, or its end
-abbrev pub MayHaveBytes : {O : Type 0} → Guest O → Type 0
+abbrev pub MayHaveBytes : {H : Type 0} → Guest H → Type 0
 MayHaveBytes guest = (may_read guest.stream ≡ true) ⊎ (guest.rest.items ≢ [])
 
 -- bytes are taken, or dropped, and there may be some
-abbrev pub CanTake : {O : Type 0} → Guest O → Type 0
+abbrev pub CanTake : {H : Type 0} → Guest H → Type 0
 CanTake guest =
     let session = state_of guest.session in
     (IsDraining session.progress.phase ⊎ MayTake session) × MayHaveBytes guest
 
 -- a connection of which nothing was read
-abbrev pub new_served : {A : Type 0} → PendingConnection → State A → Served A
+abbrev pub new_served : {H : Type 0} → PendingConnection → State H → Served H
 new_served pending session = record { number = pending.number; peer = pending.peer; session = session; rest = []; end = None; failure = failure_of pending.stream }
 
--- a limit of time is met by now, unless a byte moves
-abbrev pub IsOverdue : {A : Type 0} → State A → ℕ → Type 0
-IsOverdue session now = (deadline : ℕ) × (deadline_of session.limits session.progress session.progress.phase ≡ Some deadline) × (deadline ≤ now)
+-- a limit of time is met by now, unless a byte moves, or an object is to be woken by now
+abbrev pub IsOverdue : {H : Type 0} → HallKind H → State H → ℕ → Type 0
+IsOverdue hall session now = ComesBy now (due_of hall session)
 
 -- more is kept for it than its own limit while its peer's bytes are taken, and its peer is told so
-abbrev pub IsTooMuch : {A : Type 0} → State A → Type 0
-IsTooMuch session = (session.progress.phase ≡ phases.Serving) × (session.limits.kept < kept_of session.service.work)
+abbrev pub IsTooMuch : {H : Type 0} → HallKind H → State H → Type 0
+IsTooMuch hall session = (session.progress.phase ≡ phases.Serving) × (session.limits.kept < kept_of session.service.work (hall.guests session.objects))
 
 -- how a connection ended, if an event says so
 abbrev pub end_of : SessionEvent → Option End
@@ -97,7 +100,7 @@ end_after known [] = known
 end_after known (event ∷ more) = end_after (or_before known (end_of event)) more
 
 -- an event was handed out
-abbrev pub heard : {A : Type 0} → SessionEvent → Served A → Served A
+abbrev pub heard : {H : Type 0} → SessionEvent → Served H → Served H
 heard event old = record old { end = or_before old.end (end_of event) }
 
 -- its end: what is known of it, or else the other
@@ -112,82 +115,125 @@ came_by gots.Nothing piece = []
 came_by gots.End piece = []
 
 -- this is the error that its stream gave last, or memory ran out
-abbrev pub HasFailed : {A : Type 0} → Served A → Error → Type 0
+abbrev pub HasFailed : {H : Type 0} → Served H → Error → Type 0
 HasFailed last error = (last.failure ≡ Some (raw_os_error error)) ⊎ (error_kind error ≡ kinds.OutOfMemory)
+
+-- it ended as memory ran out, if no event said before how it did
+abbrev pub IsShort : {H : Type 0} → Served H → End → Type 0
+IsShort last end = (error : Error) × (error_kind error ≡ kinds.OutOfMemory) × (end ≡ end_or last.end (ends.Failed error))
 
 -- Why a connection is closed that may keep so many bytes: its stream failed, or memory ran out; its session is over; or more is kept for it. What events said
 -- before comes first.
-pub data IsWhy {A : Type 0} (most : ℕ) (last : Served A) (end : End) : Type 0 where
-  fails : (error : Error) → HasFailed last error → end ≡ end_or last.end (ends.Failed error) → IsWhy most last end
-  is_over : last.session.progress.phase ≡ phases.Over → end ≡ end_or last.end ends.Ended → IsWhy most last end
-  is_full : most < kept_by last → end ≡ end_or last.end (ends.Limit limits.Kept) → IsWhy most last end
+pub data IsWhy {H : Type 0} (hall : HallKind H) (most : ℕ) (last : Served H) (end : End) : Type 0 where
+  fails : (error : Error) → HasFailed last error → end ≡ end_or last.end (ends.Failed error) → IsWhy hall most last end
+  is_over : last.session.progress.phase ≡ phases.Over → end ≡ end_or last.end ends.Ended → IsWhy hall most last end
+  is_full : most < kept_by hall last → end ≡ end_or last.end (ends.Limit limits.Kept) → IsWhy hall most last end
 
-module _ {A : Type 0} (kind : Kind A) where
+module _ {H : Type 0} (hall : HallKind H) where
   -- A connection went on. Its session was given what was left of its stream and what came of it, in order and each byte once, but what is left now. Nothing else
-  -- was done with its session, and the program made no call. What is known of its end is what events said.
-  pub record Serves (old : Served A) (came left : List ℕ) (new : Served A) : Type 0 where
+  -- was done with its session, the program made no call, and nobody was handed out who is to be woken. What is known of its end is what events said.
+  pub record Serves (old : Served H) (came left : List ℕ) (new : Served H) : Type 0 where
     pub number : new.number ≡ old.number
     pub peer : new.peer ≡ old.peer
     pub deed : Deed
-    pub runs : Runs kind old.session deed new.session
+    pub runs : Runs hall old.session deed new.session
     pub no_call : deed.called ≡ []
+    pub unwoken : deed.woken ≡ []
     pub in_order : old.rest ++ came ≡ deed.given ++ left
     pub end : new.end ≡ end_after old.end deed.told
 
   -- it went on, keeps what is left, and its stream didn't fail
-  abbrev pub Proceeds : Served A → Served A → Type 0
+  abbrev pub Proceeds : Served H → Served H → Type 0
   Proceeds old new = (came : List ℕ) × Serves old came new.rest new × (new.failure ≡ old.failure)
 
   -- it went on for the last time, with what came of its stream
-  abbrev pub StopsAfter : Served A → List ℕ → Served A → Type 0
+  abbrev pub StopsAfter : Served H → List ℕ → Served H → Type 0
   StopsAfter old came new = (left : List ℕ) × Serves old came left new
 
   -- it did, as memory ran out
-  abbrev pub StopsShort : Served A → List ℕ → Error → Served A → Type 0
+  abbrev pub StopsShort : Served H → List ℕ → Error → Served H → Type 0
   StopsShort old came error new = StopsAfter old came new × (error_kind error ≡ kinds.OutOfMemory)
 
   -- it went on for the last time
-  abbrev pub Stops : Served A → Served A → Type 0
+  abbrev pub Stops : Served H → Served H → Type 0
   Stops old new = (came : List ℕ) × StopsAfter old came new
 
   -- it went on for the last time, as its stream failed with this error, or memory ran out
-  abbrev pub Fails : Served A → Error → Served A → Type 0
-  Fails old error new = Stops old new × HasFailed new error
+  abbrev pub Breaks : Served H → Error → Served H → Type 0
+  Breaks old error new = Stops old new × HasFailed new error
 
   -- Events of its session were handed out, and nothing else was done. What is known of its end is what they said.
-  abbrev pub Hears : Served A → Served A → Type 0
+  abbrev pub Hears : Served H → Served H → Type 0
   Hears old new =
-      (told : List SessionEvent) × Runs kind old.session (record nothing { told = told }) new.session
+      (told : List SessionEvent) × Runs hall old.session (record nothing { told = told }) new.session
       × (new.session.progress.phase ≡ old.session.progress.phase) × (new ≡ record old { session = new.session; end = end_after old.end told })
 
   -- its stream took this many of the bytes that waited, at this time
-  pub data Sends (old : Served A) (count now : ℕ) (new : Served A) : Type 0 where
+  pub data Sends (old : Served H) (count now : ℕ) (new : Served H) : Type 0 where
     none : count ≡ 0 → new ≡ old → Sends old count now new
-    some : Writes kind old.session count now new.session → new ≡ record old { session = new.session } → Sends old count now new
+    some : Writes hall old.session count now new.session → new ≡ record old { session = new.session } → Sends old count now new
 
-  -- it went on for the last time, and this is how it ended
-  abbrev pub EndsBy : ℕ → Served A → End → Type 0
-  EndsBy most old end = (last : Served A) × Stops old last × IsWhy most last end
+  -- its session handed out all objects of others that are to be woken
+  abbrev pub HandsOver : Served H → List Waker → Served H → Type 0
+  HandsOver old woken new = HandsAll hall old.session woken new.session × (new ≡ record old { session = new.session })
 
-  -- It went on; by this time its session met no limit, but the one of which its peer is told; and events were handed out. No more is kept for it than this.
-  pub record Stays (most now : ℕ) (old new : Served A) : Type 0 where
-    pub worked : Served A
+  -- its session handed out these
+  abbrev pub HandsSome : Served H → List Waker → Served H → Type 0
+  HandsSome old woken new = HandsOut hall old.session woken new.session × (new ≡ record old { session = new.session })
+
+  -- where more is kept for a session than this, it refused its peer
+  pub data Minds (most now : ℕ) (old new : State H) : Type 0 where
+    minds_none : kept_of old.service.work (hall.guests old.objects) ≤ most → new ≡ old → Minds most now old new
+    minds_full : most < kept_of old.service.work (hall.guests old.objects) → IsRefused hall old now new → Minds most now old new
+
+  -- It went on; time passed for its session, up to this time; where more was kept for it than this its peer was refused; and events were handed out, and then all
+  -- objects of others that are to be woken.
+  pub record Works (most now : ℕ) (old : Served H) (woken : List Waker) (new : Served H) : Type 0 where
+    pub worked : Served H
     pub proceeds : Proceeds old worked
-    pub ticked : State A
-    pub ticks : Ticks kind worked.session now ticked
-    pub unmet : (limit : Limit) → Meets worked.session.limits worked.session.progress (kept_by worked) now limit → IsTooMuch worked.session
-    pub hears : Hears (record worked { session = ticked }) new
-    pub within : kept_by new ≤ most
+    pub ticked : State H
+    pub ticks : Ticks hall worked.session now ticked
+    pub minded : State H
+    pub minds : Minds most now ticked minded
+    pub told : Served H
+    pub hears : Hears (record worked { session = minded }) told
+    pub hands : HandsOver told woken new
+
+  -- It went on for the last time, as its stream failed with this error, or memory ran out. All objects of others that are to be woken were handed out; or memory ran
+  -- out for that, once these were.
+  pub data Fails (old : Served H) (woken : List Waker) (error : Error) (new : Served H) : Type 0 where
+    fails_whole : (last : Served H) → Breaks old error last → HandsOver last woken new → Fails old woken error new
+    fails_short : (last : Served H) → Stops old last → HandsSome last woken new → error_kind error ≡ kinds.OutOfMemory → Fails old woken error new
+
+  -- It went on for the last time, and this is how it ended. All objects of others that are to be woken were handed out; or memory ran out for that, once these were.
+  pub data EndsBy (most : ℕ) (old : Served H) (woken : List Waker) (end : End) : Type 0 where
+    ends_whole : (served last : Served H) → Stops old served → HandsOver served woken last → IsWhy hall most last end → EndsBy most old woken end
+    ends_short : (served last : Served H) → Stops old served → HandsSome served woken last → IsShort last end → EndsBy most old woken end
+
+  -- It went on; by this time its session met no limit, but the one of which its peer is told. No more is kept for it than this.
+  pub record Stays (most now : ℕ) (old : Served H) (woken : List Waker) (new : Served H) : Type 0 where
+    pub works : Works most now old woken new
+    pub unmet : (limit : Limit)
+        → Meets works.worked.session.limits works.worked.session.progress (kept_by hall works.worked) now limit → IsTooMuch hall works.worked.session
+    pub within : kept_by hall new ≤ most
 
   -- it is closed, and has its number and its peer
-  abbrev pub Closes : ℕ → Served A → End → Served A → Type 0
-  Closes most old end new = (new.number ≡ old.number) × (new.peer ≡ old.peer) × EndsBy most old end
+  abbrev pub Closes : ℕ → Served H → List Waker → End → Served H → Type 0
+  Closes most old woken end new = (new.number ≡ old.number) × (new.peer ≡ old.peer) × EndsBy most old woken end
 
   -- what a turn at this time does with it, where so many bytes may be kept for it
-  abbrev pub Visits : ℕ → ℕ → Served A → Turn → Served A → Type 0
-  Visits most now old (turns.Over end) new = Closes most old end new
-  Visits most now old turns.More new = Stays most now old new
-  Visits most now old turns.Waits new = Stays most now old new
+  abbrev pub Visits : ℕ → ℕ → Served H → List Waker → Turn → Served H → Type 0
+  Visits most now old woken (turns.Over end) new = Closes most old woken end new
+  Visits most now old woken turns.More new = Stays most now old woken new
+  Visits most now old woken turns.Waits new = Stays most now old woken new
+
+  -- an object of it is woken
+  abbrev pub Rouses : ℕ → Served H → Served H → Type 0
+  Rouses object old new = Wakes hall object old.session new.session × (new ≡ record old { session = new.session })
+
+-- those that are to be woken are those of before, and then these
+abbrev pub Adds : List Waker → (List Waker → Type 0) → List Waker → Type 0
+Adds before P after = (woken : List Waker) × (after ≡ before ++ woken) × P woken
 
 -- a budget notes how much is kept for the connection of this number, or forgets it
 abbrev pub noting : Keeping → ℕ → ℕ → Keeping

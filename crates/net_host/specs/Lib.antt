@@ -1,7 +1,9 @@
 pub mod Limits
 pub mod Roster
 pub mod RosterOf
+pub mod Timing
 pub mod Feeding
+pub mod Waking
 pub mod Guests
 pub mod Floor
 pub mod Once

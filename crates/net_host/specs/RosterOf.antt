@@ -6,7 +6,7 @@ use Rattle.net_sockets.specs.Incoming.{came_of, count_of}
 use Rattle.net_host.specs.Roster.{Roster}
 
 -- what a host knows of the number of its connections
-abbrev pub roster : {O : Type 0} → Host O → Roster
+abbrev pub roster : {H : Type 0} → Host H → Roster
 roster host = record {
   plan = host.plan;
   count = count_of host.incoming;

@@ -5,16 +5,18 @@ ghost use Rattle.std.specs.VecDeque.{deque_capacity, deque_len};
 ghost use Rattle.slab.specs.Slab.{HasRoomFor, Updates, slab_len};
 ghost use Rattle.net_sockets.specs.Incoming.{Keeps};
 ghost use Rattle.net_sockets.specs.Reading.{failure_of};
-ghost use Rattle.net_host.specs.Floor.{HasOverdue, IsDue, Rests, Rounds, Seats, Turns, floor_of, nobody, number_of, seen};
+ghost use Rattle.net_host.specs.Waking.{key_of};
+ghost use Rattle.net_host.specs.Timing.{IsDue, until};
+ghost use Rattle.net_host.specs.Floor.{HasOverdue, IsFirst, Rests, Rounds, Seats, Turns, floor_of, nobody, number_of, seen};
 
 use crate::allowance::Allowance;
 use crate::end::Ended;
-use crate::guest::{Guest, Turn};
+use crate::guest::{Guest, Turn, session_number};
 use crate::limits::HostLimits;
 use crate::pending::PendingConnection;
 use crate::plan::HostPlan;
-use crate::time::Time;
-use cp_servants::Servant;
+use crate::time::{Time, earlier};
+use cp_makers::{Hall, Waker};
 use cp_session::{Budget, Session};
 use mio::event::Event;
 use mio::{Events, Poll, Token};
@@ -41,28 +43,30 @@ const PIECE: usize = 65_536;
 
 /// The connections that a host serves, each under its token.
 #[derive(Drop)]
-pub(crate) struct EventLoop<O> {
+pub(crate) struct EventLoop<H> {
     alloc: Global,
     poll: Poll,
     events: Events,
-    guests: Slab<Guest<O>>,
+    guests: Slab<Guest<H>>,
     /// What is kept for each, by the numbers of their keys.
     budget: Budget,
     /// The keys of those that can go on at once.
     queue: VecDeque<usize>,
     /// Those that ended, of which there was no news yet.
     ended: VecDeque<Ended>,
+    /// The objects that are to be woken by those of other connections, in order.
+    wakes: VecDeque<Waker>,
     piece: Vec<u8>,
     time: Time,
 }
 
-impl<O: Servant> EventLoop<O> {
+impl<H: Hall> EventLoop<H> {
     /// No connection is served. Those that come are reported.
     pub(crate) fn new<N: Net + Clock + AllocGlobal>(
         rt: &N,
         limits: &HostLimits,
         incoming: &mut Incoming,
-    ) -> io::Result<EventLoop<O>>
+    ) -> io::Result<EventLoop<H>>
         ensures nobody { IfOk result (λ it. slab_len it.guests ≡ 0) }
         ensures empty { IfOk result (λ it. Rests (nobody limits.now) (floor_of it)) }
         ensures same { Keeps incoming.old incoming.new }
@@ -82,6 +86,7 @@ impl<O: Servant> EventLoop<O> {
             budget: Budget::new(alloc, limits.share(), limits.pool()),
             queue: VecDeque::new(alloc),
             ended: VecDeque::new(alloc),
+            wakes: VecDeque::new(alloc),
             piece,
             time,
         })
@@ -96,13 +101,22 @@ impl<O: Servant> EventLoop<O> {
 
     /// Whether one can go on at once.
     pub(crate) fn has_turns(&self) -> bool {
-        !self.queue.is_empty()
+        !self.queue.is_empty() || !self.wakes.is_empty()
+    }
+
+    /// How many milliseconds there are until limits of time are looked at. `None`: there is none.
+    pub(crate) fn until_sweep(&self) -> Option<u64>
+        ensures { result ≡ until self.now.time }
+    {
+        self.time.until()
     }
 
     /// The first of those that ended of which there was no news.
     pub(crate) fn next_end(&mut self) -> Option<Ended>
         ensures same { self.new.guests ≡ self.old.guests }
         ensures budget { self.new.budget ≡ self.old.budget }
+        ensures wakes { self.new.wakes ≡ self.old.wakes }
+        ensures time { self.new.time ≡ self.old.time }
         ensures first { self.old.ended.items ≡ option_to_list result ++ self.new.ended.items }
     {
         self.ended.pop_front()
@@ -113,17 +127,19 @@ impl<O: Servant> EventLoop<O> {
         &mut self,
         plan: &HostPlan,
         mut pending: PendingConnection,
-        objects: Vec<O>,
+        mut objects: H,
     ) -> io::Result<()>
         ensures served { OnOk result (slab_len self.new.guests ≡ slab_len self.old.guests + 1) }
         ensures lost { OnErr result (slab_len self.new.guests ≡ slab_len self.old.guests) }
-        ensures seats { OnOk result (Seats plan.now (Some pending) objects.items (floor_of self.old) (floor_of self.new)) }
+        ensures seats { OnOk result (Seats H.hall plan.now (Some pending) objects (floor_of self.old) (floor_of self.new)) }
         ensures unseated { OnErr result (Rests (floor_of self.old) (floor_of self.new)) }
     {
         match self.make_room(&mut pending.stream) {
-            Ok(()) => {
+            Ok(key) => {
+                objects.set_session(session_number(pending.number, key));
                 let session = Session::new(self.alloc, &plan.session(), objects, self.time.now());
                 let guest = Guest::new(self.alloc, pending, session);
+                self.time.expect(guest.deadline());
                 let _ = self.guests.insert_reserved(guest);
                 Ok(())
             }
@@ -135,12 +151,16 @@ impl<O: Servant> EventLoop<O> {
         }
     }
 
-    /// Has a stream reported, and makes room for its connection. After this nothing fails, so a guest that is made is served.
-    fn make_room(&mut self, stream: &mut NonblockingStream) -> io::Result<()>
+    /// Has a stream reported, makes room for its connection, and says under which key. After this nothing fails, so a guest that is
+    /// made is served.
+    fn make_room(&mut self, stream: &mut NonblockingStream) -> io::Result<usize>
         ensures room { OnOk result (HasRoomFor self.new.guests 1) }
+        ensures key { IfOk result (λ key. key ≡ self.new.guests.vacant_key) }
         ensures same { self.new.guests ≡ record self.old.guests { capacity = self.new.guests.capacity } }
         ensures ended { self.new.ended ≡ self.old.ended }
         ensures budget { self.new.budget ≡ self.old.budget }
+        ensures wakes { self.new.wakes ≡ self.old.wakes }
+        ensures time { self.new.time ≡ self.old.time }
         ensures stream { failure_of stream.new ≡ failure_of stream.old }
     {
         let key = self.guests.vacant_key();
@@ -148,7 +168,7 @@ impl<O: Servant> EventLoop<O> {
         self.queue.push_back(key)?;
         stream.register(self.poll.registry(), Token(key))?;
         self.guests.reserve(1)?;
-        Ok(())
+        Ok(key)
     }
 
     /// Waits for events, and notes what they say. Says whether the listener had one. Nothing is closed before all are read, so no event
@@ -171,19 +191,20 @@ impl<O: Servant> EventLoop<O> {
     /// Gives each connection that can go on a turn.
     pub(crate) fn round(&mut self, limits: &HostLimits) -> io::Result<()>
         ensures len { slab_len self.new.guests ≤ slab_len self.old.guests }
-        ensures turns { Rounds O.kind (floor_of self.old) (floor_of self.new) }
+        ensures turns { Rounds H.hall (floor_of self.old) (floor_of self.new) }
     {
         // One piece or one round of polls each, so that a fast peer delays the others by a piece.
         for _ in 0..self.queue.len() {
             self.turn(limits)?;
         }
-        self.sweep(limits)
+        self.wake_each()?;
+        self.sweep()
     }
 
     /// Gives the first connection in the queue a turn. Where this fails, none had one.
     fn turn(&mut self, limits: &HostLimits) -> io::Result<()>
         ensures len { slab_len self.new.guests ≤ slab_len self.old.guests }
-        ensures turns { Turns O.kind (floor_of self.old) (floor_of self.new) }
+        ensures turns { Turns H.hall (floor_of self.old) (floor_of self.new) }
     {
         // Nothing fails once a connection had its turn: so its end is reported.
         self.ended.reserve(1)?;
@@ -200,16 +221,76 @@ impl<O: Servant> EventLoop<O> {
             account,
             now: self.time.now(),
         };
-        match guest.turn(&mut self.piece, &mut self.budget, allowed) {
+        match guest.turn(&mut self.piece, &mut self.budget, &mut self.wakes, allowed) {
             Turn::More => {
+                self.time.expect(guest.deadline());
                 self.queue.push_back_reserved(key);
                 Ok(())
             }
-            Turn::Waits => Ok(()),
+            Turn::Waits => {
+                self.time.expect(guest.deadline());
+                Ok(())
+            }
             Turn::Over(end) => {
                 let ended = guest.ended(end);
                 self.close(key, ended);
                 Ok(())
+            }
+        }
+    }
+
+    /// Wakes the objects that are to be.
+    fn wake_each(&mut self) -> io::Result<()>
+        ensures len { slab_len self.new.guests ≤ slab_len self.old.guests }
+        ensures turns { Rounds H.hall (floor_of self.old) (floor_of self.new) }
+    {
+        for _ in 0..self.wakes.len() {
+            self.wake_next()?;
+        }
+        Ok(())
+    }
+
+    /// Wakes the first object that is to be, so that its connection has a turn. Where that isn't served any more, nothing is done.
+    fn wake_next(&mut self) -> io::Result<()>
+        ensures len { slab_len self.new.guests ≤ slab_len self.old.guests }
+        ensures turns { Turns H.hall (floor_of self.old) (floor_of self.new) }
+    {
+        // Nothing fails once the first was taken out: so none is lost.
+        self.ended.reserve(1)?;
+        self.queue.reserve(1)?;
+        self.wake_first();
+        Ok(())
+    }
+
+    /// Wakes the first object that is to be, where there is room for what that leads to.
+    fn wake_first(&mut self)
+        requires ends { deque_len self.old.ended < deque_capacity self.old.ended }
+        requires enters { deque_len self.old.queue < deque_capacity self.old.queue }
+        ensures len { slab_len self.new.guests ≤ slab_len self.old.guests }
+        ensures turns { Turns H.hall (floor_of self.old) (floor_of self.new) }
+    {
+        let Some(waker) = self.wakes.pop_front() else {
+            return;
+        };
+        let key = key_of(waker.session);
+        let Some(guest) = self.guests.get_mut(key) else {
+            return;
+        };
+        if guest.session(key) != waker.session {
+            return;
+        }
+        match guest.wake(waker.object) {
+            Ok(enters) => {
+                self.time.expect(guest.deadline());
+                if enters {
+                    self.queue.push_back_reserved(key);
+                }
+            }
+            Err(_) => {
+                let end = guest.run_out();
+                let ended = guest.ended(end);
+                self.budget.forget(number_of(key));
+                self.close(key, ended);
             }
         }
     }
@@ -221,41 +302,47 @@ impl<O: Servant> EventLoop<O> {
         ensures updates { Updates self.old.guests self.new.guests key None }
         ensures ended { self.new.ended.items ≡ self.old.ended.items ++ ended ∷ [] }
         ensures budget { self.new.budget ≡ self.old.budget }
+        ensures wakes { self.new.wakes ≡ self.old.wakes }
+        ensures time { self.new.time ≡ self.old.time }
     {
         self.ended.push_back_reserved(ended);
         // This closes its stream.
         drop(self.guests.try_remove(key));
     }
 
-    /// Gives those that meet a limit of time a turn, which closes them.
-    fn sweep(&mut self, limits: &HostLimits) -> io::Result<()>
+    /// Gives those that meet a limit of time a turn, which closes them, and those whose objects are to be woken.
+    fn sweep(&mut self) -> io::Result<()>
         ensures guests { self.new.guests ≡ self.old.guests }
-        ensures ended { self.new.ended ≡ self.old.ended }
-        ensures budget { self.new.budget ≡ self.old.budget }
-        ensures swept { OnOk result (IsDue self.old.time → HasOverdue self.new.guests self.old.time.at self.new.queue.items) }
+        ensures turns { Turns H.hall (floor_of self.old) (floor_of self.new) }
+        ensures swept { OnOk result (IsDue self.old.time → HasOverdue H.hall self.new.guests self.old.time.at self.new.queue.items) }
     {
-        if !self.time.is_due(limits.session.tick()) {
+        if !self.time.is_due() {
             return Ok(());
         }
-        queue_overdue(&self.guests, self.time.now(), &mut self.queue)
+        let first = queue_overdue(&self.guests, self.time.now(), &mut self.queue)?;
+        self.time.set_sweep(first);
+        Ok(())
     }
 }
 
-/// Puts those into the queue that meet a limit of time.
-fn queue_overdue<O: Servant>(
-    guests: &Slab<Guest<O>>,
+/// Puts those into the queue that meet a limit of time, and says when the first one is met.
+fn queue_overdue<H: Hall>(
+    guests: &Slab<Guest<H>>,
     now: u64,
     queue: &mut VecDeque<usize>,
-) -> io::Result<()>
-    ensures { OnOk result (HasOverdue guests.now now queue.new.items) }
+) -> io::Result<Option<u64>>
+    ensures queued { OnOk result (HasOverdue H.hall guests.now now queue.new.items) }
+    ensures first { IfOk result (λ first. IsFirst H.hall first (seen guests.now)) }
 {
+    let mut first = None;
     for entry in guests {
         let (key, guest) = entry;
+        first = earlier(first, guest.deadline());
         if guest.is_overdue(now) {
             queue.push_back(key)?;
         }
     }
-    Ok(())
+    Ok(first)
 }
 
 /// The number under which a budget has what is kept for a connection. There is no memory for 2^32 connections, whose numbers would
@@ -266,10 +353,17 @@ fn number_of(key: usize) -> u32
     (key % 0x1_0000_0000) as u32
 }
 
+/// The key of the connection whose session has this number.
+fn key_of(session: u64) -> usize
+    ensures { result ≡ key_of session }
+{
+    (session % 0x1_0000_0000) as usize
+}
+
 /// Notes what events say of connections, and puts those into the queue that weren't in it. Says whether the listener had an event.
-fn note_events<O: Servant>(
+fn note_events<H: Hall>(
     events: &Events,
-    guests: &mut Slab<Guest<O>>,
+    guests: &mut Slab<Guest<H>>,
     queue: &mut VecDeque<usize>,
 ) -> io::Result<bool>
     ensures len { slab_len guests.new ≡ slab_len guests.old }
@@ -284,9 +378,9 @@ fn note_events<O: Servant>(
 }
 
 /// Notes what an event says. Says whether it is one of the listener.
-fn note_event<O: Servant>(
+fn note_event<H: Hall>(
     event: &Event,
-    guests: &mut Slab<Guest<O>>,
+    guests: &mut Slab<Guest<H>>,
     queue: &mut VecDeque<usize>,
 ) -> io::Result<bool>
     ensures len { slab_len guests.new ≡ slab_len guests.old }

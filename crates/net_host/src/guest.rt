@@ -1,20 +1,23 @@
 //! A connection that a host serves.
 
-ghost use Rattle.std.specs.Prelude.{◌≡◌, ◌≤◌, ◌↔◌, [], IsTrue, Some, None, IfSome, IfNone, IfOk, IfErr, OnOk, length, take};
+ghost use Rattle.std.specs.Prelude.{◌≡◌, ◌≤◌, ◌↔◌, [], IsTrue, Some, None, IfSome, IfNone, IfOk, IfErr, OnOk, OnErr, length, take};
 ghost use Rattle.std.specs.IoError.{raw_os_error};
+ghost use Rattle.cp_session.specs.Doing.{due_of};
 ghost use Rattle.cp_session.specs.State.{state_of};
 ghost use Rattle.net_sockets.specs.Reading.{Fits};
 ghost use Rattle.net_host.specs.Feeding.{IsFed};
-ghost use Rattle.net_host.specs.Guests.{Accounts, CanTake, CanWrite, Closes, Fails, Hears, IsOverdue, MayHaveBytes, Proceeds, Sends, Serves, Stays, StopsShort, Visits, came_by, end_or, heard, kept_by, new_served, served_of};
+ghost use Rattle.net_host.specs.Guests.{Accounts, Adds, Breaks, CanTake, CanWrite, Closes, Fails, HandsOver, HandsSome, Hears, IsOverdue, IsShort, MayHaveBytes, Minds, Proceeds, Rouses, Sends, Serves, Stays, StopsShort, Visits, Works, came_by, end_or, heard, kept_by, new_served, served_of};
+ghost use Rattle.net_host.specs.Waking.{session_of};
 
 use crate::allowance::Allowance;
 use crate::end::{End, Ended};
 use crate::pending::PendingConnection;
-use cp_servants::Servant;
+use cp_makers::{Hall, Waker};
 use cp_session::{Budget, Limit, Session, SessionEvent};
 use mio::event::Event;
 use net_sockets::{Got, NonblockingStream, Peer};
-use std::alloc::Global;
+use std::alloc::{AllocError, Global};
+use std::collections::VecDeque;
 use std::io::{self, ErrorKind};
 
 /// What is left to do for a connection.
@@ -29,12 +32,12 @@ pub(crate) enum Turn {
 
 /// A connection that a host serves: a session behind a stream.
 #[derive(Drop)]
-pub(crate) struct Guest<O> {
+pub(crate) struct Guest<H> {
     alloc: Global,
     number: u64,
     peer: Peer,
     stream: NonblockingStream,
-    session: Session<O>,
+    session: Session<H>,
     /// What was read of the peer and not taken.
     rest: Vec<u8>,
     /// Why nothing more is taken.
@@ -45,9 +48,9 @@ pub(crate) struct Guest<O> {
     queued: bool,
 }
 
-impl<O: Servant> Guest<O> {
+impl<H: Hall> Guest<H> {
     /// A connection of which nothing was read.
-    pub(crate) fn new(alloc: Global, pending: PendingConnection, session: Session<O>) -> Guest<O>
+    pub(crate) fn new(alloc: Global, pending: PendingConnection, session: Session<H>) -> Guest<H>
         ensures { served_of result ≡ new_served pending (state_of session) }
     {
         Guest {
@@ -84,9 +87,16 @@ impl<O: Servant> Guest<O> {
         enters
     }
 
+    /// When it meets a limit of time, if no byte moves before, or an object of it is to be woken.
+    pub(crate) fn deadline(&self) -> Option<u64>
+        ensures { result ≡ due_of H.hall (state_of self.now.session) }
+    {
+        self.session.deadline()
+    }
+
     /// Whether it meets a limit of time.
     pub(crate) fn is_overdue(&self, now: u64) -> bool
-        ensures { IsTrue result ↔ IsOverdue (state_of self.now.session) now }
+        ensures { IsTrue result ↔ IsOverdue H.hall (state_of self.now.session) now }
     {
         match self.session.deadline() {
             Some(deadline) => deadline <= now,
@@ -96,24 +106,57 @@ impl<O: Servant> Guest<O> {
 
     /// How many bytes are kept for it.
     pub(crate) fn kept(&self) -> u64
-        ensures { result ≡ kept_by (served_of self.now) }
+        ensures { result ≡ kept_by H.hall (served_of self.now) }
     {
         self.session.kept()
     }
 
-    /// Has a turn. A budget notes how much is kept for it then, or forgets it where it ended. Where it can't be noted, it ends.
-    pub(crate) fn turn(&mut self, piece: &mut [u8], budget: &mut Budget, allowed: Allowance) -> Turn
-        ensures visits { Visits O.kind allowed.kept allowed.now (served_of self.old) result (served_of self.new) }
-        ensures accounts { Accounts result allowed.account (kept_by (served_of self.new)) budget.old budget.new }
+    /// The number of its session, under this key.
+    pub(crate) fn session(&self, key: usize) -> u64
+        ensures { result ≡ session_of self.now.number key }
     {
-        if let Some(end) = self.visit(piece, allowed) {
+        session_number(self.number, key)
+    }
+
+    /// Wakes an object. Says whether it comes into the queue.
+    pub(crate) fn wake(&mut self, object: u32) -> Result<bool, AllocError>
+        ensures woken { OnOk result (Rouses H.hall object (served_of self.old) (served_of self.new)) }
+        ensures err { OnErr result (served_of self.new ≡ record (served_of self.old) { session = (served_of self.new).session }) }
+    {
+        self.session.wake(object)?;
+        let enters = !self.queued;
+        self.queued = true;
+        Ok(enters)
+    }
+
+    /// How it ended, as memory ran out.
+    pub(crate) fn run_out(&mut self) -> End
+        ensures end { IsShort (served_of self.old) result }
+        ensures same { served_of self.new ≡ record (served_of self.old) { end = None } }
+    {
+        let error = io::Error::from(ErrorKind::OutOfMemory);
+        self.end_or(End::Failed(error))
+    }
+
+    /// Has a turn. A budget notes how much is kept for it then, or forgets it where it ended. Where it can't be noted, it ends. The
+    /// objects of other connections that are to be woken come after those that were to be before.
+    pub(crate) fn turn(
+        &mut self,
+        piece: &mut [u8],
+        budget: &mut Budget,
+        wakes: &mut VecDeque<Waker>,
+        allowed: Allowance,
+    ) -> Turn
+        ensures visits { Adds wakes.old.items (λ woken. Visits H.hall allowed.kept allowed.now (served_of self.old) woken result (served_of self.new)) wakes.new.items }
+        ensures accounts { Accounts result allowed.account (kept_by H.hall (served_of self.new)) budget.old budget.new }
+    {
+        if let Some(end) = self.visit(piece, wakes, allowed) {
             budget.forget(allowed.account);
             return Turn::Over(end);
         }
         if budget.note(allowed.account, self.kept()).is_err() {
             budget.forget(allowed.account);
-            let error = io::Error::from(ErrorKind::OutOfMemory);
-            return Turn::Over(self.end_or(End::Failed(error)));
+            return Turn::Over(self.run_out());
         }
         self.queued = self.can_go_on();
         if !self.queued {
@@ -122,19 +165,20 @@ impl<O: Servant> Guest<O> {
         Turn::More
     }
 
-    /// Goes on by one piece. Says how it ended, where its stream failed, its session is over, or more is kept for it than it is allowed.
-    fn visit(&mut self, piece: &mut [u8], allowed: Allowance) -> Option<End>
-        ensures closes { IfSome result (λ end. Closes O.kind allowed.kept (served_of self.old) end (served_of self.new)) }
-        ensures stays { IfNone result (Stays O.kind allowed.kept allowed.now (served_of self.old) (served_of self.new)) }
+    /// Goes on by one piece. Says how it ended, where its stream failed, its session is over, or more is kept for it than it is allowed
+    /// though its peer was refused.
+    fn visit(
+        &mut self,
+        piece: &mut [u8],
+        wakes: &mut VecDeque<Waker>,
+        allowed: Allowance,
+    ) -> Option<End>
+        ensures closes { IfSome result (λ end. Adds wakes.old.items (λ woken. Closes H.hall allowed.kept (served_of self.old) woken end (served_of self.new)) wakes.new.items) }
+        ensures stays { IfNone result (Adds wakes.old.items (λ woken. Stays H.hall allowed.kept allowed.now (served_of self.old) woken (served_of self.new)) wakes.new.items) }
     {
-        if let Err(error) = self.move_on(piece, allowed) {
-            // What happened before the stream failed counts.
-            self.note_events();
+        if let Err(error) = self.work(piece, wakes, allowed) {
             return Some(self.end_or(End::Failed(error)));
         }
-        // A limit of time ends it at once. One that keeps too much is told so first.
-        self.session.tick(allowed.now);
-        self.note_events();
         self.shut();
         if self.session.is_over() {
             return Some(self.end_or(End::Ended));
@@ -145,10 +189,61 @@ impl<O: Servant> Guest<O> {
         None
     }
 
+    /// Goes on by one piece, and has time pass. Notes events, and hands out the objects of other connections that are to be woken.
+    fn work(
+        &mut self,
+        piece: &mut [u8],
+        wakes: &mut VecDeque<Waker>,
+        allowed: Allowance,
+    ) -> io::Result<()>
+        ensures works { OnOk result (Adds wakes.old.items (λ woken. Works H.hall allowed.kept allowed.now (served_of self.old) woken (served_of self.new)) wakes.new.items) }
+        ensures fails { IfErr result (λ error. Adds wakes.old.items (λ woken. Fails H.hall (served_of self.old) woken error (served_of self.new)) wakes.new.items) }
+    {
+        if let Err(error) = self.move_on(piece, allowed) {
+            // What happened before the stream failed counts.
+            self.note_events();
+            self.hand_over(wakes)?;
+            return Err(error);
+        }
+        // A limit of time ends it at once. One that keeps too much is told so first.
+        self.session.tick(allowed.now);
+        self.refuse(allowed);
+        self.note_events();
+        self.hand_over(wakes)?;
+        Ok(())
+    }
+
+    /// Has its session refuse the peer, where more is kept for it than it is allowed: so the peer is told by an Abort.
+    fn refuse(&mut self, allowed: Allowance)
+        ensures refuses { Minds H.hall allowed.kept allowed.now (state_of self.old.session) (state_of self.new.session) }
+        ensures same { served_of self.new ≡ record (served_of self.old) { session = state_of self.new.session } }
+    {
+        let kept = self.kept();
+        if kept > allowed.kept {
+            self.session.refuse(allowed.now);
+        }
+    }
+
+    /// Hands out the objects of other connections that are to be woken.
+    fn hand_over(&mut self, wakes: &mut VecDeque<Waker>) -> Result<(), AllocError>
+        ensures all { OnOk result (Adds wakes.old.items (λ woken. HandsOver H.hall (served_of self.old) woken (served_of self.new)) wakes.new.items) }
+        ensures some { OnErr result (Adds wakes.old.items (λ woken. HandsSome H.hall (served_of self.old) woken (served_of self.new)) wakes.new.items) }
+    {
+        for _ in 0..u64::MAX {
+            // Before one is taken out, so that none is lost.
+            wakes.reserve(1)?;
+            let Some(waker) = self.session.next_wake() else {
+                return Ok(());
+            };
+            wakes.push_back_reserved(waker);
+        }
+        Err(AllocError)
+    }
+
     /// Writes what waits to be written, takes one piece or polls the objects once, and writes what that leads to.
     fn move_on(&mut self, piece: &mut [u8], allowed: Allowance) -> io::Result<()>
-        ensures goes_on { OnOk result (Proceeds O.kind (served_of self.old) (served_of self.new)) }
-        ensures fails { IfErr result (λ error. Fails O.kind (served_of self.old) error (served_of self.new)) }
+        ensures goes_on { OnOk result (Proceeds H.hall (served_of self.old) (served_of self.new)) }
+        ensures fails { IfErr result (λ error. Breaks H.hall (served_of self.old) error (served_of self.new)) }
     {
         // First what waits, so that more may be taken.
         self.write(allowed.now)?;
@@ -158,8 +253,8 @@ impl<O: Servant> Guest<O> {
 
     /// Takes what is left of a piece, or the next one, or polls the objects.
     fn go_on(&mut self, piece: &mut [u8], allowed: Allowance) -> io::Result<()>
-        ensures goes_on { OnOk result (Proceeds O.kind (served_of self.old) (served_of self.new)) }
-        ensures fails { IfErr result (λ error. Fails O.kind (served_of self.old) error (served_of self.new)) }
+        ensures goes_on { OnOk result (Proceeds H.hall (served_of self.old) (served_of self.new)) }
+        ensures fails { IfErr result (λ error. Breaks H.hall (served_of self.old) error (served_of self.new)) }
     {
         if !self.can_take() {
             // Why it failed an event says.
@@ -180,8 +275,8 @@ impl<O: Servant> Guest<O> {
     /// Reads a piece, takes of it what may be taken, and keeps the rest.
     fn read(&mut self, piece: &mut [u8], allowed: Allowance) -> io::Result<()>
         requires { self.old.rest.items ≡ [] }
-        ensures goes_on { OnOk result (Proceeds O.kind (served_of self.old) (served_of self.new)) }
-        ensures fails { IfErr result (λ error. Fails O.kind (served_of self.old) error (served_of self.new)) }
+        ensures goes_on { OnOk result (Proceeds H.hall (served_of self.old) (served_of self.new)) }
+        ensures fails { IfErr result (λ error. Breaks H.hall (served_of self.old) error (served_of self.new)) }
     {
         let got = self.stream.read(piece)?;
         self.take(got, piece, allowed)
@@ -191,8 +286,8 @@ impl<O: Servant> Guest<O> {
     fn take(&mut self, got: Got, piece: &[u8], allowed: Allowance) -> io::Result<()>
         requires empty { self.old.rest.items ≡ [] }
         requires fits { Fits got (length piece.now) }
-        ensures goes_on { OnOk result (Serves O.kind (served_of self.old) (came_by got piece.now) self.new.rest.items (served_of self.new)) }
-        ensures stops { IfErr result (λ error. StopsShort O.kind (served_of self.old) (came_by got piece.now) error (served_of self.new)) }
+        ensures goes_on { OnOk result (Serves H.hall (served_of self.old) (came_by got piece.now) self.new.rest.items (served_of self.new)) }
+        ensures stops { IfErr result (λ error. StopsShort H.hall (served_of self.old) (came_by got piece.now) error (served_of self.new)) }
         ensures same { self.new.stream ≡ self.old.stream }
     {
         match got {
@@ -213,8 +308,8 @@ impl<O: Servant> Guest<O> {
 
     /// Writes as much as the stream takes.
     fn write(&mut self, now: u64) -> io::Result<()>
-        ensures goes_on { OnOk result (Proceeds O.kind (served_of self.old) (served_of self.new)) }
-        ensures fails { IfErr result (λ error. Fails O.kind (served_of self.old) error (served_of self.new)) }
+        ensures goes_on { OnOk result (Proceeds H.hall (served_of self.old) (served_of self.new)) }
+        ensures fails { IfErr result (λ error. Breaks H.hall (served_of self.old) error (served_of self.new)) }
     {
         for _ in 0..u64::MAX {
             if !self.can_write() {
@@ -227,7 +322,7 @@ impl<O: Servant> Guest<O> {
 
     /// Offers the stream what waits, and says how much it took.
     fn write_some(&mut self, now: u64) -> io::Result<usize>
-        ensures sends { IfOk result (λ count. Sends O.kind (served_of self.old) count now (served_of self.new)) }
+        ensures sends { IfOk result (λ count. Sends H.hall (served_of self.old) count now (served_of self.new)) }
         ensures unsent { IfErr result (λ error. served_of self.new ≡ record (served_of self.old) { failure = Some (raw_os_error error) }) }
     {
         let count = self.stream.write(self.session.outgoing())?;
@@ -240,7 +335,7 @@ impl<O: Servant> Guest<O> {
 
     /// Keeps why nothing more is taken, once an event says it.
     fn note_events(&mut self)
-        ensures { Hears O.kind (served_of self.old) (served_of self.new) }
+        ensures { Hears H.hall (served_of self.old) (served_of self.new) }
     {
         for _ in 0..u64::MAX {
             let is_told = self.note_event();
@@ -252,7 +347,7 @@ impl<O: Servant> Guest<O> {
 
     /// Takes the next event. Says whether there was one.
     fn note_event(&mut self) -> bool
-        ensures { Hears O.kind (served_of self.old) (served_of self.new) }
+        ensures { Hears H.hall (served_of self.old) (served_of self.new) }
     {
         let Some(event) = self.session.poll_event() else {
             return false;
@@ -326,10 +421,17 @@ impl<O: Servant> Guest<O> {
     }
 }
 
+/// The number of the session of a connection, by its number and its key: 32 bits of each.
+pub(crate) fn session_number(number: u64, key: usize) -> u64
+    ensures { result ≡ session_of number key }
+{
+    (number % 0x1_0000_0000) * 0x1_0000_0000 + key as u64 % 0x1_0000_0000
+}
+
 /// Gives a session these bytes, within so many messages and until more is kept for it than it is allowed, and says how many were taken.
-fn feed<O: Servant>(session: &mut Session<O>, piece: &[u8], allowed: Allowance) -> usize
+fn feed<H: Hall>(session: &mut Session<H>, piece: &[u8], allowed: Allowance) -> usize
     ensures few { result ≤ length piece.now }
-    ensures fed { IsFed O.kind (state_of session.old) (take result piece.now) (state_of session.new) }
+    ensures fed { IsFed H.hall (state_of session.old) (take result piece.now) (state_of session.new) }
 {
     let mut left = piece;
     for _ in 0..allowed.messages {
@@ -344,9 +446,9 @@ fn feed<O: Servant>(session: &mut Session<O>, piece: &[u8], allowed: Allowance) 
 }
 
 /// Gives a session these bytes up to the end of a message, and says how many were taken: none at a fault, of which an event tells.
-fn feed_next<O: Servant>(session: &mut Session<O>, piece: &[u8], now: u64) -> usize
+fn feed_next<H: Hall>(session: &mut Session<H>, piece: &[u8], now: u64) -> usize
     ensures few { result ≤ length piece.now }
-    ensures fed { IsFed O.kind (state_of session.old) (take result piece.now) (state_of session.new) }
+    ensures fed { IsFed H.hall (state_of session.old) (take result piece.now) (state_of session.new) }
 {
     match session.receive(piece, now) {
         Ok(count) => count,

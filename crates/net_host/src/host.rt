@@ -14,7 +14,7 @@ use crate::event_loop::EventLoop;
 use crate::limits::Crowd;
 use crate::pending::PendingConnection;
 use crate::plan::HostPlan;
-use cp_servants::Servant;
+use cp_makers::Hall;
 use net_sockets::{Incoming, Listener, Peer};
 use std::alloc::AllocGlobal;
 use std::io::{self, ErrorKind};
@@ -57,10 +57,13 @@ enum Look {
 ///
 /// # State of objects
 ///
-/// Objects are of one type `O`, such as an enum. Those of one connection are called by that one alone. What all share is a
-/// value that they hold together, as by an `Rc`: all calls are made in one thread, one after another. An object that is to
-/// know its connection is made with its number.
+/// `H` is a list of objects that make none, of one type such as an enum; or a `Family` of objects that may make others. Those of one
+/// connection are called by that one alone. What all share is a value that they hold together, as by an `Rc`: all calls are made in one
+/// thread, one after another. An object that is to know its connection is made with its number.
 /// Nothing is lent to a call beside its params, since boxed objects can hold no borrow.
+///
+/// An object of a `Family` may have one of another connection woken (`Here::wake`), of which it has a `Waker` by what they share. Then
+/// that one is polled, and its connection has a turn, so that it can call its peer. If that connection ended, nothing is done.
 ///
 /// They may call what they were given (`Servant::ask`), and are told what that came to. Nobody else uses a connection's imports: each is released once no
 /// object holds it, nor anything of the vat, also one that came with a call which reached no object.
@@ -71,6 +74,8 @@ enum Look {
 ///   64 KiB is read and taken, or so many of its messages as the limits say. After each message each object is polled once. While
 ///   an object says that it may give more, it is polled at each turn.
 /// - Nothing is read of a peer while more than `ahead` bytes wait for it, so a peer that doesn't read is not served on.
+/// - Limits of time, and the times at which objects are to be woken, are looked at when the first of them is met, and at most once in a
+///   millisecond. A host that has nothing to do waits, and takes no time of a processor.
 /// - A limit that is met closes the connection. What is reported says which. So does one that is met by what all connections keep
 ///   together: it closes the connection that came to keep more than its share, where the other ones leave no more.
 /// - After an Abort that the peer gets for its fault, and after bytes of it that are refused, the stream is closed for writing, and
@@ -81,14 +86,14 @@ enum Look {
 ///
 /// An error of `next` is one of the listener's set of sockets, or says that memory ran out for it. Each end is still reported then, by
 /// a further call. Of a connection that fails the news says so, and the others go on.
-pub struct Host<O> {
+pub struct Host<H> {
     plan: HostPlan,
     incoming: Incoming,
     pending: Option<PendingConnection>,
-    event_loop: EventLoop<O>,
+    event_loop: EventLoop<H>,
 }
 
-impl<O: Drop> Drop for Host<O> {
+impl<H: Drop> Drop for Host<H> {
     fn drop(self) {
         let Host {
             plan: _,
@@ -99,13 +104,13 @@ impl<O: Drop> Drop for Host<O> {
     }
 }
 
-impl<O: Servant> Host<O> {
+impl<H: Hall> Host<H> {
     /// A host to which no connection has come.
     pub fn new<N: Net + Clock + AllocGlobal>(
         rt: &N,
         plan: HostPlan,
         listener: Listener,
-    ) -> io::Result<Host<O>>
+    ) -> io::Result<Host<H>>
         ensures begun { IfOk result (λ host. roster host ≡ begun plan) }
         ensures empty { IfOk result (λ host. Rests (nobody plan.limits) (connections_of host)) }
     {
@@ -126,8 +131,8 @@ impl<O: Servant> Host<O> {
         ensures hears { IfOk result (λ news. Hears (roster self.old) news (roster self.new)) }
         ensures fresh { OnOk result (IsFresh self.new.pending) }
         ensures unheard { OnErr result (GoesOn (roster self.old) (roster self.new)) }
-        ensures reports { IfOk result (λ news. Reports O.kind (connections_of self.old) news (connections_of self.new)) }
-        ensures unreported { OnErr result (floor.Rounds O.kind (connections_of self.old) (connections_of self.new)) }
+        ensures reports { IfOk result (λ news. Reports H.hall (connections_of self.old) news (connections_of self.new)) }
+        ensures unreported { OnErr result (floor.Rounds H.hall (connections_of self.old) (connections_of self.new)) }
     {
         // A connection that got no objects is closed by this.
         self.pending = None;
@@ -142,10 +147,10 @@ impl<O: Servant> Host<O> {
     }
 
     /// Serves the connection that came last with these objects. Where this fails, it is closed.
-    pub fn admit(&mut self, objects: Vec<O>) -> io::Result<()>
+    pub fn admit(&mut self, objects: H) -> io::Result<()>
         ensures admits { OnOk result (Admits (roster self.old) (roster self.new)) }
         ensures lost { OnErr result (roster self.new ≡ record (roster self.old) { awaits = None }) }
-        ensures seats { OnOk result (Seats self.old.plan self.old.pending objects.items (connections_of self.old) (connections_of self.new)) }
+        ensures seats { OnOk result (Seats H.hall self.old.plan self.old.pending objects (connections_of self.old) (connections_of self.new)) }
         ensures unseated { OnErr result (Rests (connections_of self.old) (connections_of self.new)) }
     {
         match self.pending.take() {
@@ -161,8 +166,8 @@ impl<O: Servant> Host<O> {
         ensures looks { IfOk result (λ it. Looks (roster self.old) it (roster self.new)) }
         ensures fresh { OnOk result (IsFresh self.new.pending) }
         ensures unheard { OnErr result (GoesOn (roster self.old) (roster self.new)) }
-        ensures reports { IfOk result (λ it. LooksOn O.kind (connections_of self.old) it (connections_of self.new)) }
-        ensures unreported { OnErr result (floor.Rounds O.kind (connections_of self.old) (connections_of self.new)) }
+        ensures reports { IfOk result (λ it. LooksOn H.hall (connections_of self.old) it (connections_of self.new)) }
+        ensures unreported { OnErr result (floor.Rounds H.hall (connections_of self.old) (connections_of self.new)) }
     {
         if let Some(ended) = self.event_loop.next_end() {
             return Ok(Look::News(News::ended(ended)));
@@ -228,7 +233,7 @@ impl<O: Servant> Host<O> {
     /// Waits for events, and gives each connection that can go on a turn.
     fn round<N: Net + Clock>(&mut self, rt: &N) -> io::Result<()>
         ensures rounds { Rounds (roster self.old) (roster self.new) }
-        ensures turns { floor.Rounds O.kind (connections_of self.old) (connections_of self.new) }
+        ensures turns { floor.Rounds H.hall (connections_of self.old) (connections_of self.new) }
     {
         let wait = self.wait();
         let has_event = self.event_loop.wait(rt, wait)?;
@@ -236,19 +241,17 @@ impl<O: Servant> Host<O> {
         self.event_loop.round(&self.plan.limits)
     }
 
-    /// How long the next wait may take: no time while a connection can go on or can be taken, else until times are looked at.
+    /// How long the next wait may take: no time while a connection can go on or can be taken, else until limits of time are looked at.
+    /// Where there is none an event is waited for: a host that has nothing to do takes no time of a processor.
     fn wait(&self) -> Option<Duration> {
         if self.event_loop.has_turns() || self.incoming.has_burst() {
             return Some(Duration::from_millis(0));
         }
-        let tick = self.plan.limits.session.tick();
+        let until = self.event_loop.until_sweep();
         if self.incoming.has_failed() {
-            return Some(Duration::from_millis(tick.min(AGAIN)));
+            return Some(Duration::from_millis(until.unwrap_or(AGAIN).min(AGAIN)));
         }
-        if self.event_loop.served() == 0 {
-            return None;
-        }
-        Some(Duration::from_millis(tick))
+        Some(Duration::from_millis(until?))
     }
 }
 

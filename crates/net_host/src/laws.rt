@@ -1,25 +1,39 @@
 //! What follows of what a host does, whatever it is.
 
-ghost use Rattle.net_host.specs.Floor.{ReportsWithin};
+ghost use Rattle.net_host.specs.Floor.{BeginsAwaited, ReportsAwaited, ReportsWithin};
+ghost use Rattle.net_host.specs.Waking.{NamesOne};
 ghost use Rattle.net_host.specs.Once.{BeginsOnce, BeginsUnfailed, ReportsOnce, StaysUnfailed};
 
-use cp_servants::Servant;
+use cp_makers::Hall;
 
 /// The end of each connection is reported once, with the number that it had when it began. (No number is given twice: `Host::next`
 /// gives the next one to each connection that comes.)
-pub fn reported_once<O: Servant>()
-    ensures reports { ReportsOnce O.kind }
-    ensures begins { BeginsOnce O.kind }
+pub fn reported_once<H: Hall>()
+    ensures reports { ReportsOnce H.hall }
+    ensures begins { BeginsOnce H.hall }
 {}
 
 /// What is kept for all connections stays within the host's budget, whatever turns and news there are: for all together no more than
 /// a share each and the pool (`cp_session::keep_no_more`).
-pub fn keeps_within<O: Servant>()
-    ensures { ReportsWithin O.kind }
+pub fn keeps_within<H: Hall>()
+    ensures { ReportsWithin H.hall }
+{}
+
+/// Limits of time are looked at by the deadline of each connection that is served, whatever turns and news there are: the host sleeps
+/// past none.
+pub fn sleeps_past_none<H: Hall>()
+    ensures reports { ReportsAwaited H.hall }
+    ensures begins { BeginsAwaited H.hall }
+{}
+
+/// No two connections have sessions of one number, as long as fewer than 2^32 came. So an object that is woken is one of the session
+/// whose object was to be, or that session ended and nothing is done.
+pub fn wakes_its_own()
+    ensures { NamesOne }
 {}
 
 /// No connection is served whose stream failed, whatever turns and news there are. So the error that one ended by came in its last turn.
-pub fn fails_once<O: Servant>()
-    ensures stays { StaysUnfailed O.kind }
-    ensures begins { BeginsUnfailed O.kind }
+pub fn fails_once<H: Hall>()
+    ensures stays { StaysUnfailed H.hall }
+    ensures begins { BeginsUnfailed H.hall }
 {}

@@ -14,6 +14,6 @@ mod time;
 
 pub use end::End;
 pub use host::{Host, News};
-pub use laws::{fails_once, keeps_within, reported_once};
+pub use laws::{fails_once, keeps_within, reported_once, sleeps_past_none, wakes_its_own};
 pub use limits::{Crowd, HostLimits};
 pub use plan::HostPlan;

@@ -1,7 +1,8 @@
 //! The time of a host.
 
-ghost use Rattle.std.specs.Prelude.{◌≡◌, ◌↔◌, IsTrue};
-ghost use Rattle.net_host.specs.Floor.{IsDue};
+ghost use Rattle.std.specs.Prelude.{◌≡◌, ◌↔◌, IsTrue, IfOk, None, Some};
+ghost use Rattle.cp_session.specs.Progress.{earlier};
+ghost use Rattle.net_host.specs.Timing.{ComesBy, IsDue, until};
 
 use std::io;
 use std::time::{Clock, Instant};
@@ -11,16 +12,22 @@ use std::time::{Clock, Instant};
 pub(crate) struct Time {
     start: Instant,
     at: u64,
-    sweep_at: u64,
+    /// When limits of time are looked at next. `None`: no session has one.
+    sweep_at: Option<u64>,
+    /// When they were last.
+    swept_at: Option<u64>,
 }
 
 impl Time {
     /// The time of a host that begins.
-    pub(crate) fn start<C: Clock>(rt: &C) -> io::Result<Time> {
+    pub(crate) fn start<C: Clock>(rt: &C) -> io::Result<Time>
+        ensures { IfOk result (λ time. time.sweep_at ≡ None) }
+    {
         Ok(Time {
             start: Instant::now(rt)?,
             at: 0,
-            sweep_at: 0,
+            sweep_at: None,
+            swept_at: None,
         })
     }
 
@@ -32,22 +39,80 @@ impl Time {
     }
 
     /// Looks at the clock.
-    pub(crate) fn look<C: Clock>(&mut self, rt: &C) -> io::Result<()> {
+    pub(crate) fn look<C: Clock>(&mut self, rt: &C) -> io::Result<()>
+        ensures { self.new ≡ record self.old { at = self.new.at } }
+    {
         let since = Instant::now(rt)?.duration_since(self.start);
         let seconds = since.as_secs().saturating_mul(1_000);
         self.at = seconds.saturating_add(since.subsec_millis() as u64);
         Ok(())
     }
 
-    /// Whether limits of time are to be looked at, which they are each `tick` milliseconds.
-    pub(crate) fn is_due(&mut self, tick: u64) -> bool
-        ensures due { IsTrue result ↔ IsDue self.old }
-        ensures same { self.new.at ≡ self.old.at }
+    /// Limits of time are looked at when this one is met, if not before.
+    pub(crate) fn expect(&mut self, deadline: Option<u64>)
+        ensures { self.new ≡ record self.old { sweep_at = earlier self.old.sweep_at deadline } }
     {
-        if self.at < self.sweep_at {
+        self.sweep_at = earlier(self.sweep_at, deadline);
+    }
+
+    /// Limits of time were looked at, and are when the first of those that are left is met.
+    pub(crate) fn set_sweep(&mut self, first: Option<u64>)
+        ensures { self.new ≡ record self.old { sweep_at = first } }
+    {
+        self.sweep_at = first;
+    }
+
+    /// How many milliseconds there are until limits of time are looked at. `None`: there is none.
+    pub(crate) fn until(&self) -> Option<u64>
+        ensures { result ≡ until self.now }
+    {
+        let first = self.sweep_at?;
+        Some(first.saturating_sub(self.at).max(1))
+    }
+
+    /// Whether limits of time are to be looked at, which they are at most once in a millisecond.
+    pub(crate) fn is_due(&mut self) -> bool
+        ensures due { IsTrue result ↔ IsDue self.old }
+        ensures same { self.new ≡ record self.old { swept_at = self.new.swept_at } }
+    {
+        if self.is_swept() {
             return false;
         }
-        self.sweep_at = self.at.saturating_add(tick);
-        true
+        if self.has_come() {
+            self.swept_at = Some(self.at);
+            return true;
+        }
+        false
+    }
+
+    /// Whether the time has come for them.
+    fn has_come(&self) -> bool
+        ensures { IsTrue result ↔ ComesBy self.now.at self.now.sweep_at }
+    {
+        match self.sweep_at {
+            Some(first) => first <= self.at,
+            None => false,
+        }
+    }
+
+    /// Whether they were looked at in this millisecond.
+    fn is_swept(&self) -> bool
+        ensures { IsTrue result ↔ (self.now.swept_at ≡ Some self.now.at) }
+    {
+        match self.swept_at {
+            Some(last) => last == self.at,
+            None => false,
+        }
+    }
+}
+
+/// The earlier of two times.
+pub(crate) fn earlier(one: Option<u64>, other: Option<u64>) -> Option<u64>
+    ensures { result ≡ earlier one other }
+{
+    match (one, other) {
+        (Some(one), Some(other)) => Some(one.min(other)),
+        (None, other) => other,
+        (one, None) => one,
     }
 }

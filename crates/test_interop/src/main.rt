@@ -1,10 +1,11 @@
 //! Frames of the reference C++ writer and streams that real peers sent, which lie beside this
 //! program: each is read in every way, written again, and compared with the line that the reference
-//! reader confirmed. Beside them are files, and what each command does with them.
+//! reader confirmed. Beside them are files, and what each command does with them, and exchanges, each with what follows each event.
 #![tactic(auto)]
 
 mod call;
 mod command;
+mod exchanges;
 mod fault;
 mod frame;
 mod guard;
@@ -119,7 +120,8 @@ fn main(rt: HostRuntime) -> anyhow::Result<ExitCode> {
         & Rows::Calls.try_all(&rt, alloc)?
         & Rows::Messages.try_all(&rt, alloc)?
         & Rows::Guards.try_all(&rt, alloc)?
-        & streams(&rt, alloc)?;
+        & streams(&rt, alloc)?
+        & exchanges::play_all(&rt)?;
     Ok(if good {
         ExitCode::SUCCESS
     } else {

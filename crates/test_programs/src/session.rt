@@ -24,7 +24,7 @@ enum Told {
     Ended,
 }
 
-fn next_told<O: Servant>(session: &mut Session<O>) -> Told {
+fn next_told<O: Servant>(session: &mut Session<Vec<O>>) -> Told {
     let event = session.poll_event();
     let told = match &event {
         None => Told::Nothing,
@@ -43,7 +43,7 @@ fn next_told<O: Servant>(session: &mut Session<O>) -> Told {
 fn take<O: Servant>(
     rt: &impl Abort,
     alloc: Global,
-    session: &mut Session<O>,
+    session: &mut Session<Vec<O>>,
     frames: &[&str],
     now: u64,
 ) {
@@ -62,7 +62,7 @@ fn take<O: Servant>(
 fn expect_outgoing<O: Servant>(
     rt: &impl Abort,
     alloc: Global,
-    session: &Session<O>,
+    session: &Session<Vec<O>>,
     frames: &[&str],
 ) {
     let wanted = bytes_of(rt, alloc, frames);
@@ -71,7 +71,7 @@ fn expect_outgoing<O: Servant>(
 }
 
 /// All that waits goes out.
-fn write<O: Servant>(session: &mut Session<O>, now: u64) {
+fn write<O: Servant>(session: &mut Session<Vec<O>>, now: u64) {
     let count = session.outgoing().len();
     session.wrote(count, now);
 }

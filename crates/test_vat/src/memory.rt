@@ -1,4 +1,4 @@
-//! What no script plays: each other exchange of a vat is in test_exchanges.
+//! What no script plays: each other exchange of a vat is in test_interop.
 
 ghost use Rattle.std.specs.Prelude.{None};
 ghost use Rattle.cp_vat_machine.specs.Run.{Run};

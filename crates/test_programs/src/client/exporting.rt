@@ -69,7 +69,7 @@ impl Servant for Through {
 /// Calls the peer's object with an object of the client's, and waits for the outcome while that answers.
 fn call_with<O: Servant>(
     alloc: Global,
-    client: &mut Client<&[u8], Vec<u8>, O>,
+    client: &mut Client<&[u8], Vec<u8>, Vec<O>>,
     object: O,
 ) -> Result<Option<u64>, ClientFault> {
     let desk = client.bootstrap()?;
@@ -121,7 +121,7 @@ fn exporting_client<'a, O: Servant>(
     alloc: Global,
     bytes: &'a [u8],
     bootstrap: Option<u32>,
-) -> Client<&'a [u8], Vec<u8>, O> {
+) -> Client<&'a [u8], Vec<u8>, Vec<O>> {
     let (to, limits) = (Vec::new(alloc), Limits::standard());
     Client::with_objects(alloc, bytes, to, Mode::Plain, limits, bootstrap)
 }

@@ -35,7 +35,7 @@ fn plan() -> HostPlan {
 }
 
 /// Gives the connection that came a Desk.
-fn admit(rt: &impl Abort, alloc: Global, host: &mut Host<Desk>) {
+fn admit(rt: &impl Abort, alloc: Global, host: &mut Host<Vec<Desk>>) {
     let mut objects = Vec::new(alloc);
     objects.push(Desk::new(alloc)).expect(rt, "memory");
     host.admit(objects).expect(rt, "a connection");
@@ -61,7 +61,7 @@ enum Told {
     Other,
 }
 
-fn next_told<R: Net + Clock + Abort>(rt: &R, host: &mut Host<Desk>) -> Told {
+fn next_told<R: Net + Clock + Abort>(rt: &R, host: &mut Host<Vec<Desk>>) -> Told {
     let news = host.next(rt).expect(rt, "a host");
     let told = match &news {
         None => Told::Nothing,
@@ -80,13 +80,13 @@ fn next_told<R: Net + Clock + Abort>(rt: &R, host: &mut Host<Desk>) -> Told {
 }
 
 /// Connection 1 comes, and gets a Desk.
-fn expect_came<R: Net + Clock + AllocGlobal + Abort>(rt: &R, host: &mut Host<Desk>) {
+fn expect_came<R: Net + Clock + AllocGlobal + Abort>(rt: &R, host: &mut Host<Vec<Desk>>) {
     check!(rt; matches!(next_told(rt, host), Told::Came));
     admit(rt, rt.alloc(), host);
 }
 
 /// It ends by itself, and none comes after it.
-fn expect_ended<R: Net + Clock + Abort>(rt: &R, host: &mut Host<Desk>) {
+fn expect_ended<R: Net + Clock + Abort>(rt: &R, host: &mut Host<Vec<Desk>>) {
     check!(rt; matches!(next_told(rt, host), Told::Ended));
     check!(rt; matches!(next_told(rt, host), Told::Nothing));
 }

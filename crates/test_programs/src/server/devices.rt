@@ -60,10 +60,9 @@ fn over(alloc: Global, bytes: &[u8], trial: Trial) -> Tried {
 
 fn served_over(alloc: Global, from: Device<&[u8]>, to: Device<Vec<u8>>) -> Tried {
     let (mut from, mut to) = (Tap::new(from), Tap::new(to));
-    let mut objects = [
-        Sample::Desk(Desk::new(alloc)),
-        Sample::Cell(Cell::new(alloc)),
-    ];
+    let mut objects = Vec::new(alloc);
+    drop(objects.push(Sample::Desk(Desk::new(alloc))));
+    drop(objects.push(Sample::Cell(Cell::new(alloc))));
     let ended = serve_each(alloc, &mut from, &mut to, &mut objects, Mode::Plain);
     drop(objects);
     let fault = ended.err();

@@ -1,4 +1,4 @@
-//! What the faults of a server, of a client and of a connection print that no row of test_exchanges comes to, and what their
+//! What the faults of a server, of a client and of a connection print that no row of test_interop comes to, and what their
 //! callers may do.
 
 use crate::devices::ECONNRESET;

@@ -83,7 +83,7 @@ const FRAMES: &[&str] = &[BOOTSTRAP, AT_ONCE, LATER];
 fn take(
     connection: &mut Connection,
     owed: &mut Objects,
-    counters: &mut [Counter],
+    counters: &mut Vec<Counter>,
     bytes: &[u8],
     lends: bool,
 ) -> Option<usize> {
@@ -97,7 +97,7 @@ fn take(
 }
 
 /// A Bootstrap and two calls come for these objects.
-fn call(rt: &impl Abort, alloc: Global, counters: &mut [Counter], lends: bool) {
+fn call(rt: &impl Abort, alloc: Global, counters: &mut Vec<Counter>, lends: bool) {
     let mut connection = Connection::new(alloc, Mode::Plain, Limits::standard(), Some(0));
     let mut owed = Objects::new(alloc);
     for frame in FRAMES {
@@ -113,9 +113,18 @@ fn call(rt: &impl Abort, alloc: Global, counters: &mut [Counter], lends: bool) {
 /// A call that is answered at once is lent. Its object may look at the params in place.
 #[test]
 fn a_call_is_lent(rt: HostRuntime) {
-    let mut counters = [Counter { calls: 0, lent: 0 }];
+    let mut counters = Vec::new(rt.alloc());
+    let counter = Counter { calls: 0, lent: 0 };
+    counters.push(counter).expect(&rt, "memory");
     call(&rt, rt.alloc(), &mut counters, true);
-    check!(&rt; counters[0].calls == 2 && counters[0].lent == 2);
+    expect_counted(&rt, &counters, 2, 2);
     call(&rt, rt.alloc(), &mut counters, false);
-    check!(&rt; counters[0].calls == 4 && counters[0].lent == 2);
+    expect_counted(&rt, &counters, 4, 2);
+    drop(counters);
+}
+
+/// The first object has had so many calls, and so many of them were lent.
+fn expect_counted(rt: &impl Abort, counters: &[Counter], calls: u64, lent: u64) {
+    let first = counters.get(0).expect(rt, "a counter");
+    check!(rt; first.calls == calls && first.lent == lent);
 }

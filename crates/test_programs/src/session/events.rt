@@ -10,7 +10,11 @@ use cp_words::Limits;
 use std::alloc::Global;
 
 /// A session without objects, within these limits, that names one to its peer or none.
-fn session_naming(alloc: Global, limits: SessionLimits, bootstrap: Option<u32>) -> Session<Desk> {
+fn session_naming(
+    alloc: Global,
+    limits: SessionLimits,
+    bootstrap: Option<u32>,
+) -> Session<Vec<Desk>> {
     let options = SessionOptions {
         mode: Mode::Plain,
         messages: Limits::standard(),
@@ -23,7 +27,7 @@ fn session_naming(alloc: Global, limits: SessionLimits, bootstrap: Option<u32>) 
 }
 
 /// The same, that names none.
-fn session(alloc: Global, limits: SessionLimits) -> Session<Desk> {
+fn session(alloc: Global, limits: SessionLimits) -> Session<Vec<Desk>> {
     session_naming(alloc, limits, None)
 }
 

@@ -12,7 +12,7 @@ use std::alloc::Global;
 use std::process::Abort;
 
 /// A session without objects that began at 5,000, of which so many bytes may be kept.
-fn session(alloc: Global, kept: u64) -> Session<Desk> {
+fn session(alloc: Global, kept: u64) -> Session<Vec<Desk>> {
     let options = SessionOptions {
         mode: Mode::Plain,
         messages: Limits::standard(),
@@ -33,7 +33,7 @@ fn session(alloc: Global, kept: u64) -> Session<Desk> {
 /// These bytes come at this time, and then the next limit of time is met at that.
 fn expect_deadline(
     rt: &impl Abort,
-    session: &mut Session<Desk>,
+    session: &mut Session<Vec<Desk>>,
     bytes: &[u8],
     now: u64,
     deadline: u64,
@@ -43,7 +43,7 @@ fn expect_deadline(
 }
 
 /// The session ends at this time, and no sooner.
-fn expect_over(rt: &impl Abort, session: &mut Session<Desk>, deadline: u64) {
+fn expect_over(rt: &impl Abort, session: &mut Session<Vec<Desk>>, deadline: u64) {
     session.tick(deadline.saturating_sub(1));
     check!(rt; !session.is_over());
     session.tick(deadline);
@@ -111,7 +111,7 @@ fn few_bytes_are_kept(rt: HostRuntime) {
 }
 
 /// This frame is the last that goes out, and nothing is taken; once it was written, at 6,000, the peer's close is waited for.
-fn expect_last(rt: &impl Abort, alloc: Global, session: &mut Session<Desk>, frame: &str) {
+fn expect_last(rt: &impl Abort, alloc: Global, session: &mut Session<Vec<Desk>>, frame: &str) {
     check!(rt; session.outgoing() == bytes_of(rt, alloc, &[frame]).as_slice());
     check!(rt; !session.takes_bytes() && !session.is_over());
     let count = session.outgoing().len();
@@ -133,6 +133,21 @@ fn an_abort_says_what_is_kept_once(rt: HostRuntime) {
     drop(session);
 }
 
+#[test]
+fn a_host_allows_no_more(rt: HostRuntime) {
+    // Less is kept than the session's own limit.
+    let alloc = rt.alloc();
+    let mut session = kept_answer(&rt, alloc, 10_000);
+    session.refuse(6_000);
+    expect_last(&rt, alloc, &mut session, TOO_MUCH);
+    check!(&rt; matches!(next_told(&mut session), Told::Limit(Limit::Kept)));
+    // The peer was told once.
+    session.refuse(6_000);
+    check!(&rt; session.is_over() && session.outgoing().is_empty());
+    check!(&rt; matches!(next_told(&mut session), Told::Nothing));
+    drop(session);
+}
+
 /// A session ends by bytes that a frame begins with, and this Abort says why.
 fn expect_refused(rt: &impl Abort, alloc: Global, begin: &str, frame: &str) {
     let mut session = session(alloc, 10_000);
@@ -151,7 +166,7 @@ fn frames_that_are_too_large_are_refused(rt: HostRuntime) {
 }
 
 /// A session that may keep so many bytes keeps the answer to a Bootstrap, and all was written.
-fn kept_answer(rt: &impl Abort, alloc: Global, kept: u64) -> Session<Desk> {
+fn kept_answer(rt: &impl Abort, alloc: Global, kept: u64) -> Session<Vec<Desk>> {
     let bytes = bytes_of(rt, alloc, &[BOOTSTRAP]);
     let mut session = session(alloc, kept);
     expect_deadline(rt, &mut session, &bytes, 6_000, 15_000);
@@ -185,7 +200,7 @@ const DOUBLING: &str = "\
 const WAITING: &[&str] = &[BOOTSTRAP, LATER, DOUBLING];
 
 /// A session with an object that answers later, which may keep so many bytes. Its peer made these calls.
-fn waiting(rt: &impl Abort, alloc: Global, kept: u64) -> Session<Script> {
+fn waiting(rt: &impl Abort, alloc: Global, kept: u64) -> Session<Vec<Script>> {
     let script = Script::new(Vec::new(alloc), Vec::new(alloc));
     let options = SessionOptions {
         mode: Mode::Plain,

@@ -10,7 +10,7 @@ use std::alloc::Global;
 use std::process::Abort;
 
 /// A session with a Desk, of which so many bytes may wait while more is taken.
-fn session(rt: &impl Abort, alloc: Global, ahead: usize) -> Session<Desk> {
+fn session(rt: &impl Abort, alloc: Global, ahead: usize) -> Session<Vec<Desk>> {
     let mut objects = Vec::new(alloc);
     objects.push(Desk::new(alloc)).expect(rt, "memory");
     let options = SessionOptions {
@@ -28,7 +28,7 @@ fn session(rt: &impl Abort, alloc: Global, ahead: usize) -> Session<Desk> {
 }
 
 /// What waits to be written are these frames, and goes out.
-fn expect_out(rt: &impl Abort, alloc: Global, session: &mut Session<Desk>, frames: &[&str]) {
+fn expect_out(rt: &impl Abort, alloc: Global, session: &mut Session<Vec<Desk>>, frames: &[&str]) {
     expect_outgoing(rt, alloc, session, frames);
     write(session, 1);
     check!(rt; session.outgoing().is_empty());

@@ -43,7 +43,7 @@ pub returns-clause-ends : goal.returns-clause-ends
 returns-clause-ends g c =
     let h = c.ending.invariant in
     let none = none_oldest c.ending.self.under_way (sym c.in_default.ensures) in
-    subst (λ qs. EndsEach g.O.Servant.kind (seen g.R.Read.remaining g.W.Write.contents c.args.client.now) qs (seen g.R.Read.remaining g.W.Write.contents c.ending.client))
+    subst (λ qs. EndsEach g.H.Hall.hall (seen g.R.Read.remaining g.W.Write.contents c.args.client.now) qs (seen g.R.Read.remaining g.W.Write.contents c.ending.client))
     (sym (h.1 ∙ ap (λ z. h.0 ++ z) none ∙ append-nil h.0)) h.2
 
 pub returns-clause-same_window : goal.returns-clause-same_window

@@ -8,7 +8,7 @@ abbrev pub invariant-ending : goal.invariant-ending
 invariant-ending g l =
     (ended : List ℕ)
     × (l.fn.self.under_way ≡ ended ++ l.self.under_way)
-    × EndsEach g.O.Servant.kind (seen g.R.Read.remaining g.W.Write.contents l.fn.client) ended (seen g.R.Read.remaining g.W.Write.contents l.client)
+    × EndsEach g.H.Hall.hall (seen g.R.Read.remaining g.W.Write.contents l.fn.client) ended (seen g.R.Read.remaining g.W.Write.contents l.client)
     × (l.self.window ≡ l.fn.self.window)
 
 abbrev pub decreases-ending : goal.decreases-ending

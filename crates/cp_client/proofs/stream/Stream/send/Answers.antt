@@ -22,7 +22,7 @@ returns-in_err-push_back-clause-unsent g c =
     let p = err_from_is_err_and c.from_residual-in_err-push_back.result c.from_residual-in_err-push_back.ensures.1 in
     let old = seen g.R.Read.remaining g.W.Write.contents c.args.client.now in
     let mid = seen g.R.Read.remaining g.W.Write.contents c.make_room.new.client in
-    let room = room_seen g.O.Servant.kind c.args.self.now.under_way old mid (due c.args.self.now) c.self.view_is c.in_ok-make_room.ensures.room in
+    let room = room_seen g.H.Hall.hall c.args.self.now.under_way old mid (due c.args.self.now) c.self.view_is c.in_ok-make_room.ensures.room in
     rw (p.1, p.2, c.in_err-push_back.ensures.items) (forgotten c.in_ok-promised.promised.question mid refl room c.in_ok-promised.ensures.0)
 
 pub returns-clause-sends : goal.returns-clause-sends
@@ -32,7 +32,7 @@ returns-clause-sends g c =
     record {
       left = c.self.inside.under_way.items;
       mid = mid;
-      room = room_seen g.O.Servant.kind c.args.self.now.under_way old mid (due c.args.self.now) c.self.view_is c.in_ok-make_room.ensures.room;
+      room = room_seen g.H.Hall.hall c.args.self.now.under_way old mid (due c.args.self.now) c.self.view_is c.in_ok-make_room.ensures.room;
       question = c.in_ok-promised.promised.question;
       asks = c.in_ok-promised.ensures.0;
       noted =

@@ -1,7 +1,7 @@
 use Rattle.std.proofs.Common.{sym, ◌∙◌}
 use Rattle.cp_objects.specs.WorkOf.{work_of}
 use Rattle.cp_objects.proofs.Living.{lives_none, lives_both}
-use Rattle.cp_objects.proofs.Working.{after_ok, hands_to_user, hands_to_object}
+use Rattle.cp_objects.proofs.Working.{hands_to_user, hands_to_object, after_ok}
 use Rattle.cp_objects.proofs.objects.Objects.hand_back.Goals as goal
 
 pub returns-in_default-clause-done : goal.returns-in_default-clause-done

@@ -1,4 +1,3 @@
-use Rattle.std.proofs.Common.{List}
 use Rattle.cp_objects.specs.Work.{Work, Lives}
 use Rattle.cp_objects.specs.Calling.{MakesCalls}
 use Rattle.cp_objects.specs.WorkOf.{work_of}
@@ -7,6 +6,6 @@ use Rattle.cp_objects.proofs.objects.Objects.make_calls.Given as goal
 -- the calls that are left, after those that were made, are all
 abbrev pub invariant-loop : goal.invariant-loop
 invariant-loop g l =
-    ((last : Work) (others : List g.row.O.Denot) → MakesCalls g.O.Servant.kind l.place (work_of l.self l.connection) last l.objects others
-    → MakesCalls g.O.Servant.kind l.place (work_of l.fn.self l.fn.connection) last l.fn.objects others)
+    ((last : Work) (others : g.row.H.Denot) → MakesCalls g.H.Hall.hall l.number (work_of l.self l.connection) last l.objects others
+    → MakesCalls g.H.Hall.hall l.number (work_of l.fn.self l.fn.connection) last l.fn.objects others)
     × Lives l.fn.connection l.connection

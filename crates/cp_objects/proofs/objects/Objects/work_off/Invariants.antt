@@ -1,4 +1,3 @@
-use Rattle.std.proofs.Common.{List}
 use Rattle.cp_objects.specs.Work.{Work, Lives}
 use Rattle.cp_objects.specs.Rounds.{WorksOff}
 use Rattle.cp_objects.specs.WorkOf.{work_of}
@@ -7,6 +6,6 @@ use Rattle.cp_objects.proofs.objects.Objects.work_off.Given as goal
 -- what works the rest off works all off
 abbrev pub invariant-loop : goal.invariant-loop
 invariant-loop g l =
-    ((last : Work) (others : List g.row.O.Denot) → WorksOff g.O.Servant.kind (work_of l.self l.connection) last l.objects others
-    → WorksOff g.O.Servant.kind (work_of l.fn.self l.fn.connection) last l.fn.objects others)
+    ((last : Work) (others : g.row.H.Denot) → WorksOff g.H.Hall.hall (work_of l.self l.connection) last l.objects others
+    → WorksOff g.H.Hall.hall (work_of l.fn.self l.fn.connection) last l.fn.objects others)
     × Lives l.fn.connection l.connection

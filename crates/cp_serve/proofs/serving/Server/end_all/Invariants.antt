@@ -9,5 +9,5 @@ use Rattle.cp_serve.proofs.serving.Server.end_all.Given as goal
 abbrev pub invariant-loop : goal.invariant-loop
 invariant-loop g l =
     (first : Work) → IsAllDone first (owed l.fn.self) → AllOut l.fn.self
-    → Closes g.O.Servant.kind first l.fn.self l.fn.objects (device g.W.Write.contents l.fn.to) true
-    l.self l.objects (device g.W.Write.contents l.to)
+    → Closes g.O.Servant.kind first l.fn.self l.fn.objects.items (device g.W.Write.contents l.fn.to) true
+    l.self l.objects.items (device g.W.Write.contents l.to)

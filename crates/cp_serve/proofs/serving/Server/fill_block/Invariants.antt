@@ -9,9 +9,9 @@ abbrev pub invariant-filling : goal.invariant-filling
 invariant-filling g l =
     (length l.left ≤ length l.fn.piece)
     × ((mode : Mode) (start : List g.row.O.Denot) (held to : Device) (bytes : List ℕ)
-    → Serves g.O.Servant.kind mode start held bytes l.fn.self l.fn.objects to
+    → Serves g.O.Servant.kind mode start held bytes l.fn.self l.fn.objects.items to
     → (fed : List ℕ) × (l.fn.piece ≡ fed ++ l.left)
-    × Serves g.O.Servant.kind mode start held (bytes ++ fed) l.self l.objects to)
+    × Serves g.O.Servant.kind mode start held (bytes ++ fed) l.self l.objects.items to)
 
 abbrev pub decreases-filling : goal.decreases-filling
 decreases-filling g l = length l.left

@@ -11,6 +11,6 @@ abbrev pub invariant-loop-pieces : goal.invariant-loop-pieces
 invariant-loop-pieces g l =
     (failures_of l.from ≡ failures_of l.fn.from)
     × ((mode : Mode) (start : List g.row.O.Denot) (held : Device)
-    → Serves g.O.Servant.kind mode start held [] l.fn.self l.fn.objects (device g.W.Write.contents l.fn.to) → AllOut l.fn.self
+    → Serves g.O.Servant.kind mode start held [] l.fn.self l.fn.objects.items (device g.W.Write.contents l.fn.to) → AllOut l.fn.self
     → (bytes : List ℕ) × Consumes (g.R.Read.remaining (inner_of l.fn.from)) (g.R.Read.remaining (inner_of l.from)) bytes × (l.pieces ≤ length bytes)
-    × Serves g.O.Servant.kind mode start held bytes l.self l.objects (device g.W.Write.contents l.to) × AllOut l.self)
+    × Serves g.O.Servant.kind mode start held bytes l.self l.objects.items (device g.W.Write.contents l.to) × AllOut l.self)

@@ -20,7 +20,7 @@ pub returns-clause-taken : goal.returns-clause-taken
 returns-clause-taken g c =
     let got = c.in_ok-count.ensures.received in
     takes_front c.args.self.now c.args.piece.now got.0 c.in_ok-count.count _ c.in_ok-count.has_ended
-    (record c.args.self.now { connection = c.receive.new.connection; objects = c.receive.new.self }) c.follow.new.self got.1 got.2 c.requires (rest_of_piece c.args.piece.now c.in_ok-count.count _ refl) got.3 refl c.in_ok-follow.ensures.done
+    (record c.args.self.now { connection = c.receive.new.connection; objects = c.receive.new.self }) c.follow.new.self c.follow.new.objects got.1 got.2 c.requires (rest_of_piece c.args.piece.now c.in_ok-count.count _ refl) got.3 refl c.in_ok-follow.ensures.done
 
 pub returns-clause-shorter : goal.returns-clause-shorter
 returns-clause-shorter g c =

@@ -1,5 +1,4 @@
-use Rattle.std.proofs.Common.{sym, ap, ◌∙◌}
-use Rattle.cp_session.specs.Budget.{taken_of}
+use Rattle.std.proofs.Common.{sym}
 use Rattle.cp_session.proofs.Sharing.{none_taken}
 use Rattle.cp_session.proofs.budget.Budget.new.Goals as goal
 

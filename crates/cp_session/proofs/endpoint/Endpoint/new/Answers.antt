@@ -3,10 +3,12 @@ use Rattle.cp_connection.specs.Link.{Link}
 use Rattle.cp_objects.specs.Work.{Work, begun}
 use Rattle.cp_session.specs.declared.search.Search.{Search}
 use Rattle.cp_session.specs.Service.{new_service}
+use Rattle.cp_session.specs.declared.sweep.Sweep.{Sweep}
 use Rattle.cp_session.proofs.endpoint.Endpoint.new.Goals as goal
 
 pub returns : goal.returns
 returns c =
     let options = c.args.options.now in
-    ap (λ (w : Work). record { work = w; search = c.search_if.result; gave = false }) (c.objects_that.ensures c.with_tail_calls.result ∙ ap (λ (l : Link). begun options.may_call l) c.with_tail_calls.ensures.fresh)
-    ∙ ap (λ (s : Option Search). record (new_service options) { search = s }) c.search_if.ensures
+    ap (λ (w : Work). record { work = w; search = c.search_if.result; gave = false; sweep = c.new.result }) (c.objects_that.ensures c.with_tail_calls.result ∙ ap (λ (l : Link). begun options.may_call l) c.with_tail_calls.ensures.fresh)
+    ∙ ap (λ (s : Option Search). record (new_service options) { search = s; sweep = c.new.result }) c.search_if.ensures
+    ∙ ap (λ (s : Sweep). record (new_service options) { sweep = s }) c.new.ensures

@@ -1,13 +1,11 @@
-use Rattle.std.proofs.Common.{inl, inr, refl, subst}
+use Rattle.std.proofs.Common.{inl, inr, refl}
 use Rattle.std.proofs.lemmas.Bool.{false≢true}
-use Rattle.cp_session.specs.Serves.{MayGive}
-use Rattle.cp_session.specs.Service.{service_of}
 use Rattle.cp_session.proofs.session.Session.gives_more.Goals as goal
 
 pub returns-then-not-is_stopped-clause-more : goal.returns-then-not-is_stopped-clause-more
 returns-then-not-is_stopped-clause-more g c = λ e. (
   λ stopped. false≢true (c.if-not-is_stopped.ensures.1 stopped),
-  subst (λ os. MayGive g.O.Servant.kind (service_of c.args.self.now.endpoint) os) c.as_slice.ensures.value (c.has_more.ensures.more e),
+  c.has_more.ensures.more e,
 )
 
 pub returns-then-not-is_stopped-clause-none : goal.returns-then-not-is_stopped-clause-none

@@ -1,4 +1,5 @@
 use Rattle.std.proofs.Common.{arith}
+use Rattle.net_host.proofs.Floors.{rounds_both}
 use Rattle.net_host.specs.Floor.{begins, turns}
 use Rattle.net_host.proofs.event_loop.EventLoop.round.Goals as goal
 
@@ -12,4 +13,7 @@ pub returns-in_err-turn-clause-turns : goal.returns-in_err-turn-clause-turns
 returns-in_err-turn-clause-turns g c = turns c.loop.invariant.turns c.turn.ensures.turns
 
 pub returns-clause-turns : goal.returns-clause-turns
-returns-clause-turns g c = rw (c.sweep.ensures.guests, c.sweep.ensures.ended, c.sweep.ensures.budget) c.loop.invariant.turns
+returns-clause-turns g c = turns (rounds_both c.loop.invariant.turns c.in_ok-wake_each.ensures.turns) c.sweep.ensures.turns
+
+pub returns-in_err-wake_each-clause-turns : goal.returns-in_err-wake_each-clause-turns
+returns-in_err-wake_each-clause-turns g c = rounds_both c.loop.invariant.turns c.wake_each.ensures.turns

@@ -7,5 +7,5 @@ use Rattle.net_host.proofs.host.Host.next.Given as goal
 abbrev pub invariant-loop : goal.invariant-loop
 invariant-loop g l = record {
   goes_on : GoesOn (roster l.fn.self) (roster l.self);
-  turns : Rounds g.O.Servant.kind (connections_of l.fn.self) (connections_of l.self);
+  turns : Rounds g.H.Hall.hall (connections_of l.fn.self) (connections_of l.self);
 }

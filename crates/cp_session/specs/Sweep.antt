@@ -1,0 +1,53 @@
+-- When objects that nothing refers to are sought, and dropped.
+use Rattle.std.specs.Prelude.{◌≡◌, ◌⊎◌, ℕ, ◌<◌, ◌≤◌, ◌+◌, ◌-◌, ◌/◌, ◌^◌, min, nat_lt, if◌then◌else◌, Option, Some, None}
+use Rattle.std.specs.Option.{unwrap_or}
+use Rattle.cp_makers.specs.Hall.{HallKind}
+use Rattle.cp_objects.specs.Dropping.{DropsIdle}
+use Rattle.cp_objects.specs.Work.{Work}
+use Rattle.cp_session.specs.declared.sweep.Sweep.{Sweep}
+use Rattle.cp_session.specs.Service.{Service}
+
+-- the sum, as far as 64 bits go
+abbrev pub sum_of : ℕ → ℕ → ℕ
+sum_of a b = min (a + b) (2 ^ 64 - 1)
+
+-- that time has come
+abbrev pub HasCome : ℕ → Option ℕ → Type 0
+HasCome now None = ⊥
+HasCome now (Some at) = at ≤ now
+
+-- So many messages were taken as are to be taken first, or the time has come.
+abbrev pub IsSweepDue : ℕ → ℕ → Sweep → Type 0
+IsSweepDue messages now sweep = HasCome now sweep.at ⊎ (sweep.from ≤ messages)
+
+-- They weren't sought at this time, and are a second after the first such time at the latest.
+abbrev pub later : ℕ → Sweep → Sweep
+later now sweep = record sweep { at = Some (unwrap_or sweep.at (sum_of now 1000)) }
+
+-- how many messages are to be taken first where so many objects are left: one more, and one for each thirty-two objects
+abbrev pub paid_by : ℕ → ℕ → ℕ
+paid_by objects messages = sum_of (sum_of messages 1) (objects / 32)
+
+-- They were sought where there were so many, after so many messages, and so many are left. If some went, others may go that were kept by them: so they are sought
+-- again at once.
+abbrev pub swept_from : ℕ → ℕ → ℕ → ℕ → Sweep
+swept_from before objects messages now = record { from = paid_by objects messages; at = if nat_lt objects before then Some now else None }
+
+module _ {H : Type 0} (hall : HallKind H) where
+  -- The objects that nothing refers to are dropped.
+  pub record SweepsAll (now : ℕ) (old new : Service) (objects others : H) : Type 0 where
+    pub work : Work
+    pub drops : DropsIdle hall old.work work objects others
+    pub is : new ≡ record old { work = work; sweep = swept_from (hall.guests objects) (hall.guests others) work.link.tally.messages now }
+
+  -- They are, where messages or time paid for it, and else later; and where no object may go nothing is done.
+  pub data Sweeps (now : ℕ) (old new : Service) (objects others : H) : Type 0 where
+    none_may_go : hall.guests objects ≡ 0 → new ≡ old → others ≡ objects → Sweeps now old new objects others
+    waits : 1 ≤ hall.guests objects → (IsSweepDue old.work.link.tally.messages now old.sweep → ⊥) → new ≡ record old { sweep = later now old.sweep } → others ≡ objects
+        → Sweeps now old new objects others
+    sweeps : 1 ≤ hall.guests objects → IsSweepDue old.work.link.tally.messages now old.sweep → SweepsAll now old new objects others → Sweeps now old new objects others
+
+  -- Time passed: they are dropped where the time has come.
+  pub data SweepsInTime (now : ℕ) (old new : Service) (objects others : H) : Type 0 where
+    too_early : (HasCome now old.sweep.at → ⊥) → new ≡ old → others ≡ objects → SweepsInTime now old new objects others
+    in_time : HasCome now old.sweep.at → SweepsAll now old new objects others → SweepsInTime now old new objects others

@@ -1,0 +1,58 @@
+//! Tests `notebook_client` and `notebook_server` in memory: what one sends, the other receives.
+
+use crate::notebook_client::talk;
+use crate::notebook_server::{Served, new_notebook, new_shelf};
+use jamdrosek::server::Family;
+use jamdrosek::session::{Session, SessionLimits, SessionOptions};
+use jamdrosek::{Limits, Mode};
+use std::alloc::Global;
+
+pub fn run(rt: &HostRuntime) -> anyhow::Result<()> {
+    let alloc = rt.alloc();
+    // The second time the client goes on, as the answers are there.
+    let (calls, _) = exchange(alloc, &[])?;
+    let (answers, opened) = answers_to(alloc, &calls)?;
+    let (calls, said) = exchange(alloc, &answers)?;
+    let (_, left) = answers_to(alloc, &calls)?;
+    println!(rt; "{}", said?.as_str())?;
+    println!(rt; "{opened} objects, and {left} once the page is dropped")?;
+    Ok(())
+}
+
+/// What a client sends that receives these bytes, and what it says.
+fn exchange(alloc: Global, from: &[u8]) -> anyhow::Result<(Vec<u8>, anyhow::Result<String>)> {
+    talk(alloc, from, Vec::new(alloc))
+}
+
+/// What a notebook sends for these bytes, and how many objects there are then.
+fn answers_to(alloc: Global, bytes: &[u8]) -> anyhow::Result<(Vec<u8>, usize)> {
+    let mut objects = Family::new(alloc);
+    let shelf = new_shelf(alloc)?;
+    objects.add(new_notebook(alloc, &shelf, 1)?)?;
+    let options = SessionOptions {
+        mode: Mode::Plain,
+        messages: Limits::standard(),
+        bootstrap: Some(0),
+        may_call: true,
+        releases_idle: true,
+        limits: SessionLimits::standard(),
+    };
+    let mut server = Session::new(alloc, &options, objects, 0);
+    let sent = take(alloc, &mut server, bytes);
+    let left = server.hall().len();
+    drop(server);
+    Ok((sent?, left))
+}
+
+/// Gives a server these bytes, and then time to drop what nobody has. Returns what it sends.
+fn take(
+    alloc: Global,
+    server: &mut Session<Family<Served>>,
+    bytes: &[u8],
+) -> anyhow::Result<Vec<u8>> {
+    for byte in bytes {
+        server.receive(&[*byte], 0)?;
+    }
+    server.tick(1_000);
+    Ok(Vec::from_slice(alloc, server.outgoing())?)
+}

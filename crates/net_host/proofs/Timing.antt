@@ -1,0 +1,27 @@
+-- What follows of a test of a time.
+use Rattle.std.proofs.Common.{◌≡◌, ◌≤◌, ◌↔◌, ◌∙◌, ◌==◌, ℕ, Bool, false, IsTrue, Option, Some, None, sym, ap, subst, arith}
+use Rattle.std.proofs.lemmas.Bool.{eq-eqb, eqb-true, false≢true}
+use Rattle.net_host.specs.Timing.{ComesBy}
+
+pub same_some : (a b : ℕ) → Some a ≡ Some b → a ≡ b
+same_some a b e = grind (arith, e)
+
+-- a time comes by this one, or none is there
+pub comes_at : (time : Option ℕ) (at first : ℕ) (b : Bool) → Some first ≡ time → (IsTrue b ↔ (first ≤ at)) → IsTrue b ↔ ComesBy at time
+comes_at time at first b there by = (
+  λ t. (first, sym there, by.0 t),
+  λ comes. by.1 (subst (λ d. d ≤ at) (same_some comes.0 first (sym comes.1 ∙ sym there)) comes.2),
+)
+
+pub comes_none : (time : Option ℕ) (at : ℕ) → None ≡ time → IsTrue false ↔ ComesBy at time
+comes_none time at none = (λ t. absurd (false≢true t), λ comes. absurd (grind (arith, none, comes.1)))
+
+-- a time is this one, or none is there
+pub is_at : (time : Option ℕ) (at last : ℕ) (b : Bool) → b ≡ (last == at) → Some last ≡ time → IsTrue b ↔ (time ≡ Some at)
+is_at time at last b is there = (
+  λ t. sym there ∙ ap (λ x. Some x) (eqb-true last at (sym is ∙ t)),
+  λ same. is ∙ eq-eqb last at (same_some last at (there ∙ same)),
+)
+
+pub is_none : (time : Option ℕ) (at : ℕ) → None ≡ time → IsTrue false ↔ (time ≡ Some at)
+is_none time at none = (λ t. absurd (false≢true t), λ same. absurd (grind (arith, none, same)))

@@ -1,0 +1,11 @@
+use Rattle.std.proofs.Common.{◌≤◌}
+use Rattle.slab.specs.Slab.{slab_len}
+use Rattle.net_host.specs.Floor.{Rounds, floor_of}
+use Rattle.net_host.proofs.event_loop.EventLoop.wake_each.Given as goal
+
+-- no more are served, and some objects were woken
+abbrev pub invariant-loop : goal.invariant-loop
+invariant-loop g l = record {
+  no_more : slab_len l.self.guests ≤ slab_len l.fn.self.guests;
+  turns : Rounds g.H.Hall.hall (floor_of l.fn.self) (floor_of l.self);
+}

@@ -1,0 +1,364 @@
+//! A notebook: its pages are objects, and it tells watchers what was added.
+
+use cp_makers::{Any2, Here, Maker, Waker};
+use cp_refs::{Cap, Caps, Outcome, Request};
+use cp_servants::{
+    Ask, Content, Reply, Settled, named_imports, no_such_method, outcome_of, word_in,
+};
+use cp_vat_machine::Ids;
+use std::alloc::{AllocError, Global};
+use std::cell::RefCell;
+use std::collections::VecDeque;
+use std::mem;
+use std::rc::Rc;
+
+/// Both interfaces.
+pub(crate) const NOTES: u64 = 0xe5a1_0000_0000_0007;
+
+/// Methods of a notebook: a new page of a number, a watcher more, a note more, and a word after some milliseconds.
+pub(crate) const OPEN: u16 = 0;
+
+pub(crate) const WATCH: u16 = 1;
+
+pub(crate) const ADD: u16 = 2;
+
+pub(crate) const REMIND: u16 = 3;
+
+/// Methods of a page: its number, to make a page that it keeps, that page, to keep it no more, and to
+/// make one that it only names.
+pub(crate) const READ: u16 = 0;
+
+pub(crate) const KEEP: u16 = 1;
+
+pub(crate) const KEPT: u16 = 2;
+
+pub(crate) const GIVE_UP: u16 = 3;
+
+pub(crate) const NAME: u16 = 4;
+
+/// All objects of a connection.
+pub(crate) type Served = Any2<Book, Page>;
+
+/// The notes of all sessions, and whom to wake when there is one more.
+#[derive(Drop)]
+pub(crate) struct Notes {
+    words: Vec<u64>,
+    wakers: Vec<Waker>,
+}
+
+pub(crate) type Shared = Rc<RefCell<Notes>>;
+
+/// No notes.
+pub(crate) fn new_notes(alloc: Global) -> Result<Shared, AllocError> {
+    let notes = Notes {
+        words: Vec::new(alloc),
+        wakers: Vec::new(alloc),
+    };
+    Ok(Rc::new(alloc, RefCell::new(notes))?)
+}
+
+/// The notebook of a session.
+#[derive(Drop)]
+pub(crate) struct Book {
+    pub(crate) notes: Shared,
+    watcher: Option<u32>,
+    /// How many notes its watcher was told of.
+    told: usize,
+    asks: VecDeque<Ask>,
+    /// What it says when it is woken next.
+    reminder: Option<(u64, u64)>,
+}
+
+/// A page.
+#[derive(Drop)]
+pub(crate) struct Page {
+    number: u64,
+    /// A page that it keeps.
+    kept: Option<Cap>,
+}
+
+/// The notebook of a session.
+pub(crate) fn new_book(alloc: Global, notes: &Shared) -> Result<Served, AllocError> {
+    Ok(Served::First(Book {
+        notes: Rc::clone(notes)?,
+        watcher: None,
+        told: 0,
+        asks: VecDeque::new(alloc),
+        reminder: None,
+    }))
+}
+
+fn new_page(number: u64) -> Served {
+    Served::Second(Page { number, kept: None })
+}
+
+/// An answer that keeps no import.
+fn now(alloc: Global, outcome: Outcome, caps: &Caps) -> Result<Reply, AllocError> {
+    match named_imports(alloc, caps) {
+        Ok(gives_up) => Ok(Reply::Now { outcome, gives_up }),
+        Err(error) => {
+            drop(outcome);
+            Err(error)
+        }
+    }
+}
+
+/// The same without content.
+pub(crate) fn done(alloc: Global, caps: &Caps) -> Result<Reply, AllocError> {
+    now(alloc, outcome_of(alloc, Ok(Content::new(alloc)))?, caps)
+}
+
+/// The same of a capability.
+fn named(alloc: Global, cap: Cap, caps: &Caps) -> Result<Reply, AllocError> {
+    now(
+        alloc,
+        outcome_of(alloc, Content::new(alloc).cap(cap))?,
+        caps,
+    )
+}
+
+/// The same of a method that there isn't.
+fn refused(alloc: Global, caps: &Caps) -> Result<Reply, AllocError> {
+    now(alloc, no_such_method(alloc)?, caps)
+}
+
+impl Notes {
+    /// Adds a note, and has all woken.
+    fn add(&mut self, word: u64, here: &mut Here<Served>) -> Result<(), AllocError> {
+        self.words.push(word)?;
+        for waker in &self.wakers {
+            here.wake(*waker)?;
+        }
+        Ok(())
+    }
+}
+
+impl Book {
+    /// What a call comes to.
+    fn reply(&mut self, request: &Request, here: &mut Here<Served>) -> Result<Reply, AllocError> {
+        let (alloc, caps) = (here.alloc(), &request.caps);
+        let word = word_in(&request.content, 0);
+        match request.method {
+            OPEN => named(alloc, here.make(new_page(word))?, caps),
+            WATCH => self.watch(caps, here),
+            ADD => {
+                self.add(word, here)?;
+                done(alloc, caps)
+            }
+            REMIND => {
+                here.wake_after(word)?;
+                self.reminder = Some((here.now().saturating_add(word), word));
+                done(alloc, caps)
+            }
+            _ => refused(alloc, caps),
+        }
+    }
+
+    /// Keeps a watcher, if one is named.
+    fn watch(&mut self, caps: &Caps, here: &mut Here<Served>) -> Result<Reply, AllocError> {
+        if let Some(Cap::Import(import)) = caps.caps().first() {
+            self.watcher = Some(*import);
+        }
+        if let Ok(mut notes) = self.notes.try_borrow_mut() {
+            let pushed = notes.wakers.push(here.waker());
+            drop(notes);
+            pushed?;
+        }
+        let alloc = here.alloc();
+        Ok(Reply::Now {
+            outcome: outcome_of(alloc, Ok(Content::new(alloc)))?,
+            gives_up: Ids::new(Vec::new(alloc)),
+        })
+    }
+
+    /// Adds a note for all.
+    fn add(&mut self, word: u64, here: &mut Here<Served>) -> Result<(), AllocError> {
+        let Ok(mut notes) = self.notes.try_borrow_mut() else {
+            return Ok(());
+        };
+        let added = notes.add(word, here);
+        drop(notes);
+        added
+    }
+
+    /// Has a watcher told of a word.
+    fn tell(&mut self, alloc: Global, word: u64) -> Result<(), AllocError> {
+        let Some(watcher) = self.watcher else {
+            return Ok(());
+        };
+        let Ok(content) = Content::new(alloc).word(word) else {
+            return Err(AllocError);
+        };
+        Ok(
+            self.asks.push_back(Ask {
+                cap: Cap::Import(watcher),
+                request: content.request(NOTES, ADD),
+                mark: word,
+            })?,
+        )
+    }
+
+    /// Has its watcher told of the notes that it wasn't told of.
+    fn tell_all(&mut self, alloc: Global) -> Result<(), AllocError> {
+        let words = self.words_to_tell(alloc)?;
+        let told = self.tell_each(alloc, &words);
+        drop(words);
+        told
+    }
+
+    fn tell_each(&mut self, alloc: Global, words: &[u64]) -> Result<(), AllocError> {
+        for word in words {
+            self.told = self.told.saturating_add(1);
+            self.tell(alloc, *word)?;
+        }
+        Ok(())
+    }
+
+    /// The notes that its watcher wasn't told of.
+    fn words_to_tell(&self, alloc: Global) -> Result<Vec<u64>, AllocError> {
+        match self.notes.try_borrow() {
+            Ok(notes) => {
+                let words = notes.words.get(self.told..).unwrap_or(&[]).to_vec(alloc);
+                drop(notes);
+                words
+            }
+            Err(_) => Ok(Vec::new(alloc)),
+        }
+    }
+}
+
+impl Maker for Book {
+    type Makes = Served;
+
+    fn call(
+        &mut self,
+        _ticket: u64,
+        request: Request,
+        here: &mut Here<Served>,
+    ) -> Result<Reply, AllocError> {
+        let reply = self.reply(&request, here);
+        drop(request);
+        reply
+    }
+
+    fn poll(&mut self, here: &mut Here<Served>) -> Result<Option<Settled>, AllocError> {
+        self.tell_all(here.alloc())?;
+        if let Some((at, word)) = self.reminder {
+            if at <= here.now() {
+                self.reminder = None;
+                self.tell(here.alloc(), word)?;
+            }
+        }
+        Ok(None)
+    }
+
+    fn ask(&mut self, _here: &mut Here<Served>) -> Result<Option<Ask>, AllocError> {
+        Ok(self.asks.pop_front())
+    }
+
+    fn told(
+        &mut self,
+        _mark: u64,
+        outcome: Outcome,
+        _here: &mut Here<Served>,
+    ) -> Result<(), AllocError> {
+        drop(outcome);
+        Ok(())
+    }
+}
+
+impl Page {
+    /// What a call comes to.
+    fn reply(&mut self, request: &Request, here: &mut Here<Served>) -> Result<Reply, AllocError> {
+        let (alloc, caps) = (here.alloc(), &request.caps);
+        let word = word_in(&request.content, 0);
+        match request.method {
+            READ => {
+                let outcome = outcome_of(alloc, Content::new(alloc).word(self.number))?;
+                now(alloc, outcome, caps)
+            }
+            KEEP => {
+                self.give_up(here)?;
+                self.keep(word, here)?;
+                done(alloc, caps)
+            }
+            KEPT => named(alloc, self.kept(alloc)?, caps),
+            GIVE_UP => {
+                self.give_up(here)?;
+                done(alloc, caps)
+            }
+            NAME => {
+                let cap = here.make(new_page(word))?;
+                drop(mem::replace(&mut self.kept, Some(cap)));
+                done(alloc, caps)
+            }
+            _ => refused(alloc, caps),
+        }
+    }
+
+    /// Keeps its page no more.
+    fn give_up(&mut self, here: &mut Here<Served>) -> Result<(), AllocError> {
+        let Some(kept) = self.kept.take() else {
+            return Ok(());
+        };
+        let given_up = here.give_up(&kept);
+        drop(kept);
+        given_up
+    }
+
+    /// Makes a page that it keeps.
+    fn keep(&mut self, number: u64, here: &mut Here<Served>) -> Result<(), AllocError> {
+        let cap = here.make(new_page(number))?;
+        match here.keep(&cap) {
+            Ok(()) => {
+                drop(mem::replace(&mut self.kept, Some(cap)));
+                Ok(())
+            }
+            Err(error) => {
+                drop(cap);
+                Err(error)
+            }
+        }
+    }
+
+    /// The page that it keeps or names, if there is one.
+    fn kept(&self, alloc: Global) -> Result<Cap, AllocError> {
+        match &self.kept {
+            Some(cap) => cap.copy(alloc),
+            None => Ok(Cap::None),
+        }
+    }
+}
+
+impl Maker for Page {
+    type Makes = Served;
+
+    fn call(
+        &mut self,
+        _ticket: u64,
+        request: Request,
+        here: &mut Here<Served>,
+    ) -> Result<Reply, AllocError> {
+        let reply = self.reply(&request, here);
+        drop(request);
+        reply
+    }
+
+    fn poll(&mut self, _here: &mut Here<Served>) -> Result<Option<Settled>, AllocError> {
+        Ok(None)
+    }
+
+    fn ask(&mut self, _here: &mut Here<Served>) -> Result<Option<Ask>, AllocError> {
+        Ok(None)
+    }
+
+    fn told(
+        &mut self,
+        _mark: u64,
+        outcome: Outcome,
+        _here: &mut Here<Served>,
+    ) -> Result<(), AllocError> {
+        drop(outcome);
+        Ok(())
+    }
+}
