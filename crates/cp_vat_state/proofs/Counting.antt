@@ -1,5 +1,6 @@
 -- How often things are counted.
-use Rattle.std.proofs.Common.{◌≡◌, ℕ, ◌+◌, ◌-◌, ◌<◌, ◌≤◌, ◌==◌, Bool, true, false, List, take, length, get_or, refl, sym, arith}
+use Rattle.std.proofs.Common.{◌≡◌, ℕ, ◌+◌, ◌-◌, ◌<◌, ◌≤◌, ◌==◌, Bool, true, false, List, Option, None, take, length, get_or, refl, sym, arith}
+use Rattle.std.proofs.lemmas.Bool.Decides.{nat_tests}
 use Rattle.std.proofs.lemmas.List.Sums.{sum_by_more}
 use Rattle.std.specs.Option.{unwrap_or}
 use Rattle.std.specs.Ordering.{nat_cmp}
@@ -9,7 +10,7 @@ use Rattle.cp_tables.proofs.TableLemmas.{get-insert_same, get-insert_other, get-
 use Rattle.cp_vat_machine.proofs.Basics.{is_equal, not_equal}
 use Rattle.cp_refs.specs.declared.cap.Cap.{Cap}
 use Rattle.cp_refs.specs.declared.cap.Cap.TheVariants as caps
-use Rattle.cp_vat_state.specs.Sought.{is_sought, is_named, named_by}
+use Rattle.cp_vat_state.specs.Sought.{is_same, is_sought, is_named, key_of, named_by}
 use Rattle.cp_vat_state.specs.Counts.{once, times_named, times_in}
 use Rattle.cp_vat_state.specs.declared.sought.Sought.{Sought}
 use Rattle.cp_vat_state.specs.declared.sought.Sought.TheVariants as sought
@@ -42,6 +43,30 @@ module _ (t : Table ℕ) where
 
 pub counted_none : (n : ℕ) → unwrap_or (get (empty {X = ℕ} {R = nat_cmp}) n) 0 ≡ 0
 counted_none n = rw (get-empty nat_cmp n) refl
+
+-- what isn't there was counted 0 times
+pub not_counted : (o : Option ℕ) → o ≡ None → unwrap_or o 0 ≡ 0
+not_counted o none = rw none refl
+
+-- ---- keys
+-- two have one key exactly if they are the same
+pub same_key : (x s : Sought) → (key_of x == key_of s) ≡ is_same s x
+same_key (sought.Import i) (sought.Import j) = grind (arith, nat_tests)
+same_key (sought.Import i) (sought.Promise r) = grind (arith, nat_tests)
+same_key (sought.Import i) (sought.Object l) = grind (arith, nat_tests)
+same_key (sought.Import i) (sought.PathOf n) = grind (arith, nat_tests)
+same_key (sought.Promise p) (sought.Import j) = grind (arith, nat_tests)
+same_key (sought.Promise p) (sought.Promise r) = grind (arith, nat_tests)
+same_key (sought.Promise p) (sought.Object l) = grind (arith, nat_tests)
+same_key (sought.Promise p) (sought.PathOf n) = grind (arith, nat_tests)
+same_key (sought.Object k) (sought.Import j) = grind (arith, nat_tests)
+same_key (sought.Object k) (sought.Promise r) = grind (arith, nat_tests)
+same_key (sought.Object k) (sought.Object l) = grind (arith, nat_tests)
+same_key (sought.Object k) (sought.PathOf n) = grind (arith, nat_tests)
+same_key (sought.PathOf q) (sought.Import j) = grind (arith, nat_tests)
+same_key (sought.PathOf q) (sought.Promise r) = grind (arith, nat_tests)
+same_key (sought.PathOf q) (sought.Object l) = grind (arith, nat_tests)
+same_key (sought.PathOf q) (sought.PathOf n) = grind (arith, nat_tests)
 
 -- ---- what is named by capabilities
 pub sought_named : (s : Sought) (cap : Cap) → is_sought s cap ≡ is_named s (named_by cap)

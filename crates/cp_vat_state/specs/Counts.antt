@@ -3,16 +3,15 @@ use Rattle.std.specs.Prelude.{◌≡◌, ℕ, ◌+◌, ◌-◌, Bool, cond, List
 use Rattle.std.specs.List.{count_by}
 use Rattle.std.specs.Option.{unwrap_or}
 use Rattle.std.specs.FinMap.{get}
+use Rattle.cp_tables.specs.Table.{Table}
 use Rattle.cp_refs.specs.declared.cap.Cap.{Cap}
-use Rattle.cp_vat_state.specs.Sought.{is_sought, is_named}
+use Rattle.cp_vat_state.specs.Sought.{is_sought, is_named, key_of}
 use Rattle.cp_vat_state.specs.declared.sought.Sought.{Sought}
-use Rattle.cp_vat_state.specs.declared.sought.Sought.TheVariants as sought
-use Rattle.cp_vat_state.specs.declared.counts.Counts.{Counts}
 use Rattle.cp_vat_state.specs.declared.holders.Holders.{Holders}
 
 -- how often a number was counted
-abbrev pub count_at : Counts → ℕ → ℕ
-count_at c n = unwrap_or (get c.counts n) 0
+abbrev pub count_at : Table ℕ → ℕ → ℕ
+count_at counts n = unwrap_or (get counts n) 0
 
 -- 1 where it is so
 abbrev pub once : Bool → ℕ
@@ -20,10 +19,7 @@ once b = cond b 1 0
 
 -- how often it is held
 abbrev pub number_of : Holders → Sought → ℕ
-number_of h (sought.Import i) = count_at h.imports i
-number_of h (sought.Promise p) = count_at h.promises p
-number_of h (sought.Object k) = count_at h.objects k
-number_of h (sought.PathOf q) = count_at h.questions q
+number_of h s = count_at h.counts (key_of s)
 
 -- how often it is what is named
 abbrev pub times_named : Option Sought → Sought → ℕ

@@ -2,7 +2,6 @@ pub mod Halts
 pub mod Index
 pub mod Numbers
 pub mod Queue
-pub mod Ended
 pub mod Overs
 pub mod Paths
 pub mod Joined

@@ -9,12 +9,10 @@ use Rattle.cp_refs.specs.declared.call.WaitingCall.{WaitingCall}
 use Rattle.cp_refs.specs.declared.route.Gate.{Gate}
 use Rattle.cp_refs.specs.declared.route.Gate.TheVariants as gates
 use Rattle.cp_vat_machine.specs.State.{Over, Waiting, gave}
-use Rattle.cp_vat_state.specs.declared.gates.Overs.{Overs}
 use Rattle.cp_vat_state.specs.declared.gates.Gift.{Gift}
 use Rattle.cp_vat_state.specs.declared.gates.Gift.TheVariants as gifts
-
-abbrev pub over_of : Overs → Over
-over_of o = record { answers = o.answers; promises = o.promises; questions = o.questions; embargoes = o.embargoes }
+use Rattle.cp_vat_state.specs.declared.overs.EarlierGates.{EarlierGates}
+use Rattle.cp_vat_state.specs.declared.overs.Overs.{Overs}
 
 -- the gate that ends, at no path
 abbrev pub gate_of : Gift → Gate
@@ -36,6 +34,17 @@ over_with over (gifts.Answer a outcome) = record over { answers = insert over.an
 over_with over (gifts.Promise p value) = record over { promises = insert over.promises p value }
 over_with over (gifts.Question q outcome) = record over { questions = insert over.questions q outcome }
 over_with over (gifts.Embargo n cap) = record over { embargoes = insert over.embargoes n cap }
+
+-- the gates that ended: the earlier ones, and the last one if there is one
+abbrev pub earlier_of : EarlierGates → Over
+earlier_of e = record { answers = e.answers; promises = e.promises; questions = e.questions; embargoes = e.embargoes }
+
+abbrev pub with_last : Over → Option Gift → Over
+with_last over None = over
+with_last over (Some gift) = over_with over gift
+
+abbrev pub over_of : Overs → Over
+over_of o = with_last (earlier_of o.earlier) o.last
 
 -- there is a call, and its gate ended
 abbrev pub ended_at : Over → Option WaitingCall → Bool

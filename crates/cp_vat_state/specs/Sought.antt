@@ -1,5 +1,5 @@
 -- What is looked for among the capabilities that are kept.
-use Rattle.std.specs.Prelude.{◌==◌, ℕ, Bool, false, List, [], Option, Some, None}
+use Rattle.std.specs.Prelude.{◌==◌, ◌+◌, ◌*◌, ℕ, Bool, false, List, [], Option, Some, None}
 use Rattle.cp_refs.specs.Contents.{question_memory}
 use Rattle.cp_refs.specs.declared.cap.Cap.{Cap}
 use Rattle.cp_refs.specs.declared.cap.Cap.TheVariants as caps
@@ -16,6 +16,13 @@ is_sought (sought.Import i) = is_import i
 is_sought (sought.Promise p) = is_promise p
 is_sought (sought.Object k) = is_object k
 is_sought (sought.PathOf q) = is_pipelined_of q
+
+-- the number under which it is counted
+abbrev pub key_of : Sought → ℕ
+key_of (sought.Import i) = 4 * i
+key_of (sought.Promise p) = 4 * p + 1
+key_of (sought.Object k) = 4 * k + 2
+key_of (sought.PathOf q) = 4 * q + 3
 
 -- what a capability is found as
 abbrev pub named_by : Cap → Option Sought

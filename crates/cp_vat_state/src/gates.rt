@@ -1,17 +1,15 @@
 //! The calls that wait, what the gates gave that ended in this event, and the ticket of the next call.
 
-ghost use Rattle.std.specs.Prelude.{◌≡◌, ◌+◌, ◌-◌, ◌^◌, ◌<◌, ltb, is_some, None, IfOk, OnOk, IfSome, MatchOption, option_copied};
-ghost use Rattle.std.specs.Option.{option_map};
+ghost use Rattle.std.specs.Prelude.{◌≡◌, ◌+◌, ◌-◌, ◌^◌, ◌<◌, ltb, None, IfOk, OnOk, IfSome, MatchOption, option_copied};
 ghost use Rattle.std.specs.List.{flat_map, list_any};
 ghost use Rattle.std.specs.FinMap as map;
-ghost use Rattle.cp_refs.specs.At.{cap_at};
 ghost use Rattle.cp_vat_machine.specs.InUse.{is_at_promise, is_at_question};
-ghost use Rattle.cp_vat_machine.specs.State.{gave, none_over};
+ghost use Rattle.cp_vat_machine.specs.State.{none_over};
 ghost use Rattle.cp_vat_state.specs.Sought.{is_sought};
-ghost use Rattle.cp_vat_state.specs.Overs.{over_of, gate_of, bare_gate, over_with, NoneOverIn, IsNextIn};
+ghost use Rattle.cp_vat_state.specs.Overs.{over_of, bare_gate, over_with, NoneOverIn, IsNextIn};
 
 use crate::counted_calls::CountedCalls;
-use crate::ended::EndedGates;
+use crate::overs::{EarlierGates, Overs};
 use crate::sought::Sought;
 use cp_refs::{Cap, Gate, KeptOutcome, Path, PromiseId, WaitingCall};
 use std::alloc::{AllocError, Global};
@@ -40,7 +38,7 @@ impl Drop for Gift {
 
 impl Gift {
     ghost use Rattle.std.specs.Prelude.{◌≡◌, OnOk};
-    ghost use Rattle.cp_vat_state.specs.Overs.{gate_of, over_of, over_with};
+    ghost use Rattle.cp_vat_state.specs.Overs.{earlier_of, gate_of, over_with};
 
     /// The gate that ends, at no path.
     fn gate(&self, alloc: Global) -> Gate
@@ -54,15 +52,15 @@ impl Gift {
         }
     }
 
-    /// Puts what the gate gave with what the others gave.
-    fn put_into(self, over: &mut Overs) -> Result<(), AllocError>
-        ensures { OnOk result (over_of over.new ≡ over_with (over_of over.old) self) }
+    /// Puts what the gate gave with what earlier gates gave.
+    pub(crate) fn put_into(self, earlier: &mut EarlierGates) -> Result<(), AllocError>
+        ensures { OnOk result (earlier_of earlier.new ≡ over_with (earlier_of earlier.old) self) }
     {
         match self {
-            Gift::Answer(id, outcome) => over.answers.put(id, outcome),
-            Gift::Promise(id, value) => over.promises.put(id, value),
-            Gift::Question(id, outcome) => over.questions.put(id, outcome),
-            Gift::Embargo(id, cap) => over.embargoes.put(id, cap),
+            Gift::Answer(id, outcome) => earlier.answers.put(id, outcome),
+            Gift::Promise(id, value) => earlier.promises.put(id, value),
+            Gift::Question(id, outcome) => earlier.questions.put(id, outcome),
+            Gift::Embargo(id, cap) => earlier.embargoes.put(id, cap),
         }
     }
 }
@@ -239,7 +237,7 @@ impl Gates {
         }
         let gate = gift.gate(self.alloc);
         self.calls.end(&gate)?;
-        if let Err(error) = gift.put_into(&mut self.over) {
+        if let Err(error) = self.over.put(gift) {
             self.is_torn = true;
             return Err(error);
         }
@@ -272,85 +270,6 @@ impl Gates {
         ensures { self.new ≡ with_over self.old none_over }
     {
         self.over = Overs::new(self.alloc);
-    }
-}
-
-/// What the gates gave that ended.
-struct Overs {
-    answers: EndedGates<KeptOutcome>,
-    promises: EndedGates<Cap>,
-    questions: EndedGates<KeptOutcome>,
-    embargoes: EndedGates<Cap>,
-}
-
-// Not derived: a function that lets one go calls this one, and need not prove the drop of all that it holds.
-impl Drop for Overs {
-    fn drop(self) {
-        let Overs {
-            answers: _,
-            promises: _,
-            questions: _,
-            embargoes: _,
-        } = self;
-    }
-}
-
-impl Overs {
-    fn new(alloc: Global) -> Overs
-        ensures { over_of result ≡ none_over }
-    {
-        Overs {
-            answers: EndedGates::new(alloc),
-            promises: EndedGates::new(alloc),
-            questions: EndedGates::new(alloc),
-            embargoes: EndedGates::new(alloc),
-        }
-    }
-
-    /// Whether the gate ended.
-    fn has(&self, gate: &Gate) -> bool
-        ensures { result ≡ is_some (gave (over_of self.now) gate.now) }
-    {
-        match gate {
-            Gate::Answer(id, _) => self.answers.get(*id).is_some(),
-            Gate::Promise(id) => self.promises.get(*id).is_some(),
-            Gate::Question(id, _) => self.questions.get(*id).is_some(),
-            Gate::Embargo(id) => self.embargoes.get(*id).is_some(),
-        }
-    }
-
-    /// What the gate gave.
-    fn gave(&self, alloc: Global, gate: &Gate) -> Result<Option<Cap>, AllocError>
-        ensures { IfOk result (λ given. given ≡ gave (over_of self.now) gate.now) }
-    {
-        match gate {
-            Gate::Answer(id, path) => given_at(alloc, self.answers.get(*id), path),
-            Gate::Promise(id) => given(alloc, self.promises.get(*id)),
-            Gate::Question(id, path) => given_at(alloc, self.questions.get(*id), path),
-            Gate::Embargo(id) => given(alloc, self.embargoes.get(*id)),
-        }
-    }
-}
-
-fn given(alloc: Global, cap: Option<&Cap>) -> Result<Option<Cap>, AllocError>
-    ensures { IfOk result (λ given. given ≡ option_copied cap.entry) }
-{
-    match cap {
-        Some(cap) => Ok(Some(cap.copy(alloc)?)),
-        None => Ok(None),
-    }
-}
-
-fn given_at(
-    alloc: Global,
-    outcome: Option<&KeptOutcome>,
-    path: &Path,
-) -> Result<Option<Cap>, AllocError>
-    ensures { IfOk result (λ given. given ≡ option_map (λ outcome. cap_at outcome path.now) (option_copied outcome.entry)) }
-{
-    match outcome {
-        Some(outcome) => Ok(Some(outcome.at(alloc, path.fields())?)),
-        None => Ok(None),
     }
 }
 

@@ -12,21 +12,14 @@ use std::alloc::{AllocError, Global};
 /// How often each import, each promise, each object and each question's paths are held.
 /// By these counts `release`, `forget` and `finish` need no walk over the tables.
 pub(crate) struct Holders {
-    imports: Counts,
-    promises: Counts,
-    objects: Counts,
-    questions: Counts,
+    /// By `Sought::key`. One map for all kinds is small where nothing is held.
+    counts: Counts,
 }
 
 // Not derived: a function that lets one go calls this one, and need not prove the drop of all that it holds.
 impl Drop for Holders {
     fn drop(self) {
-        let Holders {
-            imports: _,
-            promises: _,
-            objects: _,
-            questions: _,
-        } = self;
+        let Holders { counts: _ } = self;
     }
 }
 
@@ -36,10 +29,7 @@ impl Holders {
         ensures { (s : Sought) → number_of result s ≡ 0 }
     {
         Holders {
-            imports: Counts::new(alloc),
-            promises: Counts::new(alloc),
-            objects: Counts::new(alloc),
-            questions: Counts::new(alloc),
+            counts: Counts::new(alloc),
         }
     }
 
@@ -47,12 +37,7 @@ impl Holders {
     pub(crate) fn number(&self, sought: Sought) -> u64
         ensures { result ≡ number_of self.now sought }
     {
-        match sought {
-            Sought::Import(id) => self.imports.get(id),
-            Sought::Promise(id) => self.promises.get(id),
-            Sought::Object(id) => self.objects.get(id),
-            Sought::PathOf(id) => self.questions.get(id),
-        }
+        self.counts.get(sought.key())
     }
 
     /// Whether it is held.
@@ -68,10 +53,7 @@ impl Holders {
         ensures err { OnErr result (IsSame self.old self.new) }
     {
         match named {
-            Some(Sought::Import(id)) => self.imports.raise(id),
-            Some(Sought::Promise(id)) => self.promises.raise(id),
-            Some(Sought::Object(id)) => self.objects.raise(id),
-            Some(Sought::PathOf(id)) => self.questions.raise(id),
+            Some(sought) => self.counts.raise(sought.key()),
             None => Ok(()),
         }
     }
@@ -81,10 +63,7 @@ impl Holders {
         ensures { IsLess self.old self.new (times_named named) }
     {
         match named {
-            Some(Sought::Import(id)) => self.imports.lower(id),
-            Some(Sought::Promise(id)) => self.promises.lower(id),
-            Some(Sought::Object(id)) => self.objects.lower(id),
-            Some(Sought::PathOf(id)) => self.questions.lower(id),
+            Some(sought) => self.counts.lower(sought.key()),
             None => {}
         }
     }

@@ -6,7 +6,6 @@
 mod counted_calls;
 mod counted_embargoes;
 mod counts;
-mod ended;
 mod exports;
 mod gates;
 mod halt;
@@ -14,6 +13,7 @@ mod holders;
 mod in_use;
 mod kept;
 mod marks;
+mod overs;
 mod own_promises;
 mod parts;
 mod path_marks;

@@ -14,7 +14,20 @@ pub(crate) enum Sought {
 
 impl Sought {
     ghost use Rattle.std.specs.Prelude.{◌≡◌};
-    ghost use Rattle.cp_vat_state.specs.Sought.{named_by, awaited_at};
+    ghost use Rattle.cp_vat_state.specs.Sought.{named_by, awaited_at, key_of};
+
+    /// The number under which it is counted.
+    pub(crate) fn key(self) -> u64
+        ensures { result ≡ key_of self }
+    {
+        // Four kinds, so that no two have one number.
+        match self {
+            Sought::Import(id) => 4 * (id as u64),
+            Sought::Promise(id) => 4 * (id as u64) + 1,
+            Sought::Object(id) => 4 * (id as u64) + 2,
+            Sought::PathOf(id) => 4 * (id as u64) + 3,
+        }
+    }
 
     /// What a capability is found as.
     pub(crate) fn named_by(cap: &Cap) -> Option<Sought>
