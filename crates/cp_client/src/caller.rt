@@ -1,6 +1,6 @@
 //! A client, as typed clients call by it.
 
-ghost use Rattle.std.specs.Prelude.{ℕ, Result};
+ghost use Rattle.std.specs.Prelude.{Result};
 ghost use Rattle.cp_client.specs.ConversationOf.{seen};
 ghost use Rattle.cp_client.specs.Calls.{AsksOrNot};
 

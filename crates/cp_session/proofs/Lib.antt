@@ -6,3 +6,4 @@ pub mod Courses
 pub mod Living
 pub mod Telling
 pub mod Sharing
+pub mod Timing

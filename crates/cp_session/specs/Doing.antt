@@ -1,5 +1,5 @@
 -- What each call does to a session.
-use Rattle.std.specs.Prelude.{◌≡◌, ◌≢◌, ◌⊎◌, ℕ, ◌<◌, ◌≤◌, nat_lt, if◌then◌else◌, Bool, true, false, IsSome, is_some, ◌||◌, List, [], ◌∷◌, ◌++◌, ◌^◌, Option, Some, None, Result, Ok, Err, length}
+use Rattle.std.specs.Prelude.{◌≡◌, ◌≢◌, ◌⊎◌, ℕ, ◌<◌, ◌≤◌, nat_lt, if◌then◌else◌, Bool, true, IsSome, is_some, ◌||◌, List, [], ◌∷◌, ◌++◌, ◌^◌, Option, Some, None, Result, length}
 use Rattle.std.specs.Global.{Vec}
 use Rattle.cp_frame.specs.Reader.{taken_of}
 use Rattle.cp_refs.specs.declared.cap.Cap.{Cap}
@@ -24,17 +24,14 @@ use Rattle.cp_objects.specs.Rounds.{HandsOver}
 use Rattle.cp_objects.specs.Work.{Work, Lives}
 use Rattle.cp_session.specs.declared.event.SessionEvent.{SessionEvent}
 use Rattle.cp_session.specs.declared.event.SessionEvent.TheVariants as events
-use Rattle.cp_session.specs.declared.limits.SessionLimits.{SessionLimits}
 use Rattle.cp_session.specs.declared.progress.Limit.{Limit}
 use Rattle.cp_session.specs.declared.progress.Limit.TheVariants as limits
 use Rattle.cp_session.specs.declared.progress.Phase.{Phase}
 use Rattle.cp_session.specs.declared.progress.Phase.TheVariants as phases
-use Rattle.cp_session.specs.declared.progress.Progress.{Progress}
 use Rattle.cp_session.specs.Kept.{kept_of}
 use Rattle.cp_session.specs.Refusing.{Refuses}
 use Rattle.cp_session.specs.Progress.{deadline_of, earlier, ended_again, excess_by, failed, finished, heeding, left, met, taken_at, IsDraining, TicksTo}
 use Rattle.cp_session.specs.Serves.{Ends, HasGiven, IsUnended, MayGive, Takes, WorksOn}
-use Rattle.cp_session.specs.Service.{Service}
 use Rattle.cp_session.specs.State.{State, link_of, linked, with_progress}
 use Rattle.cp_session.specs.Sweep.{HasCome, SweepsInTime}
 

@@ -1,5 +1,5 @@
 -- What follows of what is done with a session.
-use Rattle.std.specs.Prelude.{◌≡◌, ℕ, ◌<◌, List, []}
+use Rattle.std.specs.Prelude.{◌≡◌, ◌⊎◌, ℕ, ◌<◌, List, [], None, IsSome}
 use Rattle.std.specs.Global.{Vec}
 use Rattle.cp_connection.specs.declared.happening.Happening.{Happening}
 use Rattle.cp_connection.specs.Lives.{Course}
@@ -12,16 +12,28 @@ use Rattle.cp_servants.specs.declared.servant.Reply.{Reply}
 use Rattle.cp_servants.specs.declared.servant.Reply.TheVariants as replies
 use Rattle.cp_servants.specs.Outcomes.{no_such_object}
 use Rattle.cp_servants.specs.Servant.{Kind}
-use Rattle.cp_session.specs.Doing.{Receives}
+use Rattle.cp_session.specs.declared.options.SessionOptions.{SessionOptions}
+use Rattle.cp_session.specs.Doing.{Receives, due_of, limit_of}
 use Rattle.cp_session.specs.Progress.{IsDraining}
 use Rattle.cp_session.specs.Runs.{Deed, Runs}
-use Rattle.cp_session.specs.State.{State, link_of}
+use Rattle.cp_session.specs.State.{State, link_of, new_state}
 
 -- a call that comes where nobody serves fails with `no such object`, and nothing else is done for it
 abbrev pub NobodyServes : {A : Type 0} → Kind A → Type 0
 NobodyServes {A} kind =
     (k ticket : ℕ) (call : Request) (reply : Reply) (old new : Work) (objects others : Vec A) → objects.items ≡ [] → Gives (listed kind) k ticket call reply old new objects others
     → (reply ≡ replies.Now no_such_object []) × (new ≡ old) × (others ≡ objects)
+
+-- no time is set at which objects are sought that nothing refers to; or nothing more is given, for a fault
+abbrev pub SeeksNone : {H : Type 0} → State H → Type 0
+SeeksNone state = (state.service.sweep.at ≡ None) ⊎ IsSome state.progress.fault
+
+-- A session of a list of objects is to be ticked for its limits alone: when it is made, and whatever is done with it.
+abbrev pub LimitsAlone : {A : Type 0} → Kind A → Type 0
+LimitsAlone {A} kind =
+    ((options : SessionOptions) (objects : Vec A) (now : ℕ) → SeeksNone (new_state options objects now))
+    × ((first last : State (Vec A)) (deed : Deed) → Runs (listed kind) first deed last → SeeksNone first
+    → SeeksNone last × (due_of (listed kind) last ≡ limit_of last))
 
 module _ {H : Type 0} (hall : HallKind H) where
   -- where no byte may wait, nothing is taken of the peer before all that is to go out was written

@@ -1,5 +1,5 @@
 -- What is done with a session, whatever it is.
-use Rattle.std.specs.Prelude.{◌≡◌, ℕ, List, [], ◌∷◌, ◌++◌, Option, Some, None, Result, Ok, Err, take, option_to_list}
+use Rattle.std.specs.Prelude.{◌≡◌, ℕ, List, [], ◌∷◌, ◌++◌, Option, Result, take, option_to_list}
 use Rattle.cp_vat_machine.specs.declared.event.Event as machine
 use Rattle.cp_vat_machine.specs.declared.event.Value.{Value}
 use Rattle.cp_connection.specs.declared.fault.ConnectionFault.{ConnectionFault}
@@ -19,19 +19,22 @@ pub record Call : Type 0 where
   pub event : machine.Event
   pub result : Result Value ConnectionFault
 
--- What one call of a session did: it was given these bytes, of which its connection took those, and dropped the others; it was told that these were written;
--- the program made these calls; these events were handed out; and so were these objects of other sessions, which are to be woken.
+-- What one call of a session did. It was given these bytes, of which its connection took those, and dropped the others; and it was told that these were written.
+-- The program made these calls, woke these objects, and refused the peer at these times. These events were handed out, and so were these objects of other sessions,
+-- which are to be woken.
 pub record Deed : Type 0 where
   pub given : List ℕ
   pub taken : List ℕ
   pub written : List ℕ
   pub called : List Call
+  pub roused : List ℕ
+  pub refused : List ℕ
   pub told : List SessionEvent
   pub woken : List Waker
 
 -- nothing of all this
 abbrev pub nothing : Deed
-nothing = record { given = []; taken = []; written = []; called = []; told = []; woken = [] }
+nothing = record { given = []; taken = []; written = []; called = []; roused = []; refused = []; told = []; woken = [] }
 
 -- one after the other
 abbrev pub both : Deed → Deed → Deed
@@ -40,6 +43,8 @@ both one other = record {
   taken = one.taken ++ other.taken;
   written = one.written ++ other.written;
   called = one.called ++ other.called;
+  roused = one.roused ++ other.roused;
+  refused = one.refused ++ other.refused;
   told = one.told ++ other.told;
   woken = one.woken ++ other.woken;
 }
@@ -73,9 +78,9 @@ module _ {H : Type 0} (hall : HallKind H) where
     writes : {deed : Deed} {new : State H} (count now : ℕ) → Writes hall old count now new → deed ≡ record nothing { written = take count (link_of old).unwritten }
         → Does old deed new
     ticks : {deed : Deed} {new : State H} (now : ℕ) → Ticks hall old now new → deed ≡ nothing → Does old deed new
-    refuses : {deed : Deed} {new : State H} (now : ℕ) → IsRefused hall old now new → deed ≡ nothing → Does old deed new
+    refuses : {deed : Deed} {new : State H} (now : ℕ) → IsRefused hall old now new → deed ≡ record nothing { refused = now ∷ [] } → Does old deed new
     tells : {deed : Deed} {new : State H} (event : Option SessionEvent) → Tells old event new → deed ≡ record nothing { told = option_to_list event } → Does old deed new
-    wakes : {deed : Deed} {new : State H} (object : ℕ) → Wakes hall object old new → deed ≡ nothing → Does old deed new
+    wakes : {deed : Deed} {new : State H} (object : ℕ) → Wakes hall object old new → deed ≡ record nothing { roused = object ∷ [] } → Does old deed new
     hands_on : {deed : Deed} {new : State H} (waker : Option Waker) → HandsOn hall waker old new → deed ≡ record nothing { woken = option_to_list waker }
         → Does old deed new
     calls : {deed : Deed} {new : State H} (call : Call) → IsCall call.event → Did old call.event call.result new → deed ≡ record nothing { called = call ∷ [] } → Does old deed new

@@ -1,5 +1,5 @@
 -- A connection with what is done for its objects.
-use Rattle.std.specs.Prelude.{ℕ, Bool, true, false, if◌then◌else◌, Option, Some, None}
+use Rattle.std.specs.Prelude.{Bool, false, if◌then◌else◌, Option, Some, None}
 use Rattle.cp_connection.specs.Link.{Link, new_link_with_tails}
 use Rattle.cp_objects.specs.Work.{Work, begun}
 use Rattle.cp_objects.specs.WorkOf.{work_of}

@@ -1,5 +1,5 @@
 -- When objects that nothing refers to are sought, and dropped.
-use Rattle.std.specs.Prelude.{◌≡◌, ◌⊎◌, ℕ, ◌<◌, ◌≤◌, ◌+◌, ◌-◌, ◌/◌, ◌^◌, min, nat_lt, if◌then◌else◌, Option, Some, None}
+use Rattle.std.specs.Prelude.{◌≡◌, ◌⊎◌, ℕ, ◌≤◌, ◌+◌, ◌-◌, ◌/◌, ◌^◌, min, nat_lt, if◌then◌else◌, Option, Some, None}
 use Rattle.std.specs.Option.{unwrap_or}
 use Rattle.cp_makers.specs.Hall.{HallKind}
 use Rattle.cp_objects.specs.Dropping.{DropsIdle}
@@ -28,10 +28,15 @@ later now sweep = record sweep { at = Some (unwrap_or sweep.at (sum_of now 1000)
 abbrev pub paid_by : ℕ → ℕ → ℕ
 paid_by objects messages = sum_of (sum_of messages 1) (objects / 32)
 
--- They were sought where there were so many, after so many messages, and so many are left. If some went, others may go that were kept by them: so they are sought
--- again at once.
+-- They were sought at this time where there were so many, and so many are left. If some went, others may go that were kept by them. So they are sought again:
+-- at once if those that went pay for it, one for each thirty-two that are left, and else a second later.
+abbrev pub again_from : ℕ → ℕ → ℕ → Option ℕ
+again_from before objects now =
+    if nat_lt objects before then (if nat_lt (before - objects) (objects / 32) then Some (sum_of now 1000) else Some now) else None
+
+-- They were sought where there were so many, after so many messages, and so many are left.
 abbrev pub swept_from : ℕ → ℕ → ℕ → ℕ → Sweep
-swept_from before objects messages now = record { from = paid_by objects messages; at = if nat_lt objects before then Some now else None }
+swept_from before objects messages now = record { from = paid_by objects messages; at = again_from before objects now }
 
 module _ {H : Type 0} (hall : HallKind H) where
   -- The objects that nothing refers to are dropped.

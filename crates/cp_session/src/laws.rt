@@ -1,7 +1,7 @@
 //! What follows of what is done with a session, whatever it is.
 
 ghost use Rattle.cp_session.specs.Budget.{KeepNoMore, StaysWithin};
-ghost use Rattle.cp_session.specs.Laws.{LivesOn, NobodyServes, WrittenFirst};
+ghost use Rattle.cp_session.specs.Laws.{LimitsAlone, LivesOn, NobodyServes, WrittenFirst};
 
 use cp_makers::Hall;
 use cp_servants::Servant;
@@ -14,6 +14,12 @@ pub fn nobody_serves<O: Servant>()
 /// Where no byte may wait, nothing is taken of the peer before all that is to go out was written.
 pub fn written_first<H: Hall>()
     ensures { WrittenFirst H.hall }
+{}
+
+/// A session of a list of objects is to be ticked for its limits alone: whatever is done with it, its deadline is that of its limits.
+/// (`export` adds an object, and changes nothing of that.)
+pub fn due_by_limits<O: Servant>()
+    ensures { LimitsAlone O.kind }
 {}
 
 /// Whatever is done with a session, its connection took the bytes that it was given, but those that were dropped, and was told which

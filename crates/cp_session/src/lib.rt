@@ -15,7 +15,7 @@ mod sweep;
 
 pub use budget::Budget;
 pub use event::SessionEvent;
-pub use laws::{keep_no_more, lives, nobody_serves, stays_within, written_first};
+pub use laws::{due_by_limits, keep_no_more, lives, nobody_serves, stays_within, written_first};
 pub use limits::SessionLimits;
 pub use options::SessionOptions;
 pub use progress::Limit;

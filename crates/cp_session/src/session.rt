@@ -8,8 +8,7 @@ ghost use Rattle.cp_objects.specs.declared.notice.Notice.TheVariants as notices;
 ghost use Rattle.cp_session.specs.Doing.{ActsInTime, Adds, Did, EndsBytes, EndsCut, Exports, Finishes, GivesMore, GivesNone, GoesBy, GoesOn, HandsOn, HasMore, HasNone, IsCut, IsRefused, IsUnfinished, IsSettled, IsStopped, IsUnsettled, IsUntaken, IsUnworked, Lists, MayTake, PassesTime, PollsOn, Receives, RunsOut, Settles, TakesIn, Tells, Ticks, Wakes, Writes, alarm_of, due_of, ending_by, fault_of, knows_by, next_cap, told_of};
 ghost use Rattle.cp_session.specs.Kept.{kept_of};
 ghost use Rattle.cp_session.specs.Progress.{IsDraining};
-ghost use Rattle.cp_session.specs.State.{State, link_of, new_state, state_of};
-ghost use Rattle.cp_session.specs.declared.event.SessionEvent.TheVariants as events;
+ghost use Rattle.cp_session.specs.State.{link_of, new_state, state_of};
 ghost use Rattle.cp_session.specs.declared.progress.Phase.TheVariants as phases;
 
 use crate::endpoint::Endpoint;

@@ -2,7 +2,7 @@
 
 ghost use Rattle.std.specs.Prelude.{◌≡◌, ◌↔◌, IsTrue};
 ghost use Rattle.cp_session.specs.Service.{unswept};
-ghost use Rattle.cp_session.specs.Sweep.{HasCome, IsSweepDue, later, swept_from};
+ghost use Rattle.cp_session.specs.Sweep.{HasCome, IsSweepDue, again_from, later, swept_from};
 
 /// The objects that are gone over once more for each message.
 const SHARE: usize = 32;
@@ -45,15 +45,30 @@ impl Sweep {
         }
     }
 
-    /// They were sought among so many at this time, after so many messages, and so many are left. What was kept by one that went may
-    /// be free now: so they are sought again at once where one did.
+    /// They were sought among so many at this time, after so many messages, and so many are left.
     pub(crate) fn after(before: usize, objects: usize, messages: u64, now: u64) -> Sweep
         ensures { result ≡ swept_from before objects messages now }
     {
         let shares = (objects / SHARE) as u64;
         let from = messages.saturating_add(1).saturating_add(shares);
-        let at = if objects < before { Some(now) } else { None };
-        Sweep { from, at }
+        Sweep {
+            from,
+            at: again(before, objects, now),
+        }
+    }
+}
+
+/// When they are sought again, though no message comes. What was kept by one that went may be free now. Those that went pay for the
+/// next search: where they are too few it waits, so that many that go one by one don't have all the others gone over each time.
+fn again(before: usize, objects: usize, now: u64) -> Option<u64>
+    ensures { result ≡ again_from before objects now }
+{
+    if before <= objects {
+        None
+    } else if before - objects < objects / SHARE {
+        Some(now.saturating_add(LATEST))
+    } else {
+        Some(now)
     }
 }
 

@@ -1,12 +1,12 @@
 -- Limits of time are looked at by the deadline of each connection.
-use Rattle.std.proofs.Common.{◌≡◌, ◌≤◌, ◌⊎◌, ◌∙◌, ℕ, min, Option, Some, None, inl, inr, refl, sym, ap, subst, arith}
+use Rattle.std.proofs.Common.{◌≡◌, ◌⊎◌, ◌∙◌, ℕ, min, Option, Some, None, inl, inr, refl, sym, ap, subst, arith}
 use Rattle.std.proofs.lemmas.Bool.{cases_eq, cases_order}
 use Rattle.cp_makers.specs.Hall.{HallKind}
 use Rattle.cp_session.specs.Doing.{due_of}
 use Rattle.cp_session.specs.Progress.{earlier}
 use Rattle.net_host.specs.declared.host.News.{News}
 use Rattle.net_host.specs.declared.host.News.TheVariants as all_news
-use Rattle.net_host.specs.Floor.{AwaitsAll, AwaitsEach, Begins, BeginsAwaited, Floor, Puts, ReportsAwaited, Rounds, Tells, Turns, begins, ends, goes_on, rests, sweeps, turns, wakes, wakes_none, wakes_short}
+use Rattle.net_host.specs.Floor.{AwaitsAll, AwaitsEach, BeginsAwaited, Floor, Puts, ReportsAwaited, Rounds, Tells, Turns, begins, ends, goes_on, rests, sweeps, turns, wakes, wakes_none, wakes_short}
 use Rattle.net_host.specs.Guests.{Served}
 use Rattle.net_host.proofs.Timing.{same_some}
 use Rattle.net_host.specs.Timing.{ComesBy}

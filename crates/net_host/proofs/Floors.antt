@@ -1,5 +1,5 @@
 -- How turns follow each other, and what a slab of connections shows of them.
-use Rattle.std.proofs.Common.{◌≡◌, ◌≢◌, ◌∙◌, ℕ, List, ◌∷◌, Option, Some, None, IsSome, inl, inr, refl, sym, ap, subst, ◌≤◌, Bool, cond, is_some, arith}
+use Rattle.std.proofs.Common.{◌≡◌, ◌≢◌, ◌∙◌, ℕ, ◌∷◌, Option, Some, None, IsSome, inl, inr, refl, sym, ap, subst, ◌≤◌, Bool, cond, is_some, arith}
 use Rattle.std.specs.Option.{option_map}
 use Rattle.std.proofs.lemmas.Bool.{cases_eq}
 use Rattle.std.proofs.lemmas.List.Sums.{sum_by-set}

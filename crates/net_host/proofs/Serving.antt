@@ -13,18 +13,17 @@ use Rattle.cp_session.specs.declared.progress.Limit.TheVariants as limits
 use Rattle.cp_session.specs.declared.progress.Phase.{Phase}
 use Rattle.cp_session.specs.declared.progress.Progress.{Progress}
 use Rattle.cp_session.specs.declared.progress.Phase.TheVariants as phases
-use Rattle.cp_session.specs.Doing.{EndsBytes, EndsCut, GoesBy, HandsOn, IsRefused, Leaves, PollsOn, RunsOut, Settles, Tells, Ticks, leaves, refuses, stays, was_over}
+use Rattle.cp_session.specs.Doing.{EndsBytes, EndsCut, GoesBy, HandsOn, Leaves, PollsOn, RunsOut, Settles, Tells, Ticks, leaves, refuses, stays, was_over}
 use Rattle.cp_session.specs.Kept.{kept_of}
 use Rattle.cp_session.specs.Progress.{Meets, TicksTo, ended_by, excess_by, kept_excess, meets, meets_none, met, phase_by}
-use Rattle.cp_session.specs.Runs as runs
-use Rattle.cp_session.specs.Runs.{Deed, Does, begins, both, ends, ends_inside, giving, nothing, polls, runs_out, tells, ticks, writes}
+use Rattle.cp_session.specs.Runs.{Does, begins, both, ends, ends_inside, giving, nothing, polls, runs_out, tells, ticks, writes}
 use Rattle.cp_session.specs.State.{State}
 use Rattle.cp_session.proofs.Running.{runs_both, runs_one}
 use Rattle.net_host.specs.declared.end.End.{End}
 use Rattle.net_host.specs.declared.end.End.TheVariants as all_ends
 use Rattle.net_host.specs.Feeding.{IsFed}
 use Rattle.net_host.proofs.Fed.{parts}
-use Rattle.net_host.specs.Guests.{Adds, Breaks, Closes, EndsBy, Fails, HandsOver, HandsSome, HasFailed, Hears, IsShort, IsTooMuch, IsWhy, Minds, Proceeds, Sends, Served, Serves, Stops, StopsAfter, Works, end_after, end_of, end_or, ends_short, ends_whole, fails, fails_short, fails_whole, heard, minds_full, minds_none, none, or_before, some}
+use Rattle.net_host.specs.Guests.{Adds, Breaks, Closes, EndsBy, Fails, HandsOver, HandsSome, HasFailed, Hears, IsShort, IsTooMuch, IsWhy, Lasts, Minds, Passes, Proceeds, Sends, Served, Serves, Stops, StopsAfter, Works, breaks_off, end_after, end_of, end_or, ends_broken, ends_short, ends_whole, fails_short, fails_whole, heard, is_short, kept_by, minds_full, minds_none, none, or_before, passes_on, some}
 use Rattle.net_host.specs.Waking.{HandsAll, HandsOut, hands_more, hands_none}
 
 -- events, and more of them
@@ -66,7 +65,7 @@ is_limited limit p q is = subst (λ (x : Progress). IsSome x.limit) (sym is) (li
 module _ {H : Type 0} {hall : HallKind H} where
   pub serves_none : (s : Served H) → Serves hall s [] s.rest s
   serves_none s =
-      record { number = refl; peer = refl; deed = nothing; runs = begins; no_call = refl; unwoken = refl; in_order = append-nil s.rest; end = refl }
+      record { number = refl; peer = refl; deed = nothing; runs = begins; no_call = refl; unroused = refl; unrefused = refl; unwoken = refl; in_order = append-nil s.rest; end = refl }
 
   -- one after the other
   pub serves_both : {a b c : Served H} {came more left : List ℕ} → Serves hall a came b.rest b → Serves hall b more left c → Serves hall a (came ++ more) left c
@@ -76,6 +75,8 @@ module _ {H : Type 0} {hall : HallKind H} where
     deed = both h.deed k.deed;
     runs = runs_both h.runs k.runs;
     no_call = rw (h.no_call, k.no_call) refl;
+    unroused = rw (h.unroused, k.unroused) refl;
+    unrefused = rw (h.unrefused, k.unrefused) refl;
     unwoken = rw (h.unwoken, k.unwoken) refl;
     in_order =
         sym (append_assoc a.rest came more) ∙ ap (λ (x : List ℕ). x ++ more) h.in_order ∙ append_assoc h.deed.given b.rest more
@@ -84,17 +85,19 @@ module _ {H : Type 0} {hall : HallKind H} where
   }
 
   -- a call of its session that gave it nothing
-  pub serves_call : (s : Served H) (t : State H) (deed : Deed) → Does hall s.session deed t → deed.called ≡ [] → deed.given ≡ [] → deed.told ≡ [] → deed.woken ≡ []
+  pub serves_call : (s : Served H) (t : State H) (written : List ℕ) → Does hall s.session (record nothing { written = written }) t
       → Serves hall s [] s.rest (record s { session = t })
-  serves_call s t deed does no_call none_given untold unwoken = record {
+  serves_call s t written does = record {
     number = refl;
     peer = refl;
-    deed = deed;
-    runs = runs_one deed does;
-    no_call = no_call;
-    unwoken = unwoken;
-    in_order = rw none_given (append-nil s.rest);
-    end = rw untold refl;
+    deed = record nothing { written = written };
+    runs = runs_one _ does;
+    no_call = refl;
+    unroused = refl;
+    unrefused = refl;
+    unwoken = refl;
+    in_order = append-nil s.rest;
+    end = refl;
   }
 
   pub proceeds_none : (s : Served H) → Proceeds hall s s
@@ -107,10 +110,6 @@ module _ {H : Type 0} {hall : HallKind H} where
   pub stops_then : {a b c : Served H} → Proceeds hall a b → Stops hall b c → Stops hall a c
   stops_then h k = (_, (k.1.0, serves_both h.1 k.1.1))
 
-  -- what shows the same went on likewise
-  pub proceeds_as : {a b c : Served H} → Proceeds hall a b → c ≡ b → Proceeds hall a c
-  proceeds_as {a = a} h e = subst (λ (x : Served H). Proceeds hall a x) (sym e) h
-
   -- it went on for the last time
   pub stops_after : {a b : Served H} {came left : List ℕ} → Serves hall a came left b → StopsAfter hall a came b
   stops_after h = (_, h)
@@ -118,32 +117,19 @@ module _ {H : Type 0} {hall : HallKind H} where
   pub stops_now : {a b : Served H} {came left : List ℕ} → Serves hall a came left b → Stops hall a b
   stops_now h = (_, (_, h))
 
-  -- it may stop at any time
-  pub stops_so : {a b : Served H} → Proceeds hall a b → Stops hall a b
-  stops_so {b = b} h = (h.0, (b.rest, h.1))
-
   -- the objects went on, or memory ran out
   pub serves_polled : {E : Type 0} (s : Served H) (t : State H) (r : Result (Unit {0}) E) (now : ℕ) → OnOk r (PollsOn hall s.session now t) → OnErr r (RunsOut hall s.session now t)
       → Serves hall s [] s.rest (record s { session = t })
-  serves_polled s t (Ok x) now h k = serves_call s t nothing (polls now h refl) refl refl refl refl
-  serves_polled s t (Err e) now h k = serves_call s t nothing (runs_out now k refl) refl refl refl refl
+  serves_polled s t (Ok x) now h k = serves_call s t [] (polls now h refl)
+  serves_polled s t (Err e) now h k = serves_call s t [] (runs_out now k refl)
 
   -- the peer's bytes ended, well or not
   pub serves_ended : (s : Served H) (t : State H) (r : Result (Unit {0}) ConnectionFault) (now : ℕ) → OnOk r (EndsBytes hall s.session now t)
       → IfErr r (λ fault. EndsCut hall s.session now fault t) → Serves hall s [] s.rest (record s { session = t })
-  serves_ended s t (Ok x) now h k = serves_call s t nothing (ends now h refl) refl refl refl refl
-  serves_ended s t (Err fault) now h k = serves_call s t nothing (ends_inside now fault k refl) refl refl refl refl
+  serves_ended s t (Ok x) now h k = serves_call s t [] (ends now h refl)
+  serves_ended s t (Err fault) now h k = serves_call s t [] (ends_inside now fault k refl)
 
-  -- time passed
-  pub proceeds_tick : (s : Served H) (t : State H) (now : ℕ) → Ticks hall s.session now t → Proceeds hall s (record s { session = t })
-  proceeds_tick s t now h = ([], serves_call s t nothing (ticks now h refl) refl refl refl refl, refl)
-
-  -- where more is kept for it than it may, its peer was refused
-  pub proceeds_minded : {most : ℕ} (s : Served H) (t : State H) (now : ℕ) → Minds hall most now s.session t → Proceeds hall s (record s { session = t })
-  proceeds_minded s t now (minds_none few same) = proceeds_as (proceeds_none s) (ap (λ (x : State H). record s { session = x }) same)
-  proceeds_minded s t now (minds_full many refused) = ([], serves_call s t nothing (runs.refuses now refused refl) refl refl refl refl, refl)
-
-  -- what is over stays so then
+  -- what is over stays so where its peer is refused
   over_minded : {most now : ℕ} (s t : State H) → Minds hall most now s t → s.progress.phase ≡ phases.Over → t.progress.phase ≡ phases.Over
   over_minded s t (minds_none few same) over = ap (λ (x : State H). x.progress.phase) same ∙ over
   over_minded s t (minds_full many (was_over so same)) over = ap (λ (x : State H). x.progress.phase) same ∙ over
@@ -153,7 +139,7 @@ module _ {H : Type 0} {hall : HallKind H} where
   pub proceeds_sent : (s t : Served H) (count now : ℕ) → Sends hall s count now t → Proceeds hall s t
   proceeds_sent s t count now (none zero same) = subst (λ (x : Served H). Proceeds hall s x) (sym same) (proceeds_none s)
   proceeds_sent s t count now (some sent same) =
-      subst (λ (x : Served H). Proceeds hall s x) (sym same) ([], serves_call s t.session _ (writes count now sent refl) refl refl refl refl, refl)
+      subst (λ (x : Served H). Proceeds hall s x) (sym same) ([], serves_call s t.session _ (writes count now sent refl), refl)
 
   -- it had some of what was left
   pub serves_rest : (s : Served H) (t : State H) (rest left : List ℕ) (count : ℕ) → left ≡ s.rest → IsFed hall s.session (take count left) t
@@ -164,6 +150,8 @@ module _ {H : Type 0} {hall : HallKind H} where
     deed = giving (take count left) fed.0;
     runs = fed.1;
     no_call = refl;
+    unroused = refl;
+    unrefused = refl;
     unwoken = refl;
     in_order = append-nil s.rest ∙ sym is ∙ parts left count;
     end = refl;
@@ -178,6 +166,8 @@ module _ {H : Type 0} {hall : HallKind H} where
     deed = giving given fed.0;
     runs = fed.1;
     no_call = refl;
+    unroused = refl;
+    unrefused = refl;
     unwoken = refl;
     in_order = rw empty is;
     end = refl;
@@ -203,10 +193,7 @@ module _ {H : Type 0} {hall : HallKind H} where
   hears_one s new t event h is = subst (λ (x : Served H). Hears hall s x) (sym is) (event ∷ [], runs_one _ (tells (Some event) h refl), ap (λ (x : State H). x.progress.phase) h.rest, refl)
 
   -- what shows the same heard the same
-  pub hears_as : {a b c : Served H} → Hears hall a b → c ≡ b → Hears hall a c
-  hears_as {a = a} h e = subst (λ (x : Served H). Hears hall a x) (sym e) h
-
-  pub hears_from : {a b c : Served H} → Hears hall a b → a ≡ c → Hears hall c b
+  hears_from : {a b c : Served H} → Hears hall a b → a ≡ c → Hears hall c b
   hears_from {b = b} h e = subst (λ (x : Served H). Hears hall x b) e h
 
   pub hears_both : {a b c : Served H} → Hears hall a b → Hears hall b c → Hears hall a c
@@ -226,17 +213,12 @@ module _ {H : Type 0} {hall : HallKind H} where
     deed = both h.deed (record nothing { told = k.0 });
     runs = runs_both h.runs k.1;
     no_call = rw (h.no_call) refl;
+    unroused = rw (h.unroused) refl;
+    unrefused = rw (h.unrefused) refl;
     unwoken = rw (h.unwoken) refl;
     in_order = h.in_order ∙ ap (λ (x : List ℕ). x ++ left) (sym (append-nil h.deed.given));
     end = ap (λ (x : Served H). x.end) k.3 ∙ ap (λ known. end_after known k.0) h.end ∙ sym (end_after-both a.end h.deed.told k.0);
   }
-
-  pub proceeds_hears : {a b c : Served H} → Proceeds hall a b → Hears hall b c → Proceeds hall a c
-  proceeds_hears {a = a} {c = c} h k = (
-    h.0,
-    subst (λ (left : List ℕ). Serves hall a h.0 left c) (sym (ap (λ (x : Served H). x.rest) k.3)) (serves_hears h.1 k),
-    ap (λ (x : Served H). x.failure) k.3 ∙ h.2,
-  )
 
   -- ---- whom its objects want to be woken
 
@@ -313,6 +295,8 @@ module _ {H : Type 0} {hall : HallKind H} where
     deed = h.deed;
     runs = h.runs;
     no_call = h.no_call;
+    unroused = h.unroused;
+    unrefused = h.unrefused;
     unwoken = h.unwoken;
     in_order = h.in_order;
     end = h.end;
@@ -330,52 +314,82 @@ module _ {H : Type 0} {hall : HallKind H} where
   pub fails_hears : {a b c : Served H} (error : Error) → Breaks hall a error b → Hears hall b c → Breaks hall a error c
   fails_hears {b = b} {c = c} error h k = ((h.0.0, (h.0.1.0, serves_hears h.0.1.1 k)), failed_still b c error h.1 (ap (λ (x : Served H). x.failure) k.3))
 
-  -- it went on, and handed out who is to be woken: so far
-  pub works_on : {most now : ℕ} {a b : Served H} {woken : List Waker} (h : Works hall most now a woken b) → Proceeds hall a h.told
-  works_on {now = now} h =
-      let ticked = proceeds_both h.proceeds (proceeds_tick h.worked h.ticked now h.ticks) in
-      proceeds_hears (proceeds_both ticked (proceeds_minded (record h.worked { session = h.ticked }) h.minded now h.minds)) h.hears
+  -- it went on through a turn
+  pub passed : {most now : ℕ} {a refused b : Served H} (worked : Served H) (ticked minded : State H) → Proceeds hall a worked → Ticks hall worked.session now ticked
+      → Minds hall most now ticked minded → refused ≡ record worked { session = minded } → Hears hall refused b → Passes hall most now a b
+  passed worked ticked minded went_on went_by minds same heard = record {
+    worked = worked;
+    proceeds = went_on;
+    ticked = ticked;
+    ticks = went_by;
+    minded = minded;
+    minds = minds;
+    hears = hears_from {c = record worked { session = minded }} heard same;
+  }
 
   -- it is the same connection, and its stream didn't fail
+  passes_number : {most now : ℕ} {a b : Served H} → Passes hall most now a b → b.number ≡ a.number
+  passes_number h = ap (λ (x : Served H). x.number) h.hears.3 ∙ h.proceeds.1.number
+
+  passes_peer : {most now : ℕ} {a b : Served H} → Passes hall most now a b → b.peer ≡ a.peer
+  passes_peer h = ap (λ (x : Served H). x.peer) h.hears.3 ∙ h.proceeds.1.peer
+
   pub works_number : {most now : ℕ} {a b : Served H} {woken : List Waker} → Works hall most now a woken b → b.number ≡ a.number
-  works_number h = ap (λ (x : Served H). x.number) h.hands.1 ∙ (works_on h).1.number
+  works_number h = ap (λ (x : Served H). x.number) h.hands.1 ∙ passes_number h.passes
+
+  works_peer : {most now : ℕ} {a b : Served H} {woken : List Waker} → Works hall most now a woken b → b.peer ≡ a.peer
+  works_peer h = ap (λ (x : Served H). x.peer) h.hands.1 ∙ passes_peer h.passes
 
   pub works_failure : {most now : ℕ} {a b : Served H} {woken : List Waker} → Works hall most now a woken b → b.failure ≡ a.failure
-  works_failure h = ap (λ (x : Served H). x.failure) h.hands.1 ∙ (works_on h).2
+  works_failure h = ap (λ (x : Served H). x.failure) h.hands.1 ∙ ap (λ (x : Served H). x.failure) h.passes.hears.3 ∙ h.passes.proceeds.2
 
   pub works_as : {most now : ℕ} {a b c : Served H} {woken : List Waker} → Works hall most now a woken b → c ≡ b → Works hall most now a woken c
   works_as {most = most} {now = now} {a = a} {woken = woken} h e = subst (λ (x : Served H). Works hall most now a woken x) (sym e) h
 
   -- one that isn't over then met no limit, but the one of which its peer is told
   pub works_unmet : {most now : ℕ} {a b : Served H} {woken : List Waker} (h : Works hall most now a woken b) → b.session.progress.phase ≢ phases.Over → (limit : Limit)
-      → Meets h.worked.session.limits h.worked.session.progress (kept_of h.worked.session.service.work (hall.guests h.worked.session.objects)) now limit → IsTooMuch hall h.worked.session
-  works_unmet {now = now} h goes_on = met_none h.worked.session h.ticked now h.ticks (λ over. goes_on (same_phase h.hands.0 ∙ h.hears.2 ∙ over_minded h.ticked h.minded h.minds over))
+      → Meets h.passes.worked.session.limits h.passes.worked.session.progress (kept_by hall h.passes.worked) now limit → IsTooMuch hall h.passes.worked.session
+  works_unmet {now = now} h goes_on =
+      let turn = h.passes in
+      met_none turn.worked.session turn.ticked now turn.ticks
+      (λ over. goes_on (same_phase h.hands.0 ∙ turn.hears.2 ∙ over_minded turn.ticked turn.minded turn.minds over))
+
+  -- its last turn
+  pub broken_off : {a b : Served H} (most : ℕ) (error : Error) → Breaks hall a error b → Lasts hall most a b
+  broken_off most error h = breaks_off error h
+
+  pub passed_so : {most now : ℕ} {a b : Served H} → Passes hall most now a b → Lasts hall most a b
+  passed_so {now = now} h = passes_on now h
+
+  lasts_number : {most : ℕ} {a b : Served H} → Lasts hall most a b → b.number ≡ a.number
+  lasts_number (breaks_off error broken) = broken.0.1.1.number
+  lasts_number (passes_on now through) = passes_number through
+
+  lasts_peer : {most : ℕ} {a b : Served H} → Lasts hall most a b → b.peer ≡ a.peer
+  lasts_peer (breaks_off error broken) = broken.0.1.1.peer
+  lasts_peer (passes_on now through) = passes_peer through
 
   -- it is closed, and keeps its number and peer
-  closed : {most : ℕ} {woken : List Waker} (old served last new : Served H) (end : End) → Stops hall old served → last ≡ record served { session = last.session }
-      → EndsBy hall most old woken end → new ≡ record last { end = None } → Closes hall most old woken end new
-  closed old served last new end stops handed by is = (
-    ap (λ (x : Served H). x.number) is ∙ ap (λ (x : Served H). x.number) handed ∙ stops.1.1.number,
-    ap (λ (x : Served H). x.peer) is ∙ ap (λ (x : Served H). x.peer) handed ∙ stops.1.1.peer,
-    by,
-  )
+  closed : {most : ℕ} {woken : List Waker} (old last new : Served H) (end : End) → last.number ≡ old.number → last.peer ≡ old.peer → EndsBy hall most old woken end
+      → new ≡ record last { end = None } → Closes hall most old woken end new
+  closed old last new end number peer by is = (ap (λ (x : Served H). x.number) is ∙ number, ap (λ (x : Served H). x.peer) is ∙ peer, by)
 
   -- once all are handed out
   pub closes : {most now : ℕ} {woken : List Waker} (old last new : Served H) (end : End) → Works hall most now old woken last → IsWhy hall most last end
       → new ≡ record last { end = None } → Closes hall most old woken end new
-  closes old last new end h why is =
-      closed old h.told last new end (stops_so (works_on h)) h.hands.1 (ends_whole h.told last (stops_so (works_on h)) h.hands why) is
+  closes {now = now} old last new end h why is = closed old last new end (works_number h) (works_peer h) (ends_whole now last h why) is
 
   -- as memory ran out
   pub closes_short : {most now : ℕ} {woken : List Waker} (old last new : Served H) (end : End) → Works hall most now old woken last → IsShort last end
       → new ≡ record last { end = None } → Closes hall most old woken end new
-  closes_short old last new end h short is = closes old last new end h (fails short.0 (inr short.1) short.2) is
+  closes_short old last new end h short is = closes old last new end h (is_short short) is
 
   -- as its stream failed, or memory ran out
-  pub closes_failed : {most : ℕ} {woken : List Waker} (old last new : Served H) (error : Error) (end : End) → Fails hall old woken error last
+  pub closes_failed : {most : ℕ} {woken : List Waker} (old last new : Served H) (error : Error) (end : End) → Fails hall most old woken error last
       → end ≡ end_or last.end (all_ends.Failed error) → new ≡ record last { end = None } → Closes hall most old woken end new
   closes_failed old last new error end (fails_whole served breaks hands) why is =
-      closed old served last new end breaks.0 hands.1
-      (ends_whole served last breaks.0 hands (fails error (failed_still served last error breaks.1 (ap (λ (x : Served H). x.failure) hands.1)) why)) is
-  closes_failed old last new error end (fails_short served stops hands short) why is =
-      closed old served last new end stops hands.1 (ends_short served last stops hands (error, short, why)) is
+      closed old last new end (ap (λ (x : Served H). x.number) hands.1 ∙ breaks.0.1.1.number) (ap (λ (x : Served H). x.peer) hands.1 ∙ breaks.0.1.1.peer)
+      (ends_broken served last error breaks hands why) is
+  closes_failed old last new error end (fails_short served lasts hands short) why is =
+      closed old last new end (ap (λ (x : Served H). x.number) hands.1 ∙ lasts_number lasts) (ap (λ (x : Served H). x.peer) hands.1 ∙ lasts_peer lasts)
+      (ends_short served last lasts hands (error, short, why)) is

@@ -1,5 +1,5 @@
 -- The connections of a host, and what is done with them.
-use Rattle.std.specs.Prelude.{◌≡◌, ◌≢◌, ◌≤◌, ◌%◌, ◌^◌, Contains, ℕ, true, List, [], ◌∷◌, ◌++◌, Option, Some, None, option_map}
+use Rattle.std.specs.Prelude.{◌≡◌, ◌≢◌, ◌%◌, ◌^◌, Contains, ℕ, true, List, [], ◌∷◌, ◌++◌, Option, Some, None, option_map}
 use Rattle.std.specs.FinMap as map
 use Rattle.slab.specs.Slab.{Slab, get}
 use Rattle.cp_refs.specs.Memory.{counted}

@@ -122,22 +122,25 @@ HasFailed last error = (last.failure ≡ Some (raw_os_error error)) ⊎ (error_k
 abbrev pub IsShort : {H : Type 0} → Served H → End → Type 0
 IsShort last end = (error : Error) × (error_kind error ≡ kinds.OutOfMemory) × (end ≡ end_or last.end (ends.Failed error))
 
--- Why a connection is closed that may keep so many bytes: its stream failed, or memory ran out; its session is over; or more is kept for it. What events said
--- before comes first.
+-- Why a connection is closed that may keep so many bytes, though its stream didn't fail: memory ran out; its session is over; or more is kept for it. What events
+-- said before comes first.
 pub data IsWhy {H : Type 0} (hall : HallKind H) (most : ℕ) (last : Served H) (end : End) : Type 0 where
-  fails : (error : Error) → HasFailed last error → end ≡ end_or last.end (ends.Failed error) → IsWhy hall most last end
+  is_short : IsShort last end → IsWhy hall most last end
   is_over : last.session.progress.phase ≡ phases.Over → end ≡ end_or last.end ends.Ended → IsWhy hall most last end
   is_full : most < kept_by hall last → end ≡ end_or last.end (ends.Limit limits.Kept) → IsWhy hall most last end
 
 module _ {H : Type 0} (hall : HallKind H) where
   -- A connection went on. Its session was given what was left of its stream and what came of it, in order and each byte once, but what is left now. Nothing else
-  -- was done with its session, the program made no call, and nobody was handed out who is to be woken. What is known of its end is what events said.
+  -- was done with its session: the program made no call and woke no object, its peer wasn't refused, and nobody was handed out who is to be woken. What is known of
+  -- its end is what events said.
   pub record Serves (old : Served H) (came left : List ℕ) (new : Served H) : Type 0 where
     pub number : new.number ≡ old.number
     pub peer : new.peer ≡ old.peer
     pub deed : Deed
     pub runs : Runs hall old.session deed new.session
     pub no_call : deed.called ≡ []
+    pub unroused : deed.roused ≡ []
+    pub unrefused : deed.refused ≡ []
     pub unwoken : deed.woken ≡ []
     pub in_order : old.rest ++ came ≡ deed.given ++ left
     pub end : new.end ≡ end_after old.end deed.told
@@ -186,35 +189,47 @@ module _ {H : Type 0} (hall : HallKind H) where
     minds_none : kept_of old.service.work (hall.guests old.objects) ≤ most → new ≡ old → Minds most now old new
     minds_full : most < kept_of old.service.work (hall.guests old.objects) → IsRefused hall old now new → Minds most now old new
 
-  -- It went on; time passed for its session, up to this time; where more was kept for it than this its peer was refused; and events were handed out, and then all
-  -- objects of others that are to be woken.
-  pub record Works (most now : ℕ) (old : Served H) (woken : List Waker) (new : Served H) : Type 0 where
+  -- It went on; time passed for its session, up to this time; where more was kept for it than this its peer was refused; and events were handed out.
+  pub record Passes (most now : ℕ) (old new : Served H) : Type 0 where
     pub worked : Served H
     pub proceeds : Proceeds old worked
     pub ticked : State H
     pub ticks : Ticks hall worked.session now ticked
     pub minded : State H
     pub minds : Minds most now ticked minded
+    pub hears : Hears (record worked { session = minded }) new
+
+  -- it did, and all objects of others were handed out that are to be woken
+  pub record Works (most now : ℕ) (old : Served H) (woken : List Waker) (new : Served H) : Type 0 where
     pub told : Served H
-    pub hears : Hears (record worked { session = minded }) told
+    pub passes : Passes most now old told
     pub hands : HandsOver told woken new
+
+  -- It went on for the last time, before anybody was handed out who is to be woken: its stream failed, or memory ran out; or nothing failed yet.
+  pub data Lasts (most : ℕ) (old new : Served H) : Type 0 where
+    breaks_off : (error : Error) → Breaks old error new → Lasts most old new
+    passes_on : (now : ℕ) → Passes most now old new → Lasts most old new
 
   -- It went on for the last time, as its stream failed with this error, or memory ran out. All objects of others that are to be woken were handed out; or memory ran
   -- out for that, once these were.
-  pub data Fails (old : Served H) (woken : List Waker) (error : Error) (new : Served H) : Type 0 where
-    fails_whole : (last : Served H) → Breaks old error last → HandsOver last woken new → Fails old woken error new
-    fails_short : (last : Served H) → Stops old last → HandsSome last woken new → error_kind error ≡ kinds.OutOfMemory → Fails old woken error new
+  pub data Fails (most : ℕ) (old : Served H) (woken : List Waker) (error : Error) (new : Served H) : Type 0 where
+    fails_whole : (last : Served H) → Breaks old error last → HandsOver last woken new → Fails most old woken error new
+    fails_short : (last : Served H) → Lasts most old last → HandsSome last woken new → error_kind error ≡ kinds.OutOfMemory → Fails most old woken error new
 
-  -- It went on for the last time, and this is how it ended. All objects of others that are to be woken were handed out; or memory ran out for that, once these were.
+  -- It went on for the last time, and this is how it ended: its stream failed, or memory ran out; or nothing failed, and this is why. All objects of others that are
+  -- to be woken were handed out; or memory ran out for that, once these were.
   pub data EndsBy (most : ℕ) (old : Served H) (woken : List Waker) (end : End) : Type 0 where
-    ends_whole : (served last : Served H) → Stops old served → HandsOver served woken last → IsWhy hall most last end → EndsBy most old woken end
-    ends_short : (served last : Served H) → Stops old served → HandsSome served woken last → IsShort last end → EndsBy most old woken end
+    ends_broken : (served last : Served H) (error : Error) → Breaks old error served → HandsOver served woken last → end ≡ end_or last.end (ends.Failed error)
+        → EndsBy most old woken end
+    ends_whole : (now : ℕ) (last : Served H) → Works most now old woken last → IsWhy hall most last end → EndsBy most old woken end
+    ends_short : (served last : Served H) → Lasts most old served → HandsSome served woken last → IsShort last end → EndsBy most old woken end
 
   -- It went on; by this time its session met no limit, but the one of which its peer is told. No more is kept for it than this.
   pub record Stays (most now : ℕ) (old : Served H) (woken : List Waker) (new : Served H) : Type 0 where
     pub works : Works most now old woken new
     pub unmet : (limit : Limit)
-        → Meets works.worked.session.limits works.worked.session.progress (kept_by hall works.worked) now limit → IsTooMuch hall works.worked.session
+        → Meets works.passes.worked.session.limits works.passes.worked.session.progress (kept_by hall works.passes.worked) now limit
+        → IsTooMuch hall works.passes.worked.session
     pub within : kept_by hall new ≤ most
 
   -- it is closed, and has its number and its peer
@@ -234,6 +249,23 @@ module _ {H : Type 0} (hall : HallKind H) where
 -- those that are to be woken are those of before, and then these
 abbrev pub Adds : List Waker → (List Waker → Type 0) → List Waker → Type 0
 Adds before P after = (woken : List Waker) × (after ≡ before ++ woken) × P woken
+
+-- Of a turn and its parts: whom its objects want to be woken comes after those that were to be before.
+module _ {H : Type 0} (hall : HallKind H) where
+  abbrev pub VisitsAdding : ℕ → ℕ → Served H → List Waker → Turn → Served H → List Waker → Type 0
+  VisitsAdding most now old before turn new after = Adds before (λ woken. Visits hall most now old woken turn new) after
+
+  abbrev pub ClosesAdding : ℕ → Served H → List Waker → End → Served H → List Waker → Type 0
+  ClosesAdding most old before end new after = Adds before (λ woken. Closes hall most old woken end new) after
+
+  abbrev pub StaysAdding : ℕ → ℕ → Served H → List Waker → Served H → List Waker → Type 0
+  StaysAdding most now old before new after = Adds before (λ woken. Stays hall most now old woken new) after
+
+  abbrev pub WorksAdding : ℕ → ℕ → Served H → List Waker → Served H → List Waker → Type 0
+  WorksAdding most now old before new after = Adds before (λ woken. Works hall most now old woken new) after
+
+  abbrev pub FailsAdding : ℕ → Served H → List Waker → Error → Served H → List Waker → Type 0
+  FailsAdding most old before error new after = Adds before (λ woken. Fails hall most old woken error new) after
 
 -- a budget notes how much is kept for the connection of this number, or forgets it
 abbrev pub noting : Keeping → ℕ → ℕ → Keeping

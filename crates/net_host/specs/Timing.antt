@@ -1,5 +1,5 @@
 -- When a host looks at the limits of time of its sessions.
-use Rattle.std.specs.Prelude.{◌≡◌, ◌≢◌, ◌≤◌, ◌+◌, ◌-◌, ℕ, max, Option, Some, None, option_map}
+use Rattle.std.specs.Prelude.{◌≡◌, ◌≢◌, ◌≤◌, ◌-◌, ℕ, max, Option, Some, option_map}
 use Rattle.net_host.specs.declared.time.Time.{Time}
 
 -- a time comes no later than this, if there is one

@@ -6,7 +6,7 @@ ghost use Rattle.cp_session.specs.Doing.{due_of};
 ghost use Rattle.cp_session.specs.State.{state_of};
 ghost use Rattle.net_sockets.specs.Reading.{Fits};
 ghost use Rattle.net_host.specs.Feeding.{IsFed};
-ghost use Rattle.net_host.specs.Guests.{Accounts, Adds, Breaks, CanTake, CanWrite, Closes, Fails, HandsOver, HandsSome, Hears, IsOverdue, IsShort, MayHaveBytes, Minds, Proceeds, Rouses, Sends, Serves, Stays, StopsShort, Visits, Works, came_by, end_or, heard, kept_by, new_served, served_of};
+ghost use Rattle.net_host.specs.Guests.{Accounts, Adds, Breaks, CanTake, CanWrite, ClosesAdding, FailsAdding, HandsOver, HandsSome, Hears, IsOverdue, IsShort, MayHaveBytes, Minds, Proceeds, Rouses, Sends, Serves, StaysAdding, StopsShort, VisitsAdding, WorksAdding, came_by, end_or, heard, kept_by, new_served, served_of};
 ghost use Rattle.net_host.specs.Waking.{session_of};
 
 use crate::allowance::Allowance;
@@ -147,7 +147,7 @@ impl<H: Hall> Guest<H> {
         wakes: &mut VecDeque<Waker>,
         allowed: Allowance,
     ) -> Turn
-        ensures visits { Adds wakes.old.items (λ woken. Visits H.hall allowed.kept allowed.now (served_of self.old) woken result (served_of self.new)) wakes.new.items }
+        ensures visits { VisitsAdding H.hall allowed.kept allowed.now (served_of self.old) wakes.old.items result (served_of self.new) wakes.new.items }
         ensures accounts { Accounts result allowed.account (kept_by H.hall (served_of self.new)) budget.old budget.new }
     {
         if let Some(end) = self.visit(piece, wakes, allowed) {
@@ -173,8 +173,8 @@ impl<H: Hall> Guest<H> {
         wakes: &mut VecDeque<Waker>,
         allowed: Allowance,
     ) -> Option<End>
-        ensures closes { IfSome result (λ end. Adds wakes.old.items (λ woken. Closes H.hall allowed.kept (served_of self.old) woken end (served_of self.new)) wakes.new.items) }
-        ensures stays { IfNone result (Adds wakes.old.items (λ woken. Stays H.hall allowed.kept allowed.now (served_of self.old) woken (served_of self.new)) wakes.new.items) }
+        ensures closes { IfSome result (λ end. ClosesAdding H.hall allowed.kept (served_of self.old) wakes.old.items end (served_of self.new) wakes.new.items) }
+        ensures stays { IfNone result (StaysAdding H.hall allowed.kept allowed.now (served_of self.old) wakes.old.items (served_of self.new) wakes.new.items) }
     {
         if let Err(error) = self.work(piece, wakes, allowed) {
             return Some(self.end_or(End::Failed(error)));
@@ -196,8 +196,8 @@ impl<H: Hall> Guest<H> {
         wakes: &mut VecDeque<Waker>,
         allowed: Allowance,
     ) -> io::Result<()>
-        ensures works { OnOk result (Adds wakes.old.items (λ woken. Works H.hall allowed.kept allowed.now (served_of self.old) woken (served_of self.new)) wakes.new.items) }
-        ensures fails { IfErr result (λ error. Adds wakes.old.items (λ woken. Fails H.hall (served_of self.old) woken error (served_of self.new)) wakes.new.items) }
+        ensures works { OnOk result (WorksAdding H.hall allowed.kept allowed.now (served_of self.old) wakes.old.items (served_of self.new) wakes.new.items) }
+        ensures fails { IfErr result (λ error. FailsAdding H.hall allowed.kept (served_of self.old) wakes.old.items error (served_of self.new) wakes.new.items) }
     {
         if let Err(error) = self.move_on(piece, allowed) {
             // What happened before the stream failed counts.

@@ -2,6 +2,7 @@
 
 ghost use Rattle.std.specs.Prelude.{◌≡◌};
 ghost use Rattle.net_host.specs.Floor.{options_of};
+ghost use Rattle.net_host.specs.Limits.{standard_plan};
 
 use crate::limits::HostLimits;
 use cp_frame::Mode;
@@ -21,6 +22,18 @@ pub struct HostPlan {
 }
 
 impl HostPlan {
+    /// Plain frames, the standard limits of messages and of a host, and no end of connections.
+    pub fn standard() -> HostPlan
+        ensures { result ≡ standard_plan }
+    {
+        HostPlan {
+            mode: Mode::Plain,
+            messages: Limits::standard(),
+            limits: HostLimits::standard(),
+            count: None,
+        }
+    }
+
     /// How the session of a connection goes. Nobody but its objects holds its imports.
     pub(crate) fn session(&self) -> SessionOptions
         ensures { result ≡ options_of self.now }

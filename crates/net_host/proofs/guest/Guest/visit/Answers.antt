@@ -1,4 +1,4 @@
-use Rattle.std.proofs.Common.{◌∙◌, refl, arith}
+use Rattle.std.proofs.Common.{refl, arith}
 use Rattle.std.proofs.lemmas.Bool.{false≢true}
 use Rattle.net_host.proofs.Serving.{closes, closes_failed, works_as, works_unmet}
 use Rattle.net_host.specs.Guests.{is_full, is_over, served_of}

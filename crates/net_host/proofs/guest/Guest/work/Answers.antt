@@ -1,6 +1,6 @@
 use Rattle.cp_session.specs.State.{state_of}
 use Rattle.net_host.proofs.Deciding.{err_from}
-use Rattle.net_host.proofs.Serving.{fails_hears, hears_from, proceeds_both, proceeds_as, proceeds_hears, proceeds_minded, proceeds_tick, stops_so}
+use Rattle.net_host.proofs.Serving.{broken_off, fails_hears, passed, passed_so}
 use Rattle.net_host.specs.Guests.{fails_short, fails_whole, served_of}
 use Rattle.net_host.proofs.guest.Guest.work.Goals as goal
 
@@ -9,7 +9,7 @@ returns-in_err-hand_over-clause-fails g c =
     let failed = fails_hears c.in-Err.error c.in-Err.ensures.fails c.note_events.ensures in
     let handed = c.in_err-hand_over.ensures.some in
     err_from c.from_residual.result c.from_residual.ensures
-    (λ error ran_out. (handed.0, handed.1, fails_short (served_of c.note_events.new.self) failed.0 handed.2 ran_out))
+    (λ error ran_out. (handed.0, handed.1, fails_short (served_of c.note_events.new.self) (broken_off c.args.allowed.kept c.in-Err.error failed) handed.2 ran_out))
 
 pub returns-in-Err-clause-fails : goal.returns-in-Err-clause-fails
 returns-in-Err-clause-fails g c =
@@ -19,12 +19,10 @@ returns-in-Err-clause-fails g c =
 
 pub returns-in_err-hand_over-2-clause-fails : goal.returns-in_err-hand_over-2-clause-fails
 returns-in_err-hand_over-2-clause-fails g c =
-    let ticked = proceeds_tick (served_of c.move_on.new.self) (state_of c.tick.new.self) _ c.tick.ensures in
-    let minded = proceeds_minded (record (served_of c.move_on.new.self) { session = state_of c.tick.new.self }) (state_of c.refuse.new.self.session) _ c.refuse.ensures.refuses in
-    let went = proceeds_hears (proceeds_both (proceeds_both c.in_default.ensures.goes_on ticked) (proceeds_as minded c.refuse.ensures.same)) c.note_events-2.ensures in
+    let went = passed (served_of c.move_on.new.self) (state_of c.tick.new.self) (state_of c.refuse.new.self.session) c.in_default.ensures.goes_on c.tick.ensures c.refuse.ensures.refuses c.refuse.ensures.same c.note_events-2.ensures in
     let handed = c.in_err-hand_over-2.ensures.some in
     err_from c.from_residual-in_err-hand_over-2.result c.from_residual-in_err-hand_over-2.ensures
-    (λ error ran_out. (handed.0, handed.1, fails_short (served_of c.note_events-2.new.self) (stops_so went) handed.2 ran_out))
+    (λ error ran_out. (handed.0, handed.1, fails_short (served_of c.note_events-2.new.self) (passed_so went) handed.2 ran_out))
 
 pub returns-clause-works : goal.returns-clause-works
 returns-clause-works g c =
@@ -32,14 +30,8 @@ returns-clause-works g c =
       handed.0,
       handed.1,
       record {
-        worked = served_of c.move_on.new.self;
-        proceeds = c.in_default.ensures.goes_on;
-        ticked = state_of c.tick.new.self;
-        ticks = c.tick.ensures;
         told = served_of c.note_events-2.new.self;
-        minded = state_of c.refuse.new.self.session;
-        minds = c.refuse.ensures.refuses;
-        hears = hears_from {c = record (served_of c.move_on.new.self) { session = state_of c.refuse.new.self.session }} c.note_events-2.ensures c.refuse.ensures.same;
+        passes = passed (served_of c.move_on.new.self) (state_of c.tick.new.self) (state_of c.refuse.new.self.session) c.in_default.ensures.goes_on c.tick.ensures c.refuse.ensures.refuses c.refuse.ensures.same c.note_events-2.ensures;
         hands = handed.2;
       },
     )
