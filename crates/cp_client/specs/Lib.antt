@@ -11,3 +11,4 @@ pub mod Questions
 pub mod Waits
 pub mod Contents
 pub mod Streams
+pub mod Results

@@ -10,6 +10,7 @@ mod nobody;
 mod piece;
 mod question;
 mod questions;
+mod results;
 mod stream;
 
 pub use client::Client;
