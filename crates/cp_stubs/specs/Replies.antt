@@ -41,6 +41,8 @@ exception_for faults.Unimplemented = Some (exception_of kinds.Unimplemented (cod
 exception_for (faults.WrongKind fault) = Some (exception_of kinds.Failed (codes "a field is of another kind"))
 exception_for faults.NotUtf8 = Some (exception_of kinds.Failed (codes "a text isn't UTF-8"))
 exception_for faults.TooLong = Some (exception_of kinds.Failed (codes "the results are too long"))
+exception_for faults.OutOfRange = Some (exception_of kinds.Failed (codes "a number is out of range"))
+exception_for faults.InUse = Some (exception_of kinds.Failed (codes "what is shared is in use"))
 exception_for faults.OutOfMemory = None
 
 -- imports, and one more after them, if there is one

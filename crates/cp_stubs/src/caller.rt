@@ -1,13 +1,14 @@
 //! What makes calls.
 
+use cp_builder::DraftFault;
 use cp_refs::{Cap, Request};
 use std::alloc::Global;
 
 /// One end of a connection by which typed clients call, as a `Client`.
 /// Generated code calls by this and not by a `Client`, so it needs no connection, and is proved beside the vat.
 pub trait Caller {
-    /// Why a call isn't made.
-    type Fault: Drop;
+    /// Why a call isn't made. Params that can't be written are a reason too.
+    type Fault: Drop + From<DraftFault>;
 
     ghost use Rattle.std.specs.Prelude.{ℕ, Result};
     ghost use Rattle.cp_refs.specs.declared.cap.Cap.{Cap};

@@ -8,8 +8,10 @@ use cp_builder::DraftFault;
 use cp_fields::{TextFault, WrongKind};
 use cp_rpc::{Exception, ExceptionKind, Text};
 use std::alloc::{AllocError, AllocFailed, Global};
+use std::cell::{BorrowError, BorrowMutError};
 use std::error::Error;
 use std::fmt;
+use std::num::TryFromIntError;
 
 /// Why a method of an object gives no results. All but `OutOfMemory` are exceptions with which the call fails.
 pub enum MethodFault {
@@ -24,6 +26,10 @@ pub enum MethodFault {
     NotUtf8,
     /// A struct, a list, a text or data of the results, or their table of capabilities, is longer than a message's can be.
     TooLong,
+    /// A number isn't one of the field's type.
+    OutOfRange,
+    /// What the object shares with others is in use.
+    InUse,
     /// It ends the serving.
     OutOfMemory,
 }
@@ -37,6 +43,8 @@ impl Drop for MethodFault {
             MethodFault::WrongKind(_) => {}
             MethodFault::NotUtf8 => {}
             MethodFault::TooLong => {}
+            MethodFault::OutOfRange => {}
+            MethodFault::InUse => {}
             MethodFault::OutOfMemory => {}
         }
     }
@@ -56,6 +64,8 @@ impl MethodFault {
             MethodFault::WrongKind(_) => exception(alloc, failed, "a field is of another kind"),
             MethodFault::NotUtf8 => exception(alloc, failed, "a text isn't UTF-8"),
             MethodFault::TooLong => exception(alloc, failed, "the results are too long"),
+            MethodFault::OutOfRange => exception(alloc, failed, "a number is out of range"),
+            MethodFault::InUse => exception(alloc, failed, "what is shared is in use"),
             MethodFault::OutOfMemory => Err(AllocError),
         }
     }
@@ -122,6 +132,39 @@ impl From<DraftFault> for MethodFault {
     }
 }
 
+impl From<TryFromIntError> for MethodFault {
+    ghost use Rattle.std.specs.Prelude.{◌≡◌};
+    ghost use Rattle.cp_stubs.specs.declared.fault.MethodFault.TheVariants.{OutOfRange};
+
+    ghost from_gives = { λ _ f. f ≡ OutOfRange };
+
+    fn from(_: TryFromIntError) -> MethodFault {
+        MethodFault::OutOfRange
+    }
+}
+
+impl From<BorrowError> for MethodFault {
+    ghost use Rattle.std.specs.Prelude.{◌≡◌};
+    ghost use Rattle.cp_stubs.specs.declared.fault.MethodFault.TheVariants.{InUse};
+
+    ghost from_gives = { λ _ f. f ≡ InUse };
+
+    fn from(_: BorrowError) -> MethodFault {
+        MethodFault::InUse
+    }
+}
+
+impl From<BorrowMutError> for MethodFault {
+    ghost use Rattle.std.specs.Prelude.{◌≡◌};
+    ghost use Rattle.cp_stubs.specs.declared.fault.MethodFault.TheVariants.{InUse};
+
+    ghost from_gives = { λ _ f. f ≡ InUse };
+
+    fn from(_: BorrowMutError) -> MethodFault {
+        MethodFault::InUse
+    }
+}
+
 impl From<AllocError> for MethodFault {
     ghost use Rattle.std.specs.Prelude.{◌≡◌};
     ghost use Rattle.cp_stubs.specs.declared.fault.MethodFault.TheVariants.{OutOfMemory};
@@ -141,6 +184,14 @@ impl<T: Drop> From<AllocFailed<T>> for MethodFault {
 
     fn from(_: AllocFailed<T>) -> MethodFault {
         MethodFault::OutOfMemory
+    }
+}
+
+// A fault of what an object does when it isn't called ends the serving: there is no call that it could fail.
+impl From<MethodFault> for AllocError {
+    fn from(fault: MethodFault) -> AllocError {
+        drop(fault);
+        AllocError
     }
 }
 

@@ -20,7 +20,7 @@ pub use fault::{CapFault, MethodFault, NoResults};
 pub use object::ServerObject;
 pub use payload::{ResultPayload, payload_of};
 pub use promised::Promised;
-pub use replies::{refuse, reply, results};
+pub use replies::{given_up, refuse, reply, results};
 pub use stream::{StreamResultDraft, StreamResultPromise};
 pub use table::Table;
 pub use target::CallTarget;

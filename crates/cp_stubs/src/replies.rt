@@ -44,6 +44,17 @@ pub fn results<D: Results>(results: D, table: Table) -> Outcome
     outcome_of(results, table.into_caps())
 }
 
+/// The imports that a table names, each once, but for those that are kept.
+pub fn given_up(alloc: Global, caps: &Caps, keeps: &Ids) -> Result<Ids, AllocError>
+    ensures { IfOk result (λ ids. ids ≡ given_up keeps.now caps.now) }
+{
+    let mut noted = Vec::new(alloc);
+    for cap in caps.caps() {
+        note(&mut noted, cap, keeps.ids())?;
+    }
+    Ok(Ids::new(noted))
+}
+
 /// The outcome with these results.
 pub(crate) fn outcome_of<D: Results>(results: D, caps: Caps) -> Outcome
     ensures { result ≡ Given (D.content results) caps }
@@ -68,17 +79,6 @@ pub(crate) fn at_once(
         outcome,
         gives_up: given_up(alloc, caps, keeps)?,
     })
-}
-
-/// The imports that a table names, each once, but for those that are kept.
-fn given_up(alloc: Global, caps: &Caps, keeps: &Ids) -> Result<Ids, AllocError>
-    ensures { IfOk result (λ ids. ids ≡ given_up keeps.now caps.now) }
-{
-    let mut noted = Vec::new(alloc);
-    for cap in caps.caps() {
-        note(&mut noted, cap, keeps.ids())?;
-    }
-    Ok(Ids::new(noted))
 }
 
 /// Notes a capability, if it is an import that isn't kept and wasn't noted before.

@@ -61,6 +61,11 @@ impl CallTarget {
         }
     }
 
+    /// Where memory comes from.
+    pub fn alloc(&self) -> Global {
+        self.alloc
+    }
+
     /// The capability, lent.
     pub fn cap(&self) -> &Cap
         ensures { result.now ≡ self.now }
