@@ -1,6 +1,6 @@
 #!/usr/bin/env bash
 # tools/generated.sh    whether capnpc_rattle and `rt fmt` write again what is kept: cp_schema_capnp, of the request in crates/capnpc_rattle/stdin, and
-#                       addressbook, board, notebook and store, of their schemas, where `capnp` is installed. A plugin that isn't built runs unproved, as a first look.
+#                       addressbook, notebook, chat and store, of their schemas, where `capnp` is installed. A plugin that isn't built runs unproved, as a first look.
 #
 # The request is what `capnp compile -o-` printed of the schema.capnp that the reference library has beside it (0.9.2).
 set -eu
@@ -31,8 +31,8 @@ regenerate() { # CRATE OPTION
 
 if command -v capnp >/dev/null; then
     regenerate addressbook --drafts
-    regenerate board --interfaces
     regenerate notebook --services
+    regenerate chat --services
     regenerate store --interfaces
 fi
 [ "$differ" -eq 0 ] || fail "the plugin writes otherwise than what is kept, as shown above"

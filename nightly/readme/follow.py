@@ -9,8 +9,8 @@ import sys
 import time
 
 TOP = pathlib.Path(__file__).resolve().parent.parent.parent
-PORT = 7000
-WANTED = ["note 1 is posted\n", "note 2 is posted\n  hello\n", "question:1 results Board.post (count = 3)\n"]
+PORT = 7001
+WANTED = ["the page says hello, told of hello\n", "results Page.read (text = \"hello\")\n"]
 
 
 def steps_of(text):
@@ -33,8 +33,8 @@ def listens():
 
 
 def begin(line, clone):
-    """Runs a line that ends in &, until its program listens."""
-    server = subprocess.Popen(["bash", "-c", f"exec {line.rstrip('&')}"], cwd=clone)
+    """Runs a line's first command, which goes on behind the next ones, until its program listens."""
+    server = subprocess.Popen(["bash", "-c", f"exec {line.partition(' &')[0]}"], cwd=clone)
     while server.poll() is None and not listens():
         time.sleep(1)
     return server
@@ -52,7 +52,7 @@ def follow(clone):
                 print(f"{time.strftime('%T')} saved {path}", flush=True)
                 continue
             print(f"{time.strftime('%T')} $ {text}", flush=True)
-            if text.endswith("&"):
+            if " &" in text:
                 server = begin(text, clone)
             else:
                 ran = subprocess.run(["bash", "-c", text], cwd=clone, stdout=subprocess.PIPE, text=True)

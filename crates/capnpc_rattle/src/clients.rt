@@ -3,6 +3,7 @@
 use crate::book::{Book, Named};
 use crate::comments::about;
 use crate::methods::Way;
+use crate::plain::{plain, plain_methods};
 use crate::sheet::Sheet;
 use cp_schema::{Interface, Node};
 
@@ -136,8 +137,12 @@ fn way_methods<'b>(book: &Book<'_>, sheet: &mut Sheet<'b>, node: &Node, way: &Wa
         .code
         .fill(if way.names_caps { NAMING } else { REQUEST }, &args);
     about(&mut sheet.code, text, "Calls `$5 @$3`.", &args);
-    sheet
-        .code
-        .fill(if way.names_caps { CALL_NAMING } else { CALL }, &args);
+    match plain(book, way.method.params) {
+        Some(of) => plain_methods(book, sheet, way, of),
+        None => {
+            let template = if way.names_caps { CALL_NAMING } else { CALL };
+            sheet.code.fill(template, &args);
+        }
+    }
     way.cite(sheet, "Draft", "Promise");
 }

@@ -81,5 +81,5 @@ fn by_number<'b>(sheet: &mut Sheet<'b>, templates: &Templates, named: &'b Named,
 fn pass<'b>(sheet: &mut Sheet<'b>, templates: &Templates, way: &Way<'b>) {
     let args = way.args();
     sheet.code.fill(templates.pass, &args);
-    sheet.libraries.put("cp_stubs::reply\n");
+    sheet.libraries.put(templates.pass_cited);
 }

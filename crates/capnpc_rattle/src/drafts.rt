@@ -5,10 +5,11 @@ use crate::comments::about;
 use crate::getters::node_in;
 use crate::out::{Arg, Out};
 use crate::parts::{Part, Wanted, fields};
+use crate::plain::{constructor, plain};
 use crate::promises::client_of;
 use crate::setters::{Setter, set_of};
 use crate::sheet::Sheet;
-use crate::structs::{has_name, is_void};
+use crate::structs::{has_name, is_params, is_void};
 use cp_schema::{Base, FieldKind, Node, Slot, StructField, Structure};
 
 const TYPE: &str = "
@@ -101,6 +102,11 @@ pub fn draft<'b>(
     ];
     sheet.export("$0Draft", &args);
     sheet.code.fill(TYPE, &args);
+    if is_params(node) {
+        if let Some(of) = plain(book, node.id) {
+            constructor(book, &mut sheet.code, named, of);
+        }
+    }
     fields(book, sheet, &Part::new(node, of), Wanted::Setters);
     sheet.code.put("}\n");
     if has_name(node) {

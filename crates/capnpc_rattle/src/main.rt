@@ -26,6 +26,7 @@ mod only;
 mod out;
 mod pages;
 mod parts;
+mod plain;
 mod promises;
 mod reach;
 mod servers;

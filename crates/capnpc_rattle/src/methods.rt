@@ -78,8 +78,8 @@ impl<'b> Way<'b> {
     }
 
     /// What stands for the places of templates: the interface's name as a type and as a word, its number, the method's number,
-    /// its name as a method, its name in the schema, the names of its params and results, and its name as a word.
-    pub fn args(&self) -> [Arg<'b>; 9] {
+    /// its name as a method, its name in the schema, the names of its params and results, its name as a word, and as a type.
+    pub fn args(&self) -> [Arg<'b>; 10] {
         let name = self.method.name.as_str();
         [
             Arg::Text(self.owner.name.as_str()),
@@ -91,6 +91,7 @@ impl<'b> Way<'b> {
             Arg::Text(self.params.name.as_str()),
             Arg::Text(self.results_name()),
             Arg::Snake(name),
+            Arg::Camel(name),
         ]
     }
 

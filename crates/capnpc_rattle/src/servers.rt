@@ -6,14 +6,12 @@ use crate::kinds::takes;
 use crate::methods::Way;
 use crate::out::Arg;
 use crate::sheet::Sheet;
+use crate::templates::Templates;
 use cp_schema::{Interface, Node};
 
 const TRAIT: &str = "
 /// An object of `interface $1`.
 pub trait $0Server: ";
-
-/// What the methods of a trait cite of other crates.
-const METHODS_CITED: &str = "cp_stubs::Answer\ncp_stubs::MethodFault\n";
 
 /// Writes the trait of an interface's objects, and the glue by which they are served. The interface is the first of a family.
 pub fn server<'b>(
@@ -28,6 +26,9 @@ pub fn server<'b>(
     };
     let args = named.args(node);
     let templates = book.scope.templates();
+    for way in ways {
+        call(sheet, &templates, way);
+    }
     sheet.code.fill(TRAIT, &args);
     supers(book, sheet, of, templates.base);
     sheet.code.fill(templates.kind, &args);
@@ -59,12 +60,24 @@ fn supers(book: &Book<'_>, sheet: &mut Sheet<'_>, of: &Interface, base: &str) {
     }
 }
 
+/// Writes the type of a method's calls, where objects get them so.
+fn call<'b>(sheet: &mut Sheet<'b>, templates: &Templates, way: &Way<'b>) {
+    if templates.call.is_empty() {
+        return;
+    }
+    let args = way.args();
+    sheet.code.fill(templates.call, &args);
+    sheet.export("$0$9Call", &args);
+}
+
 /// Writes a method of a trait.
 fn method<'b>(book: &Book<'_>, sheet: &mut Sheet<'b>, node: &Node, way: &Way<'b>) {
     let args = way.args();
     let text = book.about_member(node.id, way.number);
     about(&mut sheet.code, text, "`$5 @$3`.", &args);
-    sheet.code.fill(book.scope.templates().method, &args);
-    sheet.libraries.put(METHODS_CITED);
+    let templates = book.scope.templates();
+    sheet.code.fill(templates.method, &args);
+    sheet.libraries.put(templates.method_cited);
+    sheet.cited.put(templates.method_words);
     way.cite(sheet, "View", "Draft");
 }

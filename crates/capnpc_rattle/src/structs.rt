@@ -91,7 +91,7 @@ pub fn structure<'b>(
 }
 
 /// Whether a struct is the params of a method, which has no name in its schema.
-fn is_params(node: &Node) -> bool {
+pub fn is_params(node: &Node) -> bool {
     // The schema compiler calls params so that have no name.
     node.name().ends_with("$Params")
 }

@@ -6,7 +6,13 @@ pub struct Templates {
     /// What a trait extends, where its interface extends none.
     pub base: &'static str,
     pub kind: &'static str,
+    /// What stands before the trait for each method.
+    pub call: &'static str,
     pub method: &'static str,
+    /// What a method cites of other crates.
+    pub method_cited: &'static str,
+    /// The definitions that a method cites.
+    pub method_words: &'static str,
     pub servant: &'static str,
     pub glue: &'static str,
     /// What this code cites of other crates.
@@ -20,6 +26,8 @@ pub struct Templates {
     pub method_arm: &'static str,
     pub end: &'static str,
     pub pass: &'static str,
+    /// What passing a call on cites of other crates.
+    pub pass_cited: &'static str,
 }
 
 /// Objects of a list that is fixed.
@@ -29,6 +37,7 @@ pub const SERVERS: Templates = Templates {
     /// What calls of its methods lead to. Of an object that doesn't say it nothing is known.
     ghost $2_kind: { $0Kind Self } = { any_$2 };
 ",
+    call: "",
     method: "    fn $4(
         &mut self,
         call: &MethodCall,
@@ -36,6 +45,8 @@ pub const SERVERS: Templates = Templates {
     ) -> Result<Answer<$7Draft>, MethodFault>
         ensures { Gives (λ d. d.body) $1_kind.on_$8 self.old call.now params.now.body result self.new };
 ",
+    method_cited: "cp_stubs::Answer\ncp_stubs::MethodFault\n",
+    method_words: "",
     servant: "}
 
 /// An object of `interface $1`, as a connection serves it.
@@ -137,6 +148,7 @@ fn pass_$8<T: $0Server>(
     }
 }
 ",
+    pass_cited: "cp_stubs::reply\n",
 };
 
 /// Objects that may make others: each is given a `Here` while it does something.
@@ -146,14 +158,15 @@ pub const SERVICES: Templates = Templates {
     /// What calls of its methods lead to. Of an object that doesn't say it nothing is known.
     ghost $2_kind: { $0Kind (At Self Self.Makes) } = { any_$2 };
 ",
-    method: "    fn $4(
-        &mut self,
-        call: &MethodCall,
-        params: &$6View<'_>,
-        here: &mut Here<Self::Makes>,
-    ) -> Result<Answer<$7Draft>, MethodFault>
-        ensures { Gives (λ d. d.body) $1_kind.on_$8 (at self.old here.old) call.now params.now.body result (at self.new here.new) };
+    call: "
+/// A call of `$5`.
+pub type $0$9Call<'c> = ServiceCall<'c, $6View<'c>, $7Draft>;
 ",
+    method: "    fn $4(&mut self, call: &mut $0$9Call<'_>, here: &mut Here<Self::Makes>) -> MethodResult
+        ensures { Answers (λ p. p.body) (λ d. d.body) $1_kind.on_$8 (at self.old here.old) call.old call.new result (at self.new here.new) };
+",
+    method_cited: "cp_services::ServiceCall\ncp_services::MethodResult\n",
+    method_words: "ghost use Rattle.cp_services.specs.Calls.{Answers};\n",
     servant: "}
 
 /// An object of `interface $1`, as a connection serves it.
@@ -179,7 +192,7 @@ impl<T: $0Server> Maker for $0Servant<T> {
     }
 
     fn poll(&mut self, here: &mut Here<T::Makes>) -> Result<Option<Settled>, AllocError> {
-        ServiceObject::poll(&mut self.object, here)
+        Ok(ServiceObject::poll(&mut self.object, here)?)
     }
 
     fn again(&self) -> bool {
@@ -187,7 +200,7 @@ impl<T: $0Server> Maker for $0Servant<T> {
     }
 
     fn ask(&mut self, here: &mut Here<T::Makes>) -> Result<Option<Ask>, AllocError> {
-        ServiceObject::ask(&mut self.object, here)
+        Ok(ServiceObject::ask(&mut self.object, here)?)
     }
 
     fn told(
@@ -196,7 +209,7 @@ impl<T: $0Server> Maker for $0Servant<T> {
         outcome: Outcome,
         here: &mut Here<T::Makes>,
     ) -> Result<(), AllocError> {
-        ServiceObject::told(&mut self.object, mark, outcome, here)
+        Ok(ServiceObject::told(&mut self.object, mark, outcome, here)?)
     }
 }
 ",
@@ -257,12 +270,15 @@ fn pass_$8<T: $0Server>(
 {
     match call.params() {
         Ok(body) => {
+            let results = $7Draft::new(here.alloc())?;
             let params = $6View { body };
-            let answered = $0Server::$4(object, call, &params, here);
-            reply(here.alloc(), call, answered)
+            let mut passed = ServiceCall::new(here.alloc(), call, params, results);
+            let done = $0Server::$4(object, &mut passed, here);
+            passed.reply(call, done)
         }
         Err(fault) => refuse(here.alloc(), call, MethodFault::WrongKind(fault)),
     }
 }
 ",
+    pass_cited: "",
 };

@@ -57,7 +57,7 @@ const LIBRARY: [Module; 14] = [
         "cp_servants.specs.Naming",
         &["pointer_naming", "with_named"],
     ),
-    ("cp_stubs.specs.Calls", &["Makes", "request_of"]),
+    ("cp_stubs.specs.Calls", &["Makes", "ask_of", "request_of"]),
     (
         "cp_stubs.specs.Dispatch",
         &[
@@ -152,6 +152,14 @@ fn has_word(text: &str, word: &str) -> bool {
     false
 }
 
+/// Whether a text has a word of a definition, comments aside. Objects that may make others have a type `Makes`.
+fn has_definition(text: &str, word: &str) -> bool {
+    if word == "Makes" {
+        return has_part(text, &["{ Makes ("]);
+    }
+    has_word(text, word)
+}
+
 /// Whether a text has one of these parts, comments aside.
 fn has_part(text: &str, parts: &[&str]) -> bool {
     for line in text.lines() {
@@ -231,7 +239,7 @@ fn of_module<'n>(
 ) {
     let mut is_begun = false;
     for word in words {
-        if has_word(text, word) {
+        if has_definition(text, word) {
             add(out, (before, module), word, is_begun);
             is_begun = true;
         }

@@ -258,8 +258,8 @@ pub(crate) const CALL: Words = Words {
          \x20 2  the command line is wrong, or the connection failed\n\
          \n\
          Examples:\n\
-         \x20 capnp_cli call --schema board.request 127.0.0.1:7000 'Board.post (text = \"hello\")'\n\
-         \x20 capnp_cli call --schema board.request --list\n\
+         \x20 capnp_cli call --schema notebook.request 127.0.0.1:7001 'Notebook.add (text = \"hello\")'\n\
+         \x20 capnp_cli call --schema notebook.request --list\n\
          \x20 capnp_cli call 127.0.0.1:7000 'i=e5a1000000000001 m=0'",
 };
 

@@ -7,10 +7,10 @@ ghost use Rattle.cp_services.specs.Services.{Asks, IsTold, Polls, at};
 use cp_makers::Here;
 use cp_refs::Outcome;
 use cp_servants::{Ask, Settled};
-use std::alloc::AllocError;
+use cp_stubs::MethodFault;
 
 /// An object that has the methods of an interface, and what else a `Maker` may do. An object that answers each call at once, and makes
-/// no calls, has `impl ServiceObject for .. { type Makes = ..; }`.
+/// no calls, has `impl ServiceObject for .. { type Makes = ..; }`. A fault of what isn't a call ends the serving.
 pub trait ServiceObject: Drop {
     /// The one type of all objects of the connection.
     type Makes: Drop;
@@ -20,7 +20,7 @@ pub trait ServiceObject: Drop {
     ghost kind: { MakerKind Self Self.Makes } = { any_maker };
 
     /// Says what one of the calls came to that were to be answered later, if any did.
-    fn poll(&mut self, here: &mut Here<Self::Makes>) -> Result<Option<Settled>, AllocError>
+    fn poll(&mut self, here: &mut Here<Self::Makes>) -> Result<Option<Settled>, MethodFault>
         ensures { IfOk result (λ given. Polls kind (at self.old here.old) given (at self.new here.new)) }
     {
         // The contract allows this of every kind, so this body serves any object.
@@ -36,7 +36,7 @@ pub trait ServiceObject: Drop {
     }
 
     /// The next call that the object makes, if it makes one more.
-    fn ask(&mut self, here: &mut Here<Self::Makes>) -> Result<Option<Ask>, AllocError>
+    fn ask(&mut self, here: &mut Here<Self::Makes>) -> Result<Option<Ask>, MethodFault>
         ensures { IfOk result (λ ask. Asks kind (at self.old here.old) ask (at self.new here.new)) }
     {
         let _ = here;
@@ -49,7 +49,7 @@ pub trait ServiceObject: Drop {
         mark: u64,
         outcome: Outcome,
         here: &mut Here<Self::Makes>,
-    ) -> Result<(), AllocError>
+    ) -> Result<(), MethodFault>
         ensures { OnOk result (IsTold kind (at self.old here.old) mark outcome (at self.new here.new)) }
     {
         let _ = (mark, outcome);

@@ -1,7 +1,8 @@
 //! Reads an address book in place, by the names of crates/addressbook/addressbook.capnp, of which capnpc_rattle made the crate.
 
 use addressbook::{
-    AddressBookView, PersonEmploymentMember as Work, PersonPhoneNumberType as Phone, PersonView,
+    AddressBookView, PersonEmploymentMember as Work, PersonPhoneNumberType as Phone,
+    PersonPhoneNumberView, PersonView,
 };
 use anyhow::anyhow;
 use jamdrosek::fields::Pointee;
@@ -27,26 +28,44 @@ pub fn print_books(rt: &HostRuntime, bytes: &[u8]) -> anyhow::Result<()> {
 fn print_book(rt: &HostRuntime, segments: &Segments) -> anyhow::Result<()> {
     let view = View::root(segments, Limits::standard()).map_err(|fault| anyhow!("{fault}"))?;
     let book = AddressBookView::of(Pointee::of_view(view))?;
-    print!(rt; "of {}:", book.owner()?.name()?.text(rt.alloc())?.as_str())?;
-    for circle in book.circles()? {
-        print!(rt; " {}", circle?.text(rt.alloc())?.as_str())?;
-    }
-    println!(rt; "")?;
+    print_head(rt, &book)?;
     for person in book.people()? {
         print_person(rt, &person)?;
     }
     Ok(())
 }
 
-/// Prints a person's number and name, age and work, and phones.
-fn print_person(rt: &HostRuntime, person: &PersonView<'_>) -> anyhow::Result<()> {
-    let name = person.name()?.text(rt.alloc())?;
-    print!(rt; "{} {}, {}: ", person.id(), name.as_str(), person.age())?;
-    println!(rt; "{}", work_of(rt.alloc(), person)?.as_str())?;
-    for phone in person.phones()? {
-        let number = phone.number()?.text(rt.alloc())?;
-        println!(rt; "    {} ({})", number.as_str(), use_of(phone.type_()))?;
+/// Prints whose book it is, and what people are sorted into.
+fn print_head(rt: &HostRuntime, book: &AddressBookView<'_>) -> anyhow::Result<()> {
+    print!(rt; "of {}:", book.owner()?.name()?.text(rt.alloc())?.as_str())?;
+    for circle in book.circles()? {
+        print!(rt; " {}", circle?.text(rt.alloc())?.as_str())?;
     }
+    println!(rt; "")?;
+    Ok(())
+}
+
+/// Prints a person's line, and one for each phone.
+fn print_person(rt: &HostRuntime, person: &PersonView<'_>) -> anyhow::Result<()> {
+    println!(rt; "{}", line_of(rt.alloc(), person)?.as_str())?;
+    for phone in person.phones()? {
+        print_phone(rt, &phone)?;
+    }
+    Ok(())
+}
+
+/// A person's number and name, age and work.
+fn line_of(alloc: Global, person: &PersonView<'_>) -> anyhow::Result<String> {
+    let name = person.name()?.text(alloc)?;
+    let work = work_of(alloc, person)?;
+    let (number, age) = (person.id(), person.age());
+    Ok(format!(in alloc; "{number} {}, {age}: {}", name.as_str(), work.as_str())?)
+}
+
+/// Prints a phone's number, and what it is for.
+fn print_phone(rt: &HostRuntime, phone: &PersonPhoneNumberView<'_>) -> anyhow::Result<()> {
+    let number = phone.number()?.text(rt.alloc())?;
+    println!(rt; "    {} ({})", number.as_str(), use_of(phone.type_()))?;
     Ok(())
 }
 

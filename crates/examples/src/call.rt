@@ -1,8 +1,7 @@
 //! Puts a text into the store of the example `serve` and gets it back, in one round trip. What the server answers is in a file;
 //! a socket may take its place.
 
-use jamdrosek::client::{Client, Question};
-use jamdrosek::interfaces::payload_of;
+use jamdrosek::client::Client;
 use jamdrosek::{Limits, Mode};
 use std::alloc::Global;
 use std::fs::File;
@@ -29,8 +28,7 @@ fn kept<R: Read + Drop, W: Write + Drop>(
     let store = StoreClient::new(alloc, client.bootstrap()?.cap(alloc));
     store.put(client, blue(alloc)?)?;
     let got = store.get(client, colour(alloc)?)?;
-    let number = got.question();
-    let came = payload_of(client.wait(Question { number })?)?;
+    let came = client.results(got.question())?;
     Ok(got.results(&came)?.value()?.text(alloc)?)
 }
 

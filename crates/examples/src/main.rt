@@ -1,12 +1,10 @@
-//! Runs each example on its file of `data/`, under a heading. With the word `server` it serves a board, and with `client` it calls it; with
-//! `notebook` it serves a notebook, and with `writer` it calls that.
+//! Runs each example on its file of `data/`, under a heading. With the word `server` it serves a notebook, with `client` it calls it, and with `chat` it serves a chat room.
 #![tactic(auto)]
 
-mod board_client;
-mod board_server;
-mod board_test;
 mod book;
 mod call;
+mod chat_server;
+mod chat_test;
 mod connection;
 mod count;
 mod draft;
@@ -22,10 +20,9 @@ use std::env;
 
 fn main(rt: HostRuntime) -> anyhow::Result<()> {
     match env::args(&rt)?.nth(1) {
-        Some(word) if word.as_str() == "server" => board_server::run(&rt),
-        Some(word) if word.as_str() == "client" => board_client::run(&rt),
-        Some(word) if word.as_str() == "notebook" => notebook_server::run(&rt),
-        Some(word) if word.as_str() == "writer" => notebook_client::run(&rt),
+        Some(word) if word.as_str() == "server" => notebook_server::run(&rt),
+        Some(word) if word.as_str() == "client" => notebook_client::run(&rt),
+        Some(word) if word.as_str() == "chat" => chat_server::run(&rt),
         _ => run_all(&rt),
     }
 }
@@ -50,10 +47,10 @@ fn run_all(rt: &HostRuntime) -> anyhow::Result<()> {
     connection::run(rt)?;
     heading(rt, "vat")?;
     vat::run(rt)?;
-    heading(rt, "board_test")?;
-    board_test::run(rt)?;
     heading(rt, "notebook_test")?;
-    notebook_test::run(rt)
+    notebook_test::run(rt)?;
+    heading(rt, "chat_test")?;
+    chat_test::run(rt)
 }
 
 /// Prints an example's name on a line of its own.

@@ -1,17 +1,14 @@
 //! Adds a note to the notebook of the example `notebook_server`, reads it as a page, and is told of it.
 
-use jamdrosek::client::{Cap, Client, Question};
-use jamdrosek::interfaces::{
-    Answer, MethodCall, MethodFault, ServiceObject, Table, failed, payload_of,
-};
+use jamdrosek::client::{Client, Question};
+use jamdrosek::interfaces::{MethodResult, ServiceObject, Table};
 use jamdrosek::server::{Family, Here};
 use jamdrosek::{Limits, Mode};
 use notebook::{
-    NotebookAddParamsDraft, NotebookClient, NotebookOpenParamsDraft, NotebookOpenResultsPromise,
-    NotebookWatchParamsDraft, PageReadParamsDraft, WatcherAddedParamsView,
-    WatcherAddedResultsDraft, WatcherClient, WatcherServant, WatcherServer,
+    NotebookClient, NotebookOpenResultsPromise, NotebookWatchParamsDraft, WatcherAddedCall,
+    WatcherClient, WatcherServant, WatcherServer,
 };
-use std::alloc::{AllocError, Global};
+use std::alloc::Global;
 use std::cell::RefCell;
 use std::io::{Read, Write};
 use std::net::{Ipv4Addr, SocketAddr, TcpStream};
@@ -21,9 +18,8 @@ use std::rc::Rc;
 type Served = WatcherServant<Watcher>;
 
 pub fn run(rt: &HostRuntime) -> anyhow::Result<()> {
-    let alloc = rt.alloc();
     let stream = TcpStream::connect(rt, SocketAddr::from((Ipv4Addr::LOCALHOST, 7001)))?;
-    let (_, said) = talk(alloc, &stream, &stream)?;
+    let (_, said) = talk(rt.alloc(), &stream, &stream)?;
     println!(rt; "{}", said?.as_str())?;
     Ok(())
 }
@@ -35,8 +31,11 @@ pub fn talk<R: Read + Drop, W: Write + Drop>(
     to: W,
 ) -> anyhow::Result<(W, anyhow::Result<String>)> {
     let heard = Rc::new(alloc, RefCell::new(String::new(alloc)))?;
+    let object = Watcher {
+        heard: heard.clone()?,
+    };
     let mut objects = Family::new(alloc);
-    let watcher = objects.add(new_watcher(&heard)?)?;
+    let watcher = WatcherClient::new(alloc, objects.add(WatcherServant { object })?);
     let limits = Limits::standard();
     let mut client = Client::with_family(alloc, from, to, Mode::Plain, limits, objects);
     let text = add_and_read(alloc, &mut client, watcher);
@@ -52,55 +51,29 @@ fn said(
     heard: &Rc<RefCell<String>>,
 ) -> anyhow::Result<String> {
     let text = text?;
-    let mut said = format!(in alloc; "the page says {}", text.as_str())?;
-    if let Ok(heard) = heard.try_borrow() {
-        said.push_str(heard.as_str())?;
-    }
-    Ok(said)
+    let heard = heard.try_borrow()?;
+    Ok(format!(in alloc; "the page says {}{}", text.as_str(), heard.as_str())?)
 }
 
 /// Watches, adds a note and reads it, in one round trip. Then drops the page.
 fn add_and_read<R: Read + Drop, W: Write + Drop>(
     alloc: Global,
     client: &mut Client<R, W, Family<Served>>,
-    watcher: Cap,
+    watcher: WatcherClient,
 ) -> anyhow::Result<String> {
     let notebook = NotebookClient::new(alloc, client.bootstrap()?.cap(alloc));
-    watch(alloc, client, &notebook, watcher)?;
-    let mut params = NotebookAddParamsDraft::new(alloc)?;
-    params.set_text(alloc, "hello")?;
-    notebook.add(client, params)?;
-    let opened = notebook.open_(client, NotebookOpenParamsDraft::new(alloc)?)?;
-    let text = read(alloc, client, &opened)?;
-    close(alloc, client, &opened)?;
-    Ok(text)
-}
-
-/// Has a watcher told of notes.
-fn watch<R: Read + Drop, W: Write + Drop>(
-    alloc: Global,
-    client: &mut Client<R, W, Family<Served>>,
-    notebook: &NotebookClient,
-    watcher: Cap,
-) -> anyhow::Result<()> {
     let mut table = Table::new(alloc);
     let mut params = NotebookWatchParamsDraft::new(alloc)?;
-    params.set_watcher_client(&mut table, WatcherClient::new(alloc, watcher))?;
+    params.set_watcher_client(&mut table, watcher)?;
     notebook.watch(client, params, table)?;
-    Ok(())
-}
-
-/// Reads a page that is still to come.
-fn read<R: Read + Drop, W: Write + Drop>(
-    alloc: Global,
-    client: &mut Client<R, W, Family<Served>>,
-    opened: &NotebookOpenResultsPromise,
-) -> anyhow::Result<String> {
+    notebook.add(client, "hello")?;
+    let opened = notebook.open_(client, 0)?;
     let page = opened.page()?;
-    let read = page.read(client, PageReadParamsDraft::new(alloc)?)?;
-    let number = read.question();
-    let came = payload_of(client.wait(Question { number })?)?;
-    Ok(read.results(&came)?.text()?.text(alloc)?)
+    let read = page.read(client)?;
+    let came = client.results(read.question())?;
+    let text = read.results(&came)?.text()?.text(alloc)?;
+    close(alloc, client, &opened)?;
+    Ok(text)
 }
 
 /// Drops a page.
@@ -109,12 +82,10 @@ fn close<R: Read + Drop, W: Write + Drop>(
     client: &mut Client<R, W, Family<Served>>,
     opened: &NotebookOpenResultsPromise,
 ) -> anyhow::Result<()> {
-    let question = Question {
-        number: opened.question(),
-    };
-    let came = payload_of(client.wait(question)?)?;
+    let number = opened.question();
+    let came = client.results(number)?;
     let page = opened.results(&came)?.page_client(alloc, &came.caps)?;
-    client.finish(question)?;
+    client.finish(Question { number })?;
     if let Some(import) = page.target.import() {
         client.release(import)?;
     }
@@ -127,32 +98,16 @@ struct Watcher {
     heard: Rc<RefCell<String>>,
 }
 
-/// A watcher that notes here what it hears.
-fn new_watcher(heard: &Rc<RefCell<String>>) -> Result<Served, AllocError> {
-    let heard = heard.clone()?;
-    Ok(WatcherServant {
-        object: Watcher { heard },
-    })
-}
-
 impl ServiceObject for Watcher {
     type Makes = Served;
 }
 
 impl WatcherServer for Watcher {
-    fn added(
-        &mut self,
-        _call: &MethodCall,
-        params: &WatcherAddedParamsView<'_>,
-        here: &mut Here<Served>,
-    ) -> Result<Answer<WatcherAddedResultsDraft>, MethodFault> {
-        let alloc = here.alloc();
-        let note = params.text()?.text(alloc)?;
-        let Ok(mut heard) = self.heard.try_borrow_mut() else {
-            return Err(MethodFault::from(failed(alloc, "it is in use")?));
-        };
+    fn added(&mut self, call: &mut WatcherAddedCall<'_>, here: &mut Here<Served>) -> MethodResult {
+        let note = call.params.text()?.text(here.alloc())?;
+        let mut heard = self.heard.try_borrow_mut()?;
         heard.push_str(", told of ")?;
         heard.push_str(note.as_str())?;
-        Ok(Answer::of(alloc, WatcherAddedResultsDraft::new(alloc)?))
+        Ok(())
     }
 }

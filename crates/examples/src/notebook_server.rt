@@ -1,17 +1,14 @@
 //! Serves notes to many clients at once, over TCP. A call makes a page, and watchers are told of each new note.
 
-use jamdrosek::interfaces::{Answer, MethodCall, MethodFault, ServiceObject, Table, failed};
+use jamdrosek::interfaces::{MethodFault, MethodResult, ServiceObject, failed};
 use jamdrosek::server::{Any2, Ask, Family, Here, Waker};
-use jamdrosek::{Limits, Mode};
-use net_host::{Host, HostLimits, HostPlan, News};
+use net_host::{Host, HostPlan, News};
 use net_sockets::Listener;
 use notebook::{
-    NotebookAddParamsView, NotebookAddResultsDraft, NotebookOpenParamsView,
-    NotebookOpenResultsDraft, NotebookServant, NotebookServer, NotebookWatchParamsView,
-    NotebookWatchResultsDraft, PageClient, PageReadParamsView, PageReadResultsDraft, PageServant,
-    PageServer, WatcherAddedParamsDraft, WatcherClient,
+    NotebookAddCall, NotebookOpenCall, NotebookServant, NotebookServer, NotebookWatchCall,
+    PageClient, PageReadCall, PageServant, PageServer, WatcherClient,
 };
-use std::alloc::{AllocError, Global};
+use std::alloc::Global;
 use std::cell::RefCell;
 use std::collections::{BTreeMap, VecDeque};
 use std::net::{Ipv4Addr, SocketAddr};
@@ -29,20 +26,18 @@ pub struct Shelf {
 }
 
 pub fn run(rt: &HostRuntime) -> anyhow::Result<()> {
-    let alloc = rt.alloc();
     let listener = Listener::bind(rt, SocketAddr::from((Ipv4Addr::LOCALHOST, 7001)))?;
-    let plan = HostPlan {
-        mode: Mode::Plain,
-        messages: Limits::standard(),
-        limits: HostLimits::standard(),
-        count: None,
-    };
-    let mut host = Host::new(rt, plan, listener)?;
-    let shelf = new_shelf(alloc)?;
+    let mut host = Host::new(rt, HostPlan::standard(), listener)?;
+    let shelf = new_shelf(rt.alloc())?;
     for _ in 0..u64::MAX {
         match host.next(rt)? {
-            Some(News::Came { number, .. }) => admit(alloc, &mut host, &shelf, number)?,
-            Some(News::Ended { number, .. }) => forget(&shelf, number),
+            Some(News::Came { number, .. }) => {
+                host.admit(new_objects(rt.alloc(), &shelf, number)?)?;
+            }
+            Some(News::Ended { number, .. }) => {
+                let mut shelf = shelf.try_borrow_mut()?;
+                let _ = shelf.wakers.remove(&number);
+            }
             Some(_) => {}
             None => break,
         }
@@ -50,41 +45,18 @@ pub fn run(rt: &HostRuntime) -> anyhow::Result<()> {
     Ok(())
 }
 
-/// Gives the client that came a notebook.
-fn admit(
-    alloc: Global,
-    host: &mut Host<Family<Served>>,
-    shelf: &Rc<RefCell<Shelf>>,
-    number: u64,
-) -> anyhow::Result<()> {
-    let mut objects = Family::new(alloc);
-    objects.add(new_notebook(alloc, shelf, number)?)?;
-    host.admit(objects)?;
-    Ok(())
-}
-
-/// Wakes the notebook of a connection no more.
-fn forget(shelf: &Rc<RefCell<Shelf>>, number: u64) {
-    if let Ok(mut shelf) = shelf.try_borrow_mut() {
-        let _ = shelf.wakers.remove(&number);
-    }
-}
-
 /// A shelf without notes.
 pub fn new_shelf(alloc: Global) -> anyhow::Result<Rc<RefCell<Shelf>>> {
-    let shelf = Shelf {
-        notes: Vec::new(alloc),
-        wakers: BTreeMap::new(alloc),
-    };
-    Ok(Rc::new(alloc, RefCell::new(shelf))?)
+    let (notes, wakers) = (Vec::new(alloc), BTreeMap::new(alloc));
+    Ok(Rc::new(alloc, RefCell::new(Shelf { notes, wakers }))?)
 }
 
-/// The notebook of the connection of this number.
-pub fn new_notebook(
+/// The objects of the connection of this number: a notebook at first.
+pub fn new_objects(
     alloc: Global,
     shelf: &Rc<RefCell<Shelf>>,
     number: u64,
-) -> Result<Served, AllocError> {
+) -> anyhow::Result<Family<Served>> {
     let object = Notebook {
         shelf: shelf.clone()?,
         number,
@@ -92,7 +64,9 @@ pub fn new_notebook(
         told: 0,
         calls: VecDeque::new(alloc),
     };
-    Ok(Served::First(NotebookServant { object }))
+    let mut objects = Family::new(alloc);
+    objects.add(Served::First(NotebookServant { object }))?;
+    Ok(objects)
 }
 
 /// The notes, as one client has them.
@@ -110,95 +84,49 @@ pub struct Notebook {
 impl ServiceObject for Notebook {
     type Makes = Served;
 
-    fn ask(&mut self, here: &mut Here<Served>) -> Result<Option<Ask>, AllocError> {
-        if self.calls.is_empty() && self.tell(here.alloc()).is_err() {
-            return Err(AllocError);
+    fn ask(&mut self, _here: &mut Here<Served>) -> Result<Option<Ask>, MethodFault> {
+        let shelf = self.shelf.try_borrow()?;
+        for note in shelf.notes.iter().skip(self.told) {
+            for watcher in &self.watchers {
+                self.calls.push_back(watcher.added_ask(note.as_str(), 0)?)?;
+            }
         }
+        self.told = shelf.notes.len();
         Ok(self.calls.pop_front())
     }
 }
 
-impl Notebook {
-    /// Tells the watchers of the next note.
-    fn tell(&mut self, alloc: Global) -> Result<(), MethodFault> {
-        let Ok(shelf) = self.shelf.try_borrow() else {
-            return Ok(());
-        };
-        let Some(note) = shelf.notes.get(self.told) else {
-            return Ok(());
-        };
-        self.told = self.told.saturating_add(1);
-        for watcher in &self.watchers {
-            let call = call_of(alloc, watcher, note.as_str())?;
-            self.calls.push_back(call)?;
-        }
-        Ok(())
-    }
-}
-
-/// The call by which a watcher is told of a note.
-fn call_of(alloc: Global, watcher: &WatcherClient, note: &str) -> Result<Ask, MethodFault> {
-    let mut params = WatcherAddedParamsDraft::new(alloc)?;
-    params.set_text(alloc, note)?;
-    Ok(watcher.target.ask(watcher.added_request(params), 0)?)
-}
-
 impl NotebookServer for Notebook {
-    fn add(
-        &mut self,
-        _call: &MethodCall,
-        params: &NotebookAddParamsView<'_>,
-        here: &mut Here<Served>,
-    ) -> Result<Answer<NotebookAddResultsDraft>, MethodFault> {
-        let alloc = here.alloc();
-        let text = params.text()?.text(alloc)?;
-        let Ok(mut shelf) = self.shelf.try_borrow_mut() else {
-            return Err(MethodFault::from(failed(alloc, "the shelf is in use")?));
-        };
-        let id = u32::try_from(shelf.notes.len()).unwrap_or(u32::MAX);
+    fn add(&mut self, call: &mut NotebookAddCall<'_>, here: &mut Here<Served>) -> MethodResult {
+        let text = call.params.text()?.text(here.alloc())?;
+        let mut shelf = self.shelf.try_borrow_mut()?;
+        call.results.set_id(u32::try_from(shelf.notes.len())?);
         shelf.notes.push(text)?;
         for (_, waker) in &shelf.wakers {
             here.wake(*waker)?;
         }
-        let mut results = NotebookAddResultsDraft::new(alloc)?;
-        results.set_id(id);
-        Ok(Answer::of(alloc, results))
+        Ok(())
     }
 
-    fn open_(
-        &mut self,
-        _call: &MethodCall,
-        params: &NotebookOpenParamsView<'_>,
-        here: &mut Here<Served>,
-    ) -> Result<Answer<NotebookOpenResultsDraft>, MethodFault> {
-        let alloc = here.alloc();
+    fn open_(&mut self, call: &mut NotebookOpenCall<'_>, here: &mut Here<Served>) -> MethodResult {
         let object = Page {
             shelf: self.shelf.clone()?,
-            id: params.id(),
+            id: call.params.id(),
         };
         let page = here.make(Served::Second(PageServant { object }))?;
-        let mut table = Table::new(alloc);
-        let mut results = NotebookOpenResultsDraft::new(alloc)?;
-        results.set_page_client(&mut table, PageClient::new(alloc, page))?;
-        Ok(Answer::naming(alloc, results, table))
+        let page = PageClient::new(here.alloc(), page);
+        call.results.set_page_client(&mut call.table, page)?;
+        Ok(())
     }
 
-    fn watch(
-        &mut self,
-        call: &MethodCall,
-        params: &NotebookWatchParamsView<'_>,
-        here: &mut Here<Served>,
-    ) -> Result<Answer<NotebookWatchResultsDraft>, MethodFault> {
-        let alloc = here.alloc();
-        let watcher = params.watcher_client(alloc, call.caps())?;
-        let results = NotebookWatchResultsDraft::new(alloc)?;
-        let answer = Answer::of(alloc, results).keeping(&watcher.target)?;
+    fn watch(&mut self, call: &mut NotebookWatchCall<'_>, here: &mut Here<Served>) -> MethodResult {
+        let watcher = call.params.watcher_client(here.alloc(), call.caps())?;
+        call.keep(&watcher.target)?;
         self.watchers.push(watcher)?;
-        if let Ok(mut shelf) = self.shelf.try_borrow_mut() {
-            self.told = shelf.notes.len();
-            shelf.wakers.insert(self.number, here.waker())?;
-        }
-        Ok(answer)
+        let mut shelf = self.shelf.try_borrow_mut()?;
+        self.told = shelf.notes.len();
+        shelf.wakers.insert(self.number, here.waker())?;
+        Ok(())
     }
 }
 
@@ -214,19 +142,12 @@ impl ServiceObject for Page {
 }
 
 impl PageServer for Page {
-    fn read(
-        &mut self,
-        _call: &MethodCall,
-        _params: &PageReadParamsView<'_>,
-        here: &mut Here<Served>,
-    ) -> Result<Answer<PageReadResultsDraft>, MethodFault> {
-        let alloc = here.alloc();
-        let mut results = PageReadResultsDraft::new(alloc)?;
-        if let Ok(shelf) = self.shelf.try_borrow() {
-            if let Some(note) = shelf.notes.get(self.id as usize) {
-                results.set_text(alloc, note.as_str())?;
-            }
-        }
-        Ok(Answer::of(alloc, results))
+    fn read(&mut self, call: &mut PageReadCall<'_>, here: &mut Here<Served>) -> MethodResult {
+        let shelf = self.shelf.try_borrow()?;
+        let Some(note) = shelf.notes.get(self.id as usize) else {
+            return Err(MethodFault::from(failed(here.alloc(), "there is no such note")?));
+        };
+        call.results.set_text(here.alloc(), note.as_str())?;
+        Ok(())
     }
 }

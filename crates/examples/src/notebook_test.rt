@@ -1,8 +1,7 @@
 //! Tests `notebook_client` and `notebook_server` in memory: what one sends, the other receives.
 
 use crate::notebook_client::talk;
-use crate::notebook_server::{Served, new_notebook, new_shelf};
-use jamdrosek::server::Family;
+use crate::notebook_server::{new_objects, new_shelf};
 use jamdrosek::session::{Session, SessionLimits, SessionOptions};
 use jamdrosek::{Limits, Mode};
 use std::alloc::Global;
@@ -24,11 +23,8 @@ fn exchange(alloc: Global, from: &[u8]) -> anyhow::Result<(Vec<u8>, anyhow::Resu
     talk(alloc, from, Vec::new(alloc))
 }
 
-/// What a notebook sends for these bytes, and how many objects there are then.
+/// What a notebook sends for these bytes, and how many objects there are once it had time to drop what nobody has.
 fn answers_to(alloc: Global, bytes: &[u8]) -> anyhow::Result<(Vec<u8>, usize)> {
-    let mut objects = Family::new(alloc);
-    let shelf = new_shelf(alloc)?;
-    objects.add(new_notebook(alloc, &shelf, 1)?)?;
     let options = SessionOptions {
         mode: Mode::Plain,
         messages: Limits::standard(),
@@ -37,22 +33,14 @@ fn answers_to(alloc: Global, bytes: &[u8]) -> anyhow::Result<(Vec<u8>, usize)> {
         releases_idle: true,
         limits: SessionLimits::standard(),
     };
+    let objects = new_objects(alloc, &new_shelf(alloc)?, 1)?;
     let mut server = Session::new(alloc, &options, objects, 0);
-    let sent = take(alloc, &mut server, bytes);
-    let left = server.hall().len();
-    drop(server);
-    Ok((sent?, left))
-}
-
-/// Gives a server these bytes, and then time to drop what nobody has. Returns what it sends.
-fn take(
-    alloc: Global,
-    server: &mut Session<Family<Served>>,
-    bytes: &[u8],
-) -> anyhow::Result<Vec<u8>> {
     for byte in bytes {
         server.receive(&[*byte], 0)?;
     }
     server.tick(1_000);
-    Ok(Vec::from_slice(alloc, server.outgoing())?)
+    let sent = Vec::from_slice(alloc, server.outgoing());
+    let left = server.hall().len();
+    drop(server);
+    Ok((sent?, left))
 }

@@ -7,8 +7,11 @@
 //! fields and of memory, and `failed` makes one of your own. Capabilities of the params are released with the answer, unless it keeps them
 //! (`Answer::keeping`).
 //!
-//! With `--services` in place of `--interfaces` the methods of `StoreServer` also get the `server::Here` of their call, and the object
-//! implements `ServiceObject`, which names the one type of all objects of its connection. A `StoreServant` is a `server::Maker` then.
+//! With `--services` in place of `--interfaces` a method gets its `ServiceCall`, which has its params and its results, to be written, and the
+//! `server::Here` of the object; it returns a `MethodResult`. `ServiceCall::keep` keeps a capability of the params. `ServiceCall::later` gives the
+//! `LaterCall` by which a poll of the object answers. The object implements `ServiceObject`, which names the one type of all objects of
+//! its connection. A `StoreServant` is a `server::Maker` then. A client's method whose params are numbers and texts takes these in place of
+//! a builder, and `get_ask` is such a call as an object makes it.
 //!
 //! A `StoreClient` calls. Its method `get` takes a `Caller`, for example a `Client`, and a builder of the params, and returns a promise.
 //! Fields of the promise that are structs or capabilities are promises and clients too: call them before anything has arrived (pipelining).
@@ -17,7 +20,7 @@
 
 pub use cp_builder::DraftFault;
 pub use cp_refs::failed;
-pub use cp_services::ServiceObject;
+pub use cp_services::{LaterCall, MethodResult, ServiceCall, ServiceObject};
 pub use cp_stubs::{
     Answer, CallTarget, Caller, CapFault, MethodCall, MethodFault, NoResults, Promised,
     ResultPayload, Results, ServerObject, StreamResultDraft, StreamResultPromise, Table,

@@ -131,18 +131,22 @@
 //! A `Host` (crates net_host and net_sockets) serves many connections in one thread, over TCP or a Unix socket. Give each one its objects
 //! when it has come:
 //!
-//! ```rust crates/examples/src/board_server.rt
-//! let mut host = Host::new(rt, plan, listener)?;
+//! ```rust crates/examples/src/notebook_server.rt
+//! let mut host = Host::new(rt, HostPlan::standard(), listener)?;
 //! ..
 //! for _ in 0..u64::MAX {
 //!     match host.next(rt)? {
-//!         Some(News::Came { .. }) => admit(alloc, &mut host, &notes)?,
+//!         Some(News::Came { number, .. }) => {
+//!             host.admit(new_objects(rt.alloc(), &shelf, number)?)?;
+//!         }
+//!         Some(News::Ended { number, .. }) => {
+//!             let mut shelf = shelf.try_borrow_mut()?;
+//!             let _ = shelf.wakers.remove(&number);
+//!         }
 //!         Some(_) => {}
 //!         None => break,
 //!     }
 //! }
-//! ..
-//! host.admit(vec![in alloc; BoardServant { alloc, object }]?)?;
 //! ```
 //!
 //! # Call an object
@@ -153,8 +157,7 @@
 //! ```rust crates/examples/src/call.rt whole
 //! #![tactic(auto)]
 //!
-//! use jamdrosek::client::{Client, Question};
-//! use jamdrosek::interfaces::payload_of;
+//! use jamdrosek::client::Client;
 //! use jamdrosek::{Limits, Mode};
 //! use std::alloc::Global;
 //! use std::fs::File;
@@ -181,8 +184,7 @@
 //!     let store = StoreClient::new(alloc, client.bootstrap()?.cap(alloc));
 //!     store.put(client, blue(alloc)?)?;
 //!     let got = store.get(client, colour(alloc)?)?;
-//!     let number = got.question();
-//!     let came = payload_of(client.wait(Question { number })?)?;
+//!     let came = client.results(got.question())?;
 //!     Ok(got.results(&came)?.value()?.text(alloc)?)
 //! }
 //!
@@ -213,34 +215,44 @@
 //!
 //! # Be called back
 //!
-//! To be called back, make the client with `Client::with_objects` and `export` your objects (of one type, or `Box<dyn Servant>`). They answer
-//! while the client waits:
+//! To be called back, make the client with a `Family` of your objects. They answer while the client waits:
 //!
-//! ```rust crates/examples/src/board_client.rt
-//! let reader = client.export(ReaderServant { alloc, object })?;
+//! ```rust crates/examples/src/notebook_client.rt
+//! let mut objects = Family::new(alloc);
+//! let watcher = WatcherClient::new(alloc, objects.add(WatcherServant { object })?);
 //! ..
-//! params.set_reader_client(&mut table, ReaderClient::new(alloc, reader))?;
-//! board.read(client, params, table)?;
+//! let mut client = Client::with_family(alloc, from, to, Mode::Plain, limits, objects);
+//! ..
+//! params.set_watcher_client(&mut table, watcher)?;
+//! notebook.watch(client, params, table)?;
 //! ```
 //!
-//! An object calls back by `ServerObject::ask`, at a `Host` or at a client.
+//! With objects that make none (`--interfaces`, or `Box<dyn Servant>`) it is `Client::with_objects`, and `export` adds an object.
+//!
+//! An object calls back by `ServiceObject::ask`, or `ServerObject::ask`, at a `Host` or at a client.
 //!
 //! # Objects made in calls
 //!
-//! With `--services` in place of `--interfaces` an object's methods get a `Here` too, by which they make other objects.
-//! What a call made is dropped once its client dropped it:
+//! With `--services` in place of `--interfaces` an object's method gets its call, whose results it writes, and a `Here`, by which it makes
+//! other objects. What a call made is dropped once its client dropped it:
 //!
 //! ```rust crates/examples/src/notebook_server.rt
 //! let mut objects = Family::new(alloc);
-//! objects.add(new_notebook(alloc, shelf, number)?)?;
-//! host.admit(objects)?;
+//! objects.add(Served::First(NotebookServant { object }))?;
 //! ..
-//! let page = here.make(Served::Second(PageServant { object }))?;
-//! let mut table = Table::new(alloc);
-//! let mut results = NotebookOpenResultsDraft::new(alloc)?;
-//! results.set_page_client(&mut table, PageClient::new(alloc, page))?;
-//! Ok(Answer::naming(alloc, results, table))
+//! fn open_(&mut self, call: &mut NotebookOpenCall<'_>, here: &mut Here<Served>) -> MethodResult {
+//!     let object = Page {
+//!         shelf: self.shelf.clone()?,
+//!         id: call.params.id(),
+//!     };
+//!     let page = here.make(Served::Second(PageServant { object }))?;
+//!     let page = PageClient::new(here.alloc(), page);
+//!     call.results.set_page_client(&mut call.table, page)?;
+//!     Ok(())
+//! }
 //! ```
+//!
+//! Where the params of a method are numbers and texts, a client's method takes these: `notebook.add(client, "hello")?`.
 //!
 //! # Without a schema
 //!

@@ -16,7 +16,8 @@ mod watcher_added_params;
 mod watcher_added_results;
 
 pub use notebook::{
-    NotebookClient, NotebookServant, NotebookServer, dispatch_notebook, dispatch_notebook_method,
+    NotebookAddCall, NotebookClient, NotebookOpenCall, NotebookServant, NotebookServer,
+    NotebookWatchCall, dispatch_notebook, dispatch_notebook_method,
 };
 pub use notebook_add_params::{NotebookAddParamsDraft, NotebookAddParamsView};
 pub use notebook_add_results::{
@@ -30,11 +31,14 @@ pub use notebook_watch_params::{NotebookWatchParamsDraft, NotebookWatchParamsVie
 pub use notebook_watch_results::{
     NotebookWatchResultsDraft, NotebookWatchResultsPromise, NotebookWatchResultsView,
 };
-pub use page::{PageClient, PageServant, PageServer, dispatch_page, dispatch_page_method};
+pub use page::{
+    PageClient, PageReadCall, PageServant, PageServer, dispatch_page, dispatch_page_method,
+};
 pub use page_read_params::{PageReadParamsDraft, PageReadParamsView};
 pub use page_read_results::{PageReadResultsDraft, PageReadResultsPromise, PageReadResultsView};
 pub use watcher::{
-    WatcherClient, WatcherServant, WatcherServer, dispatch_watcher, dispatch_watcher_method,
+    WatcherAddedCall, WatcherClient, WatcherServant, WatcherServer, dispatch_watcher,
+    dispatch_watcher_method,
 };
 pub use watcher_added_params::{WatcherAddedParamsDraft, WatcherAddedParamsView};
 pub use watcher_added_results::{

@@ -1,8 +1,11 @@
 //! `notebook` of notebook.capnp.
 
 ghost use Rattle.std.specs.Prelude.{◌≡◌, IfOk, []};
-ghost use Rattle.cp_stubs.specs.Calls.{Makes, request_of};
-ghost use Rattle.cp_stubs.specs.Dispatch.{Gives, Passes};
+ghost use Rattle.cp_builder.specs.Drafts.{blank, text_tree, with_pointer, with_uint};
+ghost use Rattle.cp_stubs.specs.Calls.{Makes, ask_of, request_of};
+ghost use Rattle.cp_stubs.specs.Dispatch.{Passes};
+ghost use Rattle.cp_services.specs.Calls.{Answers};
+ghost use Rattle.cp_services.specs.Calls.{MakesOf};
 ghost use Rattle.cp_services.specs.Services.{At, at, seen_as, taking};
 ghost use Rattle.notebook.specs.Notebook.{NotebookKind, NotebookMethodTakes, NotebookTakes, any_notebook};
 
@@ -12,11 +15,12 @@ use crate::notebook_open_params::{NotebookOpenParamsDraft, NotebookOpenParamsVie
 use crate::notebook_open_results::{NotebookOpenResultsDraft, NotebookOpenResultsPromise};
 use crate::notebook_watch_params::{NotebookWatchParamsDraft, NotebookWatchParamsView};
 use crate::notebook_watch_results::{NotebookWatchResultsDraft, NotebookWatchResultsPromise};
+use cp_builder::DraftFault;
 use cp_makers::{Here, Maker};
 use cp_refs::{Cap, Outcome, Request};
 use cp_servants::{Ask, Reply, Settled};
-use cp_services::ServiceObject;
-use cp_stubs::{Answer, CallTarget, Caller, MethodCall, MethodFault, Table, refuse, reply};
+use cp_services::{MethodResult, ServiceCall, ServiceObject};
+use cp_stubs::{CallTarget, Caller, MethodCall, MethodFault, Table, refuse};
 use std::alloc::{AllocError, Global};
 
 /// `interface Notebook`.
@@ -51,14 +55,24 @@ impl NotebookClient {
     pub fn add<C: Caller>(
         &self,
         caller: &mut C,
-        params: NotebookAddParamsDraft,
+        text: &str,
     ) -> Result<NotebookAddResultsPromise, C::Fault>
-        ensures { Makes (λ p. p.at) C.asks caller.old self.now.target 0x845bdbd96c36d051 0 params.body [] result caller.new }
+        ensures { MakesOf (λ p. p.at) C.asks caller.old self.now.target 0x845bdbd96c36d051 0 (with_pointer (blank 0 1) 0 (text_tree text.now)) result caller.new }
     {
+        let params = NotebookAddParamsDraft::of(self.target.alloc(), text)?;
         let request = self.add_request(params);
         Ok(NotebookAddResultsPromise {
             at: self.target.call(caller, request)?,
         })
+    }
+
+    /// A call of `add` that an object makes. With the mark the object is told what it came to.
+    pub fn add_ask(&self, text: &str, mark: u64) -> Result<Ask, DraftFault>
+        ensures { IfOk result (λ ask. ask ≡ ask_of self.now.target (request_of 0x845bdbd96c36d051 0 (with_pointer (blank 0 1) 0 (text_tree text.now)) []) mark) }
+    {
+        let params = NotebookAddParamsDraft::of(self.target.alloc(), text)?;
+        let request = self.add_request(params);
+        Ok(self.target.ask(request, mark)?)
     }
 
     /// A call of `open @1`.
@@ -73,14 +87,24 @@ impl NotebookClient {
     pub fn open_<C: Caller>(
         &self,
         caller: &mut C,
-        params: NotebookOpenParamsDraft,
+        id: u32,
     ) -> Result<NotebookOpenResultsPromise, C::Fault>
-        ensures { Makes (λ p. p.at) C.asks caller.old self.now.target 0x845bdbd96c36d051 1 params.body [] result caller.new }
+        ensures { MakesOf (λ p. p.at) C.asks caller.old self.now.target 0x845bdbd96c36d051 1 (with_uint (blank 1 0) 32 0 id) result caller.new }
     {
+        let params = NotebookOpenParamsDraft::of(self.target.alloc(), id)?;
         let request = self.open_request(params);
         Ok(NotebookOpenResultsPromise {
             at: self.target.call(caller, request)?,
         })
+    }
+
+    /// A call of `open` that an object makes. With the mark the object is told what it came to.
+    pub fn open_ask(&self, id: u32, mark: u64) -> Result<Ask, DraftFault>
+        ensures { IfOk result (λ ask. ask ≡ ask_of self.now.target (request_of 0x845bdbd96c36d051 1 (with_uint (blank 1 0) 32 0 id) []) mark) }
+    {
+        let params = NotebookOpenParamsDraft::of(self.target.alloc(), id)?;
+        let request = self.open_request(params);
+        Ok(self.target.ask(request, mark)?)
     }
 
     /// A call of `watch @2`, with the table of the capabilities that its params name.
@@ -108,37 +132,47 @@ impl NotebookClient {
     }
 }
 
+/// A call of `add`.
+pub type NotebookAddCall<'c> = ServiceCall<'c, NotebookAddParamsView<'c>, NotebookAddResultsDraft>;
+
+/// A call of `open`.
+pub type NotebookOpenCall<'c> = ServiceCall<
+    'c,
+    NotebookOpenParamsView<'c>,
+    NotebookOpenResultsDraft,
+>;
+
+/// A call of `watch`.
+pub type NotebookWatchCall<'c> = ServiceCall<
+    'c,
+    NotebookWatchParamsView<'c>,
+    NotebookWatchResultsDraft,
+>;
+
 /// An object of `interface Notebook`.
 pub trait NotebookServer: ServiceObject {
     /// What calls of its methods lead to. Of an object that doesn't say it nothing is known.
     ghost notebook_kind: { NotebookKind (At Self Self.Makes) } = { any_notebook };
 
     /// Adds a note, and tells all watchers of it.
-    fn add(
-        &mut self,
-        call: &MethodCall,
-        params: &NotebookAddParamsView<'_>,
-        here: &mut Here<Self::Makes>,
-    ) -> Result<Answer<NotebookAddResultsDraft>, MethodFault>
-        ensures { Gives (λ d. d.body) notebook_kind.on_add (at self.old here.old) call.now params.now.body result (at self.new here.new) };
+    fn add(&mut self, call: &mut NotebookAddCall<'_>, here: &mut Here<Self::Makes>) -> MethodResult
+        ensures { Answers (λ p. p.body) (λ d. d.body) notebook_kind.on_add (at self.old here.old) call.old call.new result (at self.new here.new) };
 
     /// Makes an object for a note. It goes once its client drops it.
     fn open_(
         &mut self,
-        call: &MethodCall,
-        params: &NotebookOpenParamsView<'_>,
+        call: &mut NotebookOpenCall<'_>,
         here: &mut Here<Self::Makes>,
-    ) -> Result<Answer<NotebookOpenResultsDraft>, MethodFault>
-        ensures { Gives (λ d. d.body) notebook_kind.on_open (at self.old here.old) call.now params.now.body result (at self.new here.new) };
+    ) -> MethodResult
+        ensures { Answers (λ p. p.body) (λ d. d.body) notebook_kind.on_open (at self.old here.old) call.old call.new result (at self.new here.new) };
 
     /// Tells a watcher of each note that is added from now on.
     fn watch(
         &mut self,
-        call: &MethodCall,
-        params: &NotebookWatchParamsView<'_>,
+        call: &mut NotebookWatchCall<'_>,
         here: &mut Here<Self::Makes>,
-    ) -> Result<Answer<NotebookWatchResultsDraft>, MethodFault>
-        ensures { Gives (λ d. d.body) notebook_kind.on_watch (at self.old here.old) call.now params.now.body result (at self.new here.new) };
+    ) -> MethodResult
+        ensures { Answers (λ p. p.body) (λ d. d.body) notebook_kind.on_watch (at self.old here.old) call.old call.new result (at self.new here.new) };
 }
 
 /// An object of `interface Notebook`, as a connection serves it.
@@ -163,7 +197,7 @@ impl<T: NotebookServer> Maker for NotebookServant<T> {
     }
 
     fn poll(&mut self, here: &mut Here<T::Makes>) -> Result<Option<Settled>, AllocError> {
-        ServiceObject::poll(&mut self.object, here)
+        Ok(ServiceObject::poll(&mut self.object, here)?)
     }
 
     fn again(&self) -> bool {
@@ -171,7 +205,7 @@ impl<T: NotebookServer> Maker for NotebookServant<T> {
     }
 
     fn ask(&mut self, here: &mut Here<T::Makes>) -> Result<Option<Ask>, AllocError> {
-        ServiceObject::ask(&mut self.object, here)
+        Ok(ServiceObject::ask(&mut self.object, here)?)
     }
 
     fn told(
@@ -180,7 +214,7 @@ impl<T: NotebookServer> Maker for NotebookServant<T> {
         outcome: Outcome,
         here: &mut Here<T::Makes>,
     ) -> Result<(), AllocError> {
-        ServiceObject::told(&mut self.object, mark, outcome, here)
+        Ok(ServiceObject::told(&mut self.object, mark, outcome, here)?)
     }
 }
 
@@ -224,9 +258,11 @@ fn pass_add<T: NotebookServer>(
 {
     match call.params() {
         Ok(body) => {
+            let results = NotebookAddResultsDraft::new(here.alloc())?;
             let params = NotebookAddParamsView { body };
-            let answered = NotebookServer::add(object, call, &params, here);
-            reply(here.alloc(), call, answered)
+            let mut passed = ServiceCall::new(here.alloc(), call, params, results);
+            let done = NotebookServer::add(object, &mut passed, here);
+            passed.reply(call, done)
         }
         Err(fault) => refuse(here.alloc(), call, MethodFault::WrongKind(fault)),
     }
@@ -242,9 +278,11 @@ fn pass_open<T: NotebookServer>(
 {
     match call.params() {
         Ok(body) => {
+            let results = NotebookOpenResultsDraft::new(here.alloc())?;
             let params = NotebookOpenParamsView { body };
-            let answered = NotebookServer::open_(object, call, &params, here);
-            reply(here.alloc(), call, answered)
+            let mut passed = ServiceCall::new(here.alloc(), call, params, results);
+            let done = NotebookServer::open_(object, &mut passed, here);
+            passed.reply(call, done)
         }
         Err(fault) => refuse(here.alloc(), call, MethodFault::WrongKind(fault)),
     }
@@ -260,9 +298,11 @@ fn pass_watch<T: NotebookServer>(
 {
     match call.params() {
         Ok(body) => {
+            let results = NotebookWatchResultsDraft::new(here.alloc())?;
             let params = NotebookWatchParamsView { body };
-            let answered = NotebookServer::watch(object, call, &params, here);
-            reply(here.alloc(), call, answered)
+            let mut passed = ServiceCall::new(here.alloc(), call, params, results);
+            let done = NotebookServer::watch(object, &mut passed, here);
+            passed.reply(call, done)
         }
         Err(fault) => refuse(here.alloc(), call, MethodFault::WrongKind(fault)),
     }

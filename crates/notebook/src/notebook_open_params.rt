@@ -5,7 +5,7 @@ ghost use Rattle.cp_fields.specs.Numbers.{plain};
 ghost use Rattle.cp_fields.specs.Pointers.{Reads, struct_field};
 ghost use Rattle.cp_builder.specs.Drafts.{blank, with_uint};
 
-use cp_builder::StructDraft;
+use cp_builder::{DraftFault, StructDraft};
 use cp_fields::{Pointee, StructView, WrongKind};
 use std::alloc::{AllocError, Global};
 
@@ -49,6 +49,15 @@ impl NotebookOpenParamsDraft {
         Ok(NotebookOpenParamsDraft {
             body: StructDraft::new(alloc)?,
         })
+    }
+
+    /// A struct of these fields.
+    pub fn of(alloc: Global, id: u32) -> Result<NotebookOpenParamsDraft, DraftFault>
+        ensures { IfOk result (λ d. d.body ≡ (with_uint (blank 1 0) 32 0 id)) }
+    {
+        let mut made = NotebookOpenParamsDraft::new(alloc)?;
+        made.set_id(id);
+        Ok(made)
     }
 
     /// Sets `id`.

@@ -1,18 +1,22 @@
 //! `page` of notebook.capnp.
 
 ghost use Rattle.std.specs.Prelude.{◌≡◌, IfOk, []};
-ghost use Rattle.cp_stubs.specs.Calls.{Makes, request_of};
-ghost use Rattle.cp_stubs.specs.Dispatch.{Gives, Passes};
+ghost use Rattle.cp_builder.specs.Drafts.{blank};
+ghost use Rattle.cp_stubs.specs.Calls.{ask_of, request_of};
+ghost use Rattle.cp_stubs.specs.Dispatch.{Passes};
+ghost use Rattle.cp_services.specs.Calls.{Answers};
+ghost use Rattle.cp_services.specs.Calls.{MakesOf};
 ghost use Rattle.cp_services.specs.Services.{At, at, seen_as, taking};
 ghost use Rattle.notebook.specs.Page.{PageKind, PageMethodTakes, PageTakes, any_page};
 
 use crate::page_read_params::{PageReadParamsDraft, PageReadParamsView};
 use crate::page_read_results::{PageReadResultsDraft, PageReadResultsPromise};
+use cp_builder::DraftFault;
 use cp_makers::{Here, Maker};
 use cp_refs::{Cap, Outcome, Request};
 use cp_servants::{Ask, Reply, Settled};
-use cp_services::ServiceObject;
-use cp_stubs::{Answer, CallTarget, Caller, MethodCall, MethodFault, refuse, reply};
+use cp_services::{MethodResult, ServiceCall, ServiceObject};
+use cp_stubs::{CallTarget, Caller, MethodCall, MethodFault, refuse};
 use std::alloc::{AllocError, Global};
 
 /// `interface Page`.
@@ -44,19 +48,28 @@ impl PageClient {
     }
 
     /// The text of the note.
-    pub fn read<C: Caller>(
-        &self,
-        caller: &mut C,
-        params: PageReadParamsDraft,
-    ) -> Result<PageReadResultsPromise, C::Fault>
-        ensures { Makes (λ p. p.at) C.asks caller.old self.now.target 0xd22af05f2861ac0c 0 params.body [] result caller.new }
+    pub fn read<C: Caller>(&self, caller: &mut C) -> Result<PageReadResultsPromise, C::Fault>
+        ensures { MakesOf (λ p. p.at) C.asks caller.old self.now.target 0xd22af05f2861ac0c 0 (blank 0 0) result caller.new }
     {
+        let params = PageReadParamsDraft::of(self.target.alloc())?;
         let request = self.read_request(params);
         Ok(PageReadResultsPromise {
             at: self.target.call(caller, request)?,
         })
     }
+
+    /// A call of `read` that an object makes. With the mark the object is told what it came to.
+    pub fn read_ask(&self, mark: u64) -> Result<Ask, DraftFault>
+        ensures { IfOk result (λ ask. ask ≡ ask_of self.now.target (request_of 0xd22af05f2861ac0c 0 (blank 0 0) []) mark) }
+    {
+        let params = PageReadParamsDraft::of(self.target.alloc())?;
+        let request = self.read_request(params);
+        Ok(self.target.ask(request, mark)?)
+    }
 }
+
+/// A call of `read`.
+pub type PageReadCall<'c> = ServiceCall<'c, PageReadParamsView<'c>, PageReadResultsDraft>;
 
 /// An object of `interface Page`.
 pub trait PageServer: ServiceObject {
@@ -64,13 +77,8 @@ pub trait PageServer: ServiceObject {
     ghost page_kind: { PageKind (At Self Self.Makes) } = { any_page };
 
     /// The text of the note.
-    fn read(
-        &mut self,
-        call: &MethodCall,
-        params: &PageReadParamsView<'_>,
-        here: &mut Here<Self::Makes>,
-    ) -> Result<Answer<PageReadResultsDraft>, MethodFault>
-        ensures { Gives (λ d. d.body) page_kind.on_read (at self.old here.old) call.now params.now.body result (at self.new here.new) };
+    fn read(&mut self, call: &mut PageReadCall<'_>, here: &mut Here<Self::Makes>) -> MethodResult
+        ensures { Answers (λ p. p.body) (λ d. d.body) page_kind.on_read (at self.old here.old) call.old call.new result (at self.new here.new) };
 }
 
 /// An object of `interface Page`, as a connection serves it.
@@ -95,7 +103,7 @@ impl<T: PageServer> Maker for PageServant<T> {
     }
 
     fn poll(&mut self, here: &mut Here<T::Makes>) -> Result<Option<Settled>, AllocError> {
-        ServiceObject::poll(&mut self.object, here)
+        Ok(ServiceObject::poll(&mut self.object, here)?)
     }
 
     fn again(&self) -> bool {
@@ -103,7 +111,7 @@ impl<T: PageServer> Maker for PageServant<T> {
     }
 
     fn ask(&mut self, here: &mut Here<T::Makes>) -> Result<Option<Ask>, AllocError> {
-        ServiceObject::ask(&mut self.object, here)
+        Ok(ServiceObject::ask(&mut self.object, here)?)
     }
 
     fn told(
@@ -112,7 +120,7 @@ impl<T: PageServer> Maker for PageServant<T> {
         outcome: Outcome,
         here: &mut Here<T::Makes>,
     ) -> Result<(), AllocError> {
-        ServiceObject::told(&mut self.object, mark, outcome, here)
+        Ok(ServiceObject::told(&mut self.object, mark, outcome, here)?)
     }
 }
 
@@ -154,9 +162,11 @@ fn pass_read<T: PageServer>(
 {
     match call.params() {
         Ok(body) => {
+            let results = PageReadResultsDraft::new(here.alloc())?;
             let params = PageReadParamsView { body };
-            let answered = PageServer::read(object, call, &params, here);
-            reply(here.alloc(), call, answered)
+            let mut passed = ServiceCall::new(here.alloc(), call, params, results);
+            let done = PageServer::read(object, &mut passed, here);
+            passed.reply(call, done)
         }
         Err(fault) => refuse(here.alloc(), call, MethodFault::WrongKind(fault)),
     }

@@ -4,7 +4,7 @@ ghost use Rattle.std.specs.Prelude.{◌≡◌, IfOk};
 ghost use Rattle.cp_fields.specs.Pointers.{Reads, struct_field};
 ghost use Rattle.cp_builder.specs.Drafts.{blank};
 
-use cp_builder::StructDraft;
+use cp_builder::{DraftFault, StructDraft};
 use cp_fields::{Pointee, StructView, WrongKind};
 use std::alloc::{AllocError, Global};
 
@@ -41,5 +41,12 @@ impl PageReadParamsDraft {
         Ok(PageReadParamsDraft {
             body: StructDraft::new(alloc)?,
         })
+    }
+
+    /// A struct of these fields.
+    pub fn of(alloc: Global) -> Result<PageReadParamsDraft, DraftFault>
+        ensures { IfOk result (λ d. d.body ≡ (blank 0 0)) }
+    {
+        Ok(PageReadParamsDraft::new(alloc)?)
     }
 }

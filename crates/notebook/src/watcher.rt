@@ -1,18 +1,22 @@
 //! `watcher` of notebook.capnp.
 
 ghost use Rattle.std.specs.Prelude.{◌≡◌, IfOk, []};
-ghost use Rattle.cp_stubs.specs.Calls.{Makes, request_of};
-ghost use Rattle.cp_stubs.specs.Dispatch.{Gives, Passes};
+ghost use Rattle.cp_builder.specs.Drafts.{blank, text_tree, with_pointer};
+ghost use Rattle.cp_stubs.specs.Calls.{ask_of, request_of};
+ghost use Rattle.cp_stubs.specs.Dispatch.{Passes};
+ghost use Rattle.cp_services.specs.Calls.{Answers};
+ghost use Rattle.cp_services.specs.Calls.{MakesOf};
 ghost use Rattle.cp_services.specs.Services.{At, at, seen_as, taking};
 ghost use Rattle.notebook.specs.Watcher.{WatcherKind, WatcherMethodTakes, WatcherTakes, any_watcher};
 
 use crate::watcher_added_params::{WatcherAddedParamsDraft, WatcherAddedParamsView};
 use crate::watcher_added_results::{WatcherAddedResultsDraft, WatcherAddedResultsPromise};
+use cp_builder::DraftFault;
 use cp_makers::{Here, Maker};
 use cp_refs::{Cap, Outcome, Request};
 use cp_servants::{Ask, Reply, Settled};
-use cp_services::ServiceObject;
-use cp_stubs::{Answer, CallTarget, Caller, MethodCall, MethodFault, refuse, reply};
+use cp_services::{MethodResult, ServiceCall, ServiceObject};
+use cp_stubs::{CallTarget, Caller, MethodCall, MethodFault, refuse};
 use std::alloc::{AllocError, Global};
 
 /// `interface Watcher`.
@@ -47,16 +51,33 @@ impl WatcherClient {
     pub fn added<C: Caller>(
         &self,
         caller: &mut C,
-        params: WatcherAddedParamsDraft,
+        text: &str,
     ) -> Result<WatcherAddedResultsPromise, C::Fault>
-        ensures { Makes (λ p. p.at) C.asks caller.old self.now.target 0x80a0c5d36bb2c9a2 0 params.body [] result caller.new }
+        ensures { MakesOf (λ p. p.at) C.asks caller.old self.now.target 0x80a0c5d36bb2c9a2 0 (with_pointer (blank 0 1) 0 (text_tree text.now)) result caller.new }
     {
+        let params = WatcherAddedParamsDraft::of(self.target.alloc(), text)?;
         let request = self.added_request(params);
         Ok(WatcherAddedResultsPromise {
             at: self.target.call(caller, request)?,
         })
     }
+
+    /// A call of `added` that an object makes. With the mark the object is told what it came to.
+    pub fn added_ask(&self, text: &str, mark: u64) -> Result<Ask, DraftFault>
+        ensures { IfOk result (λ ask. ask ≡ ask_of self.now.target (request_of 0x80a0c5d36bb2c9a2 0 (with_pointer (blank 0 1) 0 (text_tree text.now)) []) mark) }
+    {
+        let params = WatcherAddedParamsDraft::of(self.target.alloc(), text)?;
+        let request = self.added_request(params);
+        Ok(self.target.ask(request, mark)?)
+    }
 }
+
+/// A call of `added`.
+pub type WatcherAddedCall<'c> = ServiceCall<
+    'c,
+    WatcherAddedParamsView<'c>,
+    WatcherAddedResultsDraft,
+>;
 
 /// An object of `interface Watcher`.
 pub trait WatcherServer: ServiceObject {
@@ -66,11 +87,10 @@ pub trait WatcherServer: ServiceObject {
     /// Takes a note that was added.
     fn added(
         &mut self,
-        call: &MethodCall,
-        params: &WatcherAddedParamsView<'_>,
+        call: &mut WatcherAddedCall<'_>,
         here: &mut Here<Self::Makes>,
-    ) -> Result<Answer<WatcherAddedResultsDraft>, MethodFault>
-        ensures { Gives (λ d. d.body) watcher_kind.on_added (at self.old here.old) call.now params.now.body result (at self.new here.new) };
+    ) -> MethodResult
+        ensures { Answers (λ p. p.body) (λ d. d.body) watcher_kind.on_added (at self.old here.old) call.old call.new result (at self.new here.new) };
 }
 
 /// An object of `interface Watcher`, as a connection serves it.
@@ -95,7 +115,7 @@ impl<T: WatcherServer> Maker for WatcherServant<T> {
     }
 
     fn poll(&mut self, here: &mut Here<T::Makes>) -> Result<Option<Settled>, AllocError> {
-        ServiceObject::poll(&mut self.object, here)
+        Ok(ServiceObject::poll(&mut self.object, here)?)
     }
 
     fn again(&self) -> bool {
@@ -103,7 +123,7 @@ impl<T: WatcherServer> Maker for WatcherServant<T> {
     }
 
     fn ask(&mut self, here: &mut Here<T::Makes>) -> Result<Option<Ask>, AllocError> {
-        ServiceObject::ask(&mut self.object, here)
+        Ok(ServiceObject::ask(&mut self.object, here)?)
     }
 
     fn told(
@@ -112,7 +132,7 @@ impl<T: WatcherServer> Maker for WatcherServant<T> {
         outcome: Outcome,
         here: &mut Here<T::Makes>,
     ) -> Result<(), AllocError> {
-        ServiceObject::told(&mut self.object, mark, outcome, here)
+        Ok(ServiceObject::told(&mut self.object, mark, outcome, here)?)
     }
 }
 
@@ -154,9 +174,11 @@ fn pass_added<T: WatcherServer>(
 {
     match call.params() {
         Ok(body) => {
+            let results = WatcherAddedResultsDraft::new(here.alloc())?;
             let params = WatcherAddedParamsView { body };
-            let answered = WatcherServer::added(object, call, &params, here);
-            reply(here.alloc(), call, answered)
+            let mut passed = ServiceCall::new(here.alloc(), call, params, results);
+            let done = WatcherServer::added(object, &mut passed, here);
+            passed.reply(call, done)
         }
         Err(fault) => refuse(here.alloc(), call, MethodFault::WrongKind(fault)),
     }

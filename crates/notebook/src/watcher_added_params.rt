@@ -52,6 +52,15 @@ impl WatcherAddedParamsDraft {
         })
     }
 
+    /// A struct of these fields.
+    pub fn of(alloc: Global, text: &str) -> Result<WatcherAddedParamsDraft, DraftFault>
+        ensures { IfOk result (λ d. d.body ≡ (with_pointer (blank 0 1) 0 (text_tree text.now))) }
+    {
+        let mut made = WatcherAddedParamsDraft::new(alloc)?;
+        made.set_text(alloc, text)?;
+        Ok(made)
+    }
+
     /// Sets `text`.
     pub fn set_text(&mut self, alloc: Global, value: &str) -> Result<(), DraftFault>
         ensures set { OnOk result (self.new.body ≡ with_pointer self.old.body 0 (text_tree value.now)) }

@@ -1,4 +1,4 @@
-//! `reader_note_results` of board.capnp.
+//! `listener_heard_results` of chat.capnp.
 
 ghost use Rattle.std.specs.Prelude.{◌≡◌, IfOk};
 ghost use Rattle.cp_fields.specs.Pointers.{Reads, struct_field};
@@ -10,43 +10,43 @@ use cp_stubs::{Promised, ResultPayload, Results};
 use cp_tree::Whole;
 use std::alloc::{AllocError, Global};
 
-/// `struct Reader.note$Results`.
+/// `struct Listener.heard$Results`.
 #[derive(Drop)]
-pub struct ReaderNoteResultsView<'a> {
+pub struct ListenerHeardResultsView<'a> {
     /// The struct, by the places of its fields.
     pub body: StructView<'a>,
 }
 
-impl<'a> ReaderNoteResultsView<'a> {
+impl<'a> ListenerHeardResultsView<'a> {
     /// The struct that a pointer stands for; null is the struct whose fields are all as by default.
-    pub fn of(at: Pointee<'a>) -> Result<ReaderNoteResultsView<'a>, WrongKind>
+    pub fn of(at: Pointee<'a>) -> Result<ListenerHeardResultsView<'a>, WrongKind>
         ensures { Reads result (λ x. x.body) (struct_field at.entry) }
     {
-        Ok(ReaderNoteResultsView {
+        Ok(ListenerHeardResultsView {
             body: StructView::of(at)?,
         })
     }
 }
 
-/// `struct Reader.note$Results`, to be written.
+/// `struct Listener.heard$Results`, to be written.
 #[derive(Drop)]
-pub struct ReaderNoteResultsDraft {
+pub struct ListenerHeardResultsDraft {
     /// The struct, by the places of its fields.
     pub body: StructDraft<0, 0>,
 }
 
-impl ReaderNoteResultsDraft {
+impl ListenerHeardResultsDraft {
     /// A struct whose fields are all as by default.
-    pub fn new(alloc: Global) -> Result<ReaderNoteResultsDraft, AllocError>
+    pub fn new(alloc: Global) -> Result<ListenerHeardResultsDraft, AllocError>
         ensures { IfOk result (λ d. d.body ≡ blank 0 0) }
     {
-        Ok(ReaderNoteResultsDraft {
+        Ok(ListenerHeardResultsDraft {
             body: StructDraft::new(alloc)?,
         })
     }
 }
 
-impl Results for ReaderNoteResultsDraft {
+impl Results for ListenerHeardResultsDraft {
     ghost content = { λ d. d.body };
 
     fn into_whole(self) -> Whole {
@@ -54,14 +54,14 @@ impl Results for ReaderNoteResultsDraft {
     }
 }
 
-/// `struct Reader.note$Results`, as a question will give it.
+/// `struct Listener.heard$Results`, as a question will give it.
 #[derive(Drop)]
-pub struct ReaderNoteResultsPromise {
+pub struct ListenerHeardResultsPromise {
     /// The question, and the path to the struct.
     pub at: Promised,
 }
 
-impl ReaderNoteResultsPromise {
+impl ListenerHeardResultsPromise {
     /// The number of the question, whose outcome can be waited for.
     pub fn question(&self) -> u32
         ensures { result ≡ self.now.at.question }
@@ -73,10 +73,10 @@ impl ReaderNoteResultsPromise {
     pub fn results<'a>(
         &self,
         came: &'a ResultPayload,
-    ) -> Result<ReaderNoteResultsView<'a>, WrongKind>
+    ) -> Result<ListenerHeardResultsView<'a>, WrongKind>
         ensures { Reads result (λ x. x.body) (struct_field came.now.content) }
     {
-        Ok(ReaderNoteResultsView {
+        Ok(ListenerHeardResultsView {
             body: came.results()?,
         })
     }

@@ -1,4 +1,4 @@
-//! `board_post_params` of board.capnp.
+//! `member_say_params` of chat.capnp.
 
 ghost use Rattle.std.specs.Prelude.{◌≡◌, IfOk, OnOk, OnErr, Err, ◌≤◌, ◌^◌, length, ◌+◌, []};
 ghost use Rattle.cp_tree.specs.Seen.{pointee_of};
@@ -10,19 +10,19 @@ use cp_builder::{DraftFault, StructDraft};
 use cp_fields::{Pointee, StructView, TextView, WrongKind};
 use std::alloc::{AllocError, Global};
 
-/// `struct Board.post$Params`.
+/// `struct Member.say$Params`.
 #[derive(Drop)]
-pub struct BoardPostParamsView<'a> {
+pub struct MemberSayParamsView<'a> {
     /// The struct, by the places of its fields.
     pub body: StructView<'a>,
 }
 
-impl<'a> BoardPostParamsView<'a> {
+impl<'a> MemberSayParamsView<'a> {
     /// The struct that a pointer stands for; null is the struct whose fields are all as by default.
-    pub fn of(at: Pointee<'a>) -> Result<BoardPostParamsView<'a>, WrongKind>
+    pub fn of(at: Pointee<'a>) -> Result<MemberSayParamsView<'a>, WrongKind>
         ensures { Reads result (λ x. x.body) (struct_field at.entry) }
     {
-        Ok(BoardPostParamsView {
+        Ok(MemberSayParamsView {
             body: StructView::of(at)?,
         })
     }
@@ -35,21 +35,30 @@ impl<'a> BoardPostParamsView<'a> {
     }
 }
 
-/// `struct Board.post$Params`, to be written.
+/// `struct Member.say$Params`, to be written.
 #[derive(Drop)]
-pub struct BoardPostParamsDraft {
+pub struct MemberSayParamsDraft {
     /// The struct, by the places of its fields.
     pub body: StructDraft<0, 1>,
 }
 
-impl BoardPostParamsDraft {
+impl MemberSayParamsDraft {
     /// A struct whose fields are all as by default.
-    pub fn new(alloc: Global) -> Result<BoardPostParamsDraft, AllocError>
+    pub fn new(alloc: Global) -> Result<MemberSayParamsDraft, AllocError>
         ensures { IfOk result (λ d. d.body ≡ blank 0 1) }
     {
-        Ok(BoardPostParamsDraft {
+        Ok(MemberSayParamsDraft {
             body: StructDraft::new(alloc)?,
         })
+    }
+
+    /// A struct of these fields.
+    pub fn of(alloc: Global, text: &str) -> Result<MemberSayParamsDraft, DraftFault>
+        ensures { IfOk result (λ d. d.body ≡ (with_pointer (blank 0 1) 0 (text_tree text.now))) }
+    {
+        let mut made = MemberSayParamsDraft::new(alloc)?;
+        made.set_text(alloc, text)?;
+        Ok(made)
     }
 
     /// Sets `text`.

@@ -1,4 +1,4 @@
-//! `board_read_params` of board.capnp.
+//! `chat_join_results` of chat.capnp.
 
 ghost use Rattle.std.specs.Prelude.{◌≡◌, IfOk, OnOk, OnErr, Err, ◌↔◌, ◌≤◌, ◌^◌, length, ◌+◌};
 ghost use Rattle.cp_tree.specs.Seen.{pointee_of};
@@ -6,79 +6,80 @@ ghost use Rattle.cp_fields.specs.Pointers.{Reads, cap_field, struct_field};
 ghost use Rattle.cp_builder.specs.declared.fault.DraftFault.TheVariants.{TooLong};
 ghost use Rattle.cp_builder.specs.Drafts.{blank, cap_tree, with_pointer};
 ghost use Rattle.cp_servants.specs.Naming.{pointer_naming, with_named};
-ghost use Rattle.cp_stubs.specs.Promises.{Finds};
+ghost use Rattle.cp_stubs.specs.Promises.{Finds, promised_cap};
 
-use crate::reader::ReaderClient;
+use crate::member_::MemberClient;
 use cp_builder::{DraftFault, StructDraft};
 use cp_fields::{Pointee, StructView, WrongKind};
 use cp_refs::Caps;
-use cp_stubs::{CallTarget, CapFault, Table};
+use cp_stubs::{CallTarget, CapFault, Promised, ResultPayload, Results, Table};
+use cp_tree::Whole;
 use std::alloc::{AllocError, Global};
 
-/// `struct Board.read$Params`.
+/// `struct Chat.join$Results`.
 #[derive(Drop)]
-pub struct BoardReadParamsView<'a> {
+pub struct ChatJoinResultsView<'a> {
     /// The struct, by the places of its fields.
     pub body: StructView<'a>,
 }
 
-impl<'a> BoardReadParamsView<'a> {
+impl<'a> ChatJoinResultsView<'a> {
     /// The struct that a pointer stands for; null is the struct whose fields are all as by default.
-    pub fn of(at: Pointee<'a>) -> Result<BoardReadParamsView<'a>, WrongKind>
+    pub fn of(at: Pointee<'a>) -> Result<ChatJoinResultsView<'a>, WrongKind>
         ensures { Reads result (λ x. x.body) (struct_field at.entry) }
     {
-        Ok(BoardReadParamsView {
+        Ok(ChatJoinResultsView {
             body: StructView::of(at)?,
         })
     }
 
-    /// `reader @0`.
-    pub fn reader(&self) -> Result<Option<u32>, WrongKind>
+    /// `member @0`.
+    pub fn member_(&self) -> Result<Option<u32>, WrongKind>
         ensures { result ≡ cap_field (pointee_of self.now.body 0) }
     {
         self.body.cap(0)
     }
 
-    /// `reader @0`, of those that a table has.
-    pub fn reader_client(&self, alloc: Global, caps: &Caps) -> Result<ReaderClient, CapFault>
+    /// `member @0`, of those that a table has.
+    pub fn member_client(&self, alloc: Global, caps: &Caps) -> Result<MemberClient, CapFault>
         ensures { Finds result (λ c. c.target) (cap_field (pointee_of self.now.body 0)) caps.now }
     {
-        let place = self.reader()?;
-        Ok(ReaderClient {
+        let place = self.member_()?;
+        Ok(MemberClient {
             target: CallTarget::of_field(alloc, place, caps)?,
         })
     }
 }
 
-/// `struct Board.read$Params`, to be written.
+/// `struct Chat.join$Results`, to be written.
 #[derive(Drop)]
-pub struct BoardReadParamsDraft {
+pub struct ChatJoinResultsDraft {
     /// The struct, by the places of its fields.
     pub body: StructDraft<0, 1>,
 }
 
-impl BoardReadParamsDraft {
+impl ChatJoinResultsDraft {
     /// A struct whose fields are all as by default.
-    pub fn new(alloc: Global) -> Result<BoardReadParamsDraft, AllocError>
+    pub fn new(alloc: Global) -> Result<ChatJoinResultsDraft, AllocError>
         ensures { IfOk result (λ d. d.body ≡ blank 0 1) }
     {
-        Ok(BoardReadParamsDraft {
+        Ok(ChatJoinResultsDraft {
             body: StructDraft::new(alloc)?,
         })
     }
 
-    /// Sets `reader`.
-    pub fn set_reader(&mut self, value: u32)
+    /// Sets `member`.
+    pub fn set_member(&mut self, value: u32)
         ensures { self.new.body ≡ with_pointer self.old.body 0 (cap_tree value) }
     {
         self.body.set_pointer(0, cp_builder::cap_of(value));
     }
 
-    /// Sets `reader`.
-    pub fn set_reader_client(
+    /// Sets `member`.
+    pub fn set_member_client(
         &mut self,
         table: &mut Table,
-        value: ReaderClient,
+        value: MemberClient,
     ) -> Result<(), DraftFault>
         ensures set { OnOk result (self.new.body ≡ with_pointer self.old.body 0 (pointer_naming table.old value.target)) }
         ensures added { OnOk result (table.new ≡ with_named table.old value.target) }
@@ -88,5 +89,47 @@ impl BoardReadParamsDraft {
         let pointer = table.add(value.target.into_cap())?;
         self.body.set_pointer(0, pointer);
         Ok(())
+    }
+}
+
+impl Results for ChatJoinResultsDraft {
+    ghost content = { λ d. d.body };
+
+    fn into_whole(self) -> Whole {
+        self.body.into_whole()
+    }
+}
+
+/// `struct Chat.join$Results`, as a question will give it.
+#[derive(Drop)]
+pub struct ChatJoinResultsPromise {
+    /// The question, and the path to the struct.
+    pub at: Promised,
+}
+
+impl ChatJoinResultsPromise {
+    /// The number of the question, whose outcome can be waited for.
+    pub fn question(&self) -> u32
+        ensures { result ≡ self.now.at.question }
+    {
+        self.at.question()
+    }
+
+    /// The results that came.
+    pub fn results<'a>(&self, came: &'a ResultPayload) -> Result<ChatJoinResultsView<'a>, WrongKind>
+        ensures { Reads result (λ x. x.body) (struct_field came.now.content) }
+    {
+        Ok(ChatJoinResultsView {
+            body: came.results()?,
+        })
+    }
+
+    /// `member @0`.
+    pub fn member_(&self) -> Result<MemberClient, AllocError>
+        ensures { IfOk result (λ c. c.target ≡ promised_cap self.now.at 0) }
+    {
+        Ok(MemberClient {
+            target: self.at.target(0)?,
+        })
     }
 }

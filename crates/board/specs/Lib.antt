@@ -1,2 +1,0 @@
-pub mod Board
-pub mod Reader

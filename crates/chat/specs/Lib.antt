@@ -1,0 +1,3 @@
+pub mod Chat
+pub mod Listener
+pub mod Member_

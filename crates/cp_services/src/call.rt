@@ -1,0 +1,120 @@
+//! Calls, as methods of objects have them.
+
+ghost use Rattle.std.specs.Prelude.{◌≡◌, [], Some, true, false, IfOk, OnOk, OnErr};
+ghost use Rattle.cp_stubs.specs.Calls.{import_of};
+ghost use Rattle.cp_stubs.specs.Replies.{given_up, with_import};
+ghost use Rattle.cp_services.specs.Calls.{reply_for};
+
+use crate::later::LaterCall;
+use cp_refs::Caps;
+use cp_servants::Reply;
+use cp_stubs::{Answer, CallTarget, MethodCall, MethodFault, Results, Table, given_up, refuse};
+use cp_vat_machine::Ids;
+use std::alloc::{AllocError, Global};
+
+/// What a method of an object returns. `Ok` says that its results are written, or that they come later.
+pub type MethodResult = Result<(), MethodFault>;
+
+/// A call of a method: its params, and its results, to be written.
+pub struct ServiceCall<'c, P, R> {
+    pub params: P,
+    pub results: R,
+    /// The capabilities that the results name.
+    pub table: Table,
+    alloc: Global,
+    of: &'c MethodCall,
+    /// The imports of the params that the object keeps.
+    keeps: Vec<u32>,
+    /// Whether a poll will say what it comes to.
+    is_later: bool,
+}
+
+impl<'c, P, R> ServiceCall<'c, P, R> {
+    /// A call with these params, whose results are to be written. The object keeps none of the params yet.
+    pub fn new(alloc: Global, of: &'c MethodCall, params: P, results: R) -> ServiceCall<'c, P, R>
+        ensures params { result.params ≡ params }
+        ensures results { result.results ≡ results }
+        ensures call { result.of.now ≡ of.now }
+        ensures nothing { (result.table ≡ []) × (result.keeps.items ≡ []) × (result.is_later ≡ false) }
+    {
+        ServiceCall {
+            params,
+            results,
+            table: Table::new(alloc),
+            alloc,
+            of,
+            keeps: Vec::new(alloc),
+            is_later: false,
+        }
+    }
+
+    /// The table of the capabilities that its params name.
+    pub fn caps(&self) -> &Caps
+        ensures { result.now ≡ self.now.of.now.request.caps }
+    {
+        self.of.caps()
+    }
+
+    /// The object keeps this capability of the params. All others are given up with the answer: if they were kept until the object
+    /// says so, each call could leak.
+    pub fn keep(&mut self, target: &CallTarget) -> Result<(), AllocError>
+        ensures kept { OnOk result (self.new.keeps.items ≡ with_import (import_of target.now) self.old.keeps.items) }
+        ensures left { OnErr result (self.new.keeps.items ≡ self.old.keeps.items) }
+        ensures parts { (self.new.params ≡ self.old.params) × (self.new.results ≡ self.old.results) × (self.new.table ≡ self.old.table) }
+        ensures call { (self.new.of.now ≡ self.old.of.now) × (self.new.is_later ≡ self.old.is_later) }
+    {
+        if let Some(import) = target.import() {
+            self.keeps.push(import)?;
+        }
+        Ok(())
+    }
+
+    /// The call is answered later, by a poll of the object that gives what this makes. What was written of its results is dropped.
+    pub fn later(&mut self) -> Result<LaterCall, AllocError>
+        ensures ticket { IfOk result (λ call. call.ticket ≡ self.old.of.now.ticket) }
+        ensures given_up { IfOk result (λ call. call.gives_up ≡ given_up self.old.keeps.items self.old.of.now.request.caps) }
+        ensures later { OnOk result (self.new.is_later ≡ true) }
+        ensures left { OnErr result (self.new.is_later ≡ self.old.is_later) }
+        ensures parts { (self.new.params ≡ self.old.params) × (self.new.results ≡ self.old.results) × (self.new.table ≡ self.old.table) }
+        ensures call { (self.new.of.now ≡ self.old.of.now) × (self.new.keeps.items ≡ self.old.keeps.items) }
+    {
+        let keeps = Ids::new(Vec::from_slice(self.alloc, self.keeps.as_slice())?);
+        let gives_up = given_up(self.alloc, self.of.caps(), &keeps)?;
+        self.is_later = true;
+        Ok(LaterCall::new(self.of.ticket, gives_up))
+    }
+}
+
+impl<P: Drop, R: Results> ServiceCall<'_, P, R> {
+    /// What goes to the peer for this call, where its method returned this. `Err`: memory ran out.
+    pub fn reply(self, call: &MethodCall, done: MethodResult) -> Result<Reply, AllocError>
+        ensures { IfOk result (λ reply. reply_for R.content call.now.request.caps self.entry done ≡ Some reply) }
+    {
+        let ServiceCall {
+            params,
+            results,
+            table,
+            alloc,
+            of: _,
+            keeps,
+            is_later,
+        } = self;
+        drop(params);
+        let answer = Answer::Now {
+            results,
+            caps: table.into_caps(),
+            keeps: Ids::new(keeps),
+        };
+        match done {
+            Ok(()) if is_later => {
+                drop(answer);
+                Ok(Reply::Later)
+            }
+            Ok(()) => answer.reply(alloc, call.caps()),
+            Err(fault) => {
+                drop(answer);
+                refuse(alloc, call, fault)
+            }
+        }
+    }
+}
