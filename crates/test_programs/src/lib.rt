@@ -1,5 +1,5 @@
 //! Tests of what programs stand on, where no row of a file can say it: allocations and devices that fail, calls that are lent, a client and its
-//! objects, a host, and the commands. They are one crate, since how each type is dropped is proved anew for each.
+//! objects, objects that make others, a host, and the commands. They are one crate, since how each type is dropped is proved anew for each.
 #![tactic(auto)]
 
 /// Ends the test unless the condition holds, with the condition's text.
@@ -26,6 +26,8 @@ mod frames;
 mod host;
 #[cfg(test)]
 mod server;
+#[cfg(test)]
+mod services;
 #[cfg(test)]
 mod session;
 #[cfg(test)]

@@ -1,6 +1,6 @@
 //! A client and a server over bytes in memory.
 
-use crate::notebook::{NOTES, Served, Shared, new_book};
+use crate::services::notebook::{NOTES, Served, Shared, new_book};
 use cp_frame::Mode;
 use cp_makers::{Family, Hall};
 use cp_refs::{Cap, Caps, Outcome, Request};

@@ -1,7 +1,7 @@
 //! Random calls of a notebook and its pages, beside a plain model of which pages there are.
 
-use crate::notebook::{GIVE_UP, KEEP, KEPT, OPEN, READ, Shared, new_notes};
-use crate::pair::Pair;
+use crate::services::notebook::{GIVE_UP, KEEP, KEPT, OPEN, READ, Shared, new_notes};
+use crate::services::pair::Pair;
 use std::alloc::Global;
 use std::process::Abort;
 

@@ -1,7 +1,7 @@
 //! Pages are made, read and dropped.
 
-use crate::notebook::{GIVE_UP, KEEP, KEPT, NAME, OPEN, READ, new_notes};
-use crate::pair::Pair;
+use crate::services::notebook::{GIVE_UP, KEEP, KEPT, NAME, OPEN, READ, new_notes};
+use crate::services::pair::Pair;
 
 #[test]
 fn a_page_goes_when_it_is_released(rt: HostRuntime) {

@@ -1,7 +1,7 @@
 //! An object of a client wakes another of it, and one of another session.
 
-use crate::notebook::{NOTES, done};
-use crate::pair::{Watcher, options};
+use crate::services::notebook::{NOTES, done};
+use crate::services::pair::{Watcher, options};
 use cp_client::Client;
 use cp_frame::Mode;
 use cp_makers::{Family, Hall, Here, Maker, Waker};

@@ -1,7 +1,7 @@
 //! Watchers are told of what others did, and of the time, while they are silent.
 
-use crate::notebook::{ADD, REMIND, WATCH, new_notes};
-use crate::pair::{Pair, Watcher, give};
+use crate::services::notebook::{ADD, REMIND, WATCH, new_notes};
+use crate::services::pair::{Pair, Watcher, give};
 use std::process::Abort;
 
 /// A client's watcher was told of these words.

@@ -1,0 +1,8 @@
+//! Objects that make others: a notebook whose pages are objects, watchers of other sessions, times, and a plain model of who is there.
+
+mod model;
+mod notebook;
+mod pages;
+mod pair;
+mod ringing;
+mod watching;
