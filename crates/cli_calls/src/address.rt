@@ -50,20 +50,32 @@ where
     N: Net<Listener = TcpListener, Stream = TcpStream> + Files + AllocGlobal,
 {
     let calls = calls_of(rt, plan.schema, words)?;
+    match connect(rt, address, plan.timeout) {
+        Ok(stream) => converse(rt, stream, address, plan, calls, out),
+        Err(fault) => {
+            drop(calls);
+            Err(fault)
+        }
+    }
+}
+
+/// A connection to an address.
+fn connect<N>(
+    rt: &N,
+    address: &str,
+    timeout: Option<u32>,
+) -> Result<NonblockingStream, CommandFault>
+where
+    N: Net<Listener = TcpListener, Stream = TcpStream> + AllocGlobal,
+{
     let connected = match path_of(address) {
         Some(path) => connect_unix(rt, path),
-        None if has_port(address) => connect_tcp(rt, address, plan.timeout),
-        None => {
-            drop(calls);
-            return Err(CommandFault::Address(String::from_str(rt.alloc(), address)?));
-        }
+        None if has_port(address) => connect_tcp(rt, address, timeout),
+        None => return Err(CommandFault::of_address(rt.alloc(), address)),
     };
     match connected {
-        Ok(stream) => converse(rt, stream, address, plan, calls, out),
-        Err(error) => {
-            drop(calls);
-            Err(CommandFault::of_device(rt.alloc(), address, error))
-        }
+        Ok(stream) => Ok(stream),
+        Err(error) => Err(CommandFault::of_device(rt.alloc(), address, error)),
     }
 }
 

@@ -109,12 +109,30 @@ impl<'a, 'b, 's> Conversation<'a, 'b, 's> {
 
     /// Asks for the bootstrap, question 0, and makes calls. They are sent when an outcome is waited for.
     fn call(&mut self, calls: Vec<(Cap, Request)>) -> Result<Vec<Asked>, CommandFault> {
-        let _ = self.client.bootstrap()?;
-        let mut asked = Vec::new(self.alloc);
-        for (cap, request) in calls {
-            self.call_one(cap, request, &mut asked)?;
+        if let Err(fault) = self.client.bootstrap() {
+            drop(calls);
+            return Err(CommandFault::from(fault));
         }
-        Ok(asked)
+        let mut asked = Vec::new(self.alloc);
+        match self.call_each(calls, &mut asked) {
+            Ok(()) => Ok(asked),
+            Err(fault) => {
+                drop(asked);
+                Err(fault)
+            }
+        }
+    }
+
+    /// Makes calls, and adds their questions.
+    fn call_each(
+        &mut self,
+        calls: Vec<(Cap, Request)>,
+        asked: &mut Vec<Asked>,
+    ) -> Result<(), CommandFault> {
+        for (cap, request) in calls {
+            self.call_one(cap, request, asked)?;
+        }
+        Ok(())
     }
 
     /// Makes a call, and adds its question.
@@ -155,16 +173,17 @@ impl<'a, 'b, 's> Conversation<'a, 'b, 's> {
         outcome: &Outcome,
         out: &mut O,
     ) -> Result<(), CommandFault> {
-        print_messages(self.stream, out)?;
         let Some(plain) = lines.text() else {
             return Err(CommandFault::from(AllocError));
         };
-        let Some(line) = self.named(plain, method, outcome)? else {
-            return Ok(out.write_all(plain.as_bytes())?);
-        };
-        let written = out.write_all(line.as_bytes());
-        drop(line);
-        Ok(written?)
+        match self.named(plain, method, outcome)? {
+            Some(line) => {
+                let printed = print_line(self.stream, line.as_str(), out);
+                drop(line);
+                printed
+            }
+            None => print_line(self.stream, plain, out),
+        }
     }
 
     /// The line of results by the names of the schema.
@@ -188,20 +207,23 @@ impl<'a, 'b, 's> Conversation<'a, 'b, 's> {
         match self.client.wait(question) {
             Ok(outcome) => Ok(outcome),
             Err(ClientFault::Device(error)) => Err(self.device(error)),
-            Err(fault) => Err(self.fault(fault)?),
+            Err(fault) => Err(self.fault(fault)),
         }
     }
 
     /// Why the calls come to nothing.
-    fn fault(&self, fault: ClientFault) -> Result<CommandFault, CommandFault> {
-        match self.client.closed() {
-            Some(reason) => Ok(CommandFault::Closed(format!(in self.alloc; "{reason}")?)),
-            None => Ok(match fault {
-                ClientFault::Connection(ConnectionFault::Unreadable { at: 0, .. }) => {
-                    self.first_fault(fault)
-                }
-                fault => CommandFault::Refused(fault),
-            }),
+    fn fault(&self, fault: ClientFault) -> CommandFault {
+        if let Some(reason) = self.client.closed() {
+            return match format!(in self.alloc; "{reason}") {
+                Ok(reason) => CommandFault::Closed(reason),
+                Err(error) => CommandFault::from(error),
+            };
+        }
+        match fault {
+            ClientFault::Connection(ConnectionFault::Unreadable { at: 0, .. }) => {
+                self.first_fault(fault)
+            }
+            fault => CommandFault::Refused(fault),
         }
     }
 
@@ -211,9 +233,12 @@ impl<'a, 'b, 's> Conversation<'a, 'b, 's> {
             return CommandFault::Refused(fault);
         };
         let mode = self.plan.mode;
-        match foreign_protocol(&stream.first) {
+        let protocol = foreign_protocol(&stream.first);
+        let is_other_form = is_other_form(mode, &stream.first);
+        drop(stream);
+        match protocol {
             Some(protocol) => CommandFault::Foreign { fault, protocol },
-            None if is_other_form(mode, &stream.first) => CommandFault::OtherForm { fault, mode },
+            None if is_other_form => CommandFault::OtherForm { fault, mode },
             None => CommandFault::Refused(fault),
         }
     }
@@ -247,14 +272,25 @@ fn print_rest<O: Write>(stream: &RefCell<DuplexStream>, out: &mut O) -> Result<(
     Ok(out.flush()?)
 }
 
+/// Prints the messages that weren't, and a line.
+fn print_line<O: Write>(
+    stream: &RefCell<DuplexStream>,
+    line: &str,
+    out: &mut O,
+) -> Result<(), CommandFault> {
+    print_messages(stream, out)?;
+    Ok(out.write_all(line.as_bytes())?)
+}
+
 /// Prints the messages that weren't.
 fn print_messages<O: Write>(
     stream: &RefCell<DuplexStream>,
     out: &mut O,
 ) -> Result<(), CommandFault> {
-    if let Ok(mut stream) = stream.try_borrow_mut() {
-        out.write_all(stream.log.lines.as_bytes())?;
-        stream.log.lines.clear();
-    }
-    Ok(())
+    let Ok(mut stream) = stream.try_borrow_mut() else {
+        return Ok(());
+    };
+    let printed = stream.log.print(out);
+    drop(stream);
+    Ok(printed?)
 }

@@ -52,13 +52,12 @@ impl DuplexStream {
         mut stream: NonblockingStream,
         plan: &CallPlan<'_>,
     ) -> io::Result<DuplexStream> {
-        let poll = Poll::new(rt)?;
-        stream.register(poll.registry(), Token(0))?;
+        let (poll, events) = polled(rt, alloc, &mut stream)?;
         Ok(DuplexStream {
             alloc,
             stream,
             poll,
-            events: Events::with_capacity(alloc, 1)?,
+            events,
             timeout: plan.timeout,
             ahead: Vec::new(alloc),
             given: 0,
@@ -206,6 +205,18 @@ impl DuplexStream {
             self.failed = Some(error);
         }
     }
+}
+
+/// What waits for a stream, and room for its event.
+fn polled<N: Net>(
+    rt: &N,
+    alloc: Global,
+    stream: &mut NonblockingStream,
+) -> io::Result<(Poll, Events)> {
+    let poll = Poll::new(rt)?;
+    stream.register(poll.registry(), Token(0))?;
+    let events = Events::with_capacity(alloc, 1)?;
+    Ok((poll, events))
 }
 
 /// Whether an error says that the peer is gone. A peer that closes before it has read all resets the connection by that.

@@ -6,6 +6,7 @@ use cp_connection::ConnectionFault;
 use cp_encoder::{EncodeFault, NotationFault};
 use cp_frame::Mode;
 use cp_schema::DecodeFault;
+use cp_scripts::Wrong;
 use std::alloc::{AllocError, AllocFailed, Global};
 use std::fmt::{self, Display};
 use std::io::{self, ErrorKind, Write};
@@ -16,7 +17,7 @@ pub enum CommandFault {
     /// The word of this number isn't a call.
     Word {
         number: usize,
-        wrong: String,
+        wrong: Wrong,
     },
     /// The word of this number isn't a call of the schema.
     Named {
@@ -72,6 +73,30 @@ pub enum CommandFault {
 }
 
 impl CommandFault {
+    /// This isn't an address.
+    pub(crate) fn of_address(alloc: Global, address: &str) -> CommandFault {
+        match String::from_str(alloc, address) {
+            Ok(address) => CommandFault::Address(address),
+            Err(fault) => CommandFault::from(fault),
+        }
+    }
+
+    /// The file of this path can't be read.
+    pub(crate) fn of_file(alloc: Global, path: &str, error: io::Error) -> CommandFault {
+        match String::from_str(alloc, path) {
+            Ok(path) => CommandFault::File { path, error },
+            Err(fault) => CommandFault::from(fault),
+        }
+    }
+
+    /// The file of this path isn't a message.
+    pub(crate) fn of_content(alloc: Global, path: &str) -> CommandFault {
+        match String::from_str(alloc, path) {
+            Ok(path) => CommandFault::Content { path },
+            Err(fault) => CommandFault::from(fault),
+        }
+    }
+
     /// A call of the connection to this address failed.
     pub(crate) fn of_device(alloc: Global, address: &str, error: io::Error) -> CommandFault {
         match String::from_str(alloc, address) {
@@ -126,10 +151,10 @@ impl Display for CommandFault {
                 f,
                 "{address}: not HOST:PORT, nor the path of a Unix socket, with a slash or after unix:"
             ),
-            CommandFault::File { path, error } => write!(f, "device: {path}: {error}"),
+            CommandFault::File { path, error } => device(f, path.as_str(), error),
             CommandFault::Content { path } => write!(f, "refused: {path} isn't a message"),
-            CommandFault::Device { address, error } => write!(f, "device: {address}: {error}"),
-            CommandFault::Printing(error) => write!(f, "device: can't write: {error}"),
+            CommandFault::Device { address, error } => device(f, address.as_str(), error),
+            CommandFault::Printing(error) => device(f, "can't write", error),
             CommandFault::Silent { address, seconds } => {
                 write!(f, "device: {address}: nothing came for {seconds} s")
             }
@@ -143,20 +168,7 @@ impl Display for CommandFault {
                     "{fault}: the peer speaks {protocol}, and not Cap'n Proto"
                 )
             }
-            CommandFault::OtherForm {
-                fault,
-                mode: Mode::Plain,
-            } => write!(
-                f,
-                "{fault}: the peer's frames seem to be packed: give --packed"
-            ),
-            CommandFault::OtherForm {
-                fault,
-                mode: Mode::Packed,
-            } => write!(
-                f,
-                "{fault}: the peer's frames don't seem to be packed: leave out --packed"
-            ),
+            CommandFault::OtherForm { fault, mode } => other_form(f, *fault, *mode),
         }
     }
 }
@@ -177,6 +189,24 @@ fn wrong_name<W: fmt::Write>(
         ) => write!(f, "call {number}: column {column}: {message}"),
         fault => write!(f, "call {number}: {fault}"),
     }
+}
+
+/// What a device failed of.
+fn device<W: fmt::Write>(f: &mut fmt::Formatter<W>, what: &str, error: &io::Error) -> fmt::Result {
+    write!(f, "device: {what}: {error}")
+}
+
+/// What to do about frames that seem to have the other form.
+fn other_form<W: fmt::Write>(
+    f: &mut fmt::Formatter<W>,
+    fault: ClientFault,
+    mode: Mode,
+) -> fmt::Result {
+    let advice = match mode {
+        Mode::Plain => "seem to be packed: give --packed",
+        Mode::Packed => "don't seem to be packed: leave out --packed",
+    };
+    write!(f, "{fault}: the peer's frames {advice}")
 }
 
 /// What the connection refuses.

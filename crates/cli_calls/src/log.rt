@@ -6,6 +6,7 @@ use cp_lines::push_line;
 use cp_stream::view_in;
 use cp_words::{Limits, Segments};
 use std::alloc::Global;
+use std::io::{self, Write};
 
 /// The messages that went over a connection, as lines that weren't printed. A message that can't be read, or for whose line
 /// there is no memory, is left out.
@@ -17,7 +18,7 @@ pub(crate) struct Log {
     notes: bool,
     sent: FrameReader,
     received: FrameReader,
-    pub(crate) lines: String,
+    lines: String,
 }
 
 /// Which way messages go.
@@ -39,6 +40,13 @@ impl Log {
             received: FrameReader::new(alloc, plan.mode, plan.limits),
             lines: String::new(alloc),
         }
+    }
+
+    /// Prints the lines that weren't.
+    pub(crate) fn print<O: Write>(&mut self, out: &mut O) -> io::Result<()> {
+        out.write_all(self.lines.as_bytes())?;
+        self.lines.clear();
+        Ok(())
     }
 
     /// Notes bytes that went this way.

@@ -9,7 +9,7 @@ use cp_methods::{CallReader, NamedCall, is_named, plain_params};
 use cp_reading::read_root;
 use cp_refs::{Cap, Caps, Path, Request};
 use cp_schema::{MethodNumber, Schema};
-use cp_scripts::{WrittenCall, Wrong, call_of, cap_of, payload_of};
+use cp_scripts::{WrittenCall, call_of, cap_of, payload_of};
 use cp_tree::{Body, Tree, Whole};
 use cp_words::Limits;
 use std::alloc::{AllocError, Global};
@@ -145,7 +145,7 @@ fn call_with(
 fn cap(alloc: Global, number: usize, text: &str) -> Result<Cap, CommandFault> {
     match cap_of(alloc, text) {
         Ok(cap) => Ok(cap),
-        Err(wrong) => Err(wrong_word(alloc, number, wrong)?),
+        Err(wrong) => Err(CommandFault::Word { number, wrong }),
     }
 }
 
@@ -196,14 +196,8 @@ fn plain<N: Files + AllocGlobal>(
     }
     match payload_of(alloc, text) {
         Ok(payload) => Ok(payload),
-        Err(wrong) => Err(wrong_word(alloc, number, wrong)?),
+        Err(wrong) => Err(CommandFault::Word { number, wrong }),
     }
-}
-
-/// What is wrong with the word of this number.
-fn wrong_word(alloc: Global, number: usize, wrong: Wrong) -> Result<CommandFault, CommandFault> {
-    let wrong = format!(in alloc; "{wrong}")?;
-    Ok(CommandFault::Word { number, wrong })
 }
 
 /// The call of a word.
@@ -220,7 +214,7 @@ fn call<N: Files + AllocGlobal>(
         params,
     } = match call_of(rt.alloc(), head) {
         Ok(written) => written,
-        Err(wrong) => return Err(wrong_word(rt.alloc(), number, wrong)?),
+        Err(wrong) => return Err(CommandFault::Word { number, wrong }),
     };
     let target = match target {
         Some(target) => target,
@@ -275,17 +269,13 @@ fn empty(alloc: Global) -> Whole {
 fn stored<N: Files + AllocGlobal>(rt: &N, path: &str) -> Result<Whole, CommandFault> {
     let bytes = match fs::read(rt, path) {
         Ok(bytes) => bytes,
-        Err(error) => {
-            let path = String::from_str(rt.alloc(), path)?;
-            return Err(CommandFault::File { path, error });
-        }
+        Err(error) => return Err(CommandFault::of_file(rt.alloc(), path, error)),
     };
-    match content_of(rt.alloc(), &bytes) {
+    let content = content_of(rt.alloc(), &bytes);
+    drop(bytes);
+    match content {
         Some(content) => Ok(content),
-        None => {
-            let path = String::from_str(rt.alloc(), path)?;
-            Err(CommandFault::Content { path })
-        }
+        None => Err(CommandFault::of_content(rt.alloc(), path)),
     }
 }
 

@@ -112,6 +112,7 @@ where
             break;
         };
         let status = hear(rt.alloc(), host, &news, err);
+        drop(news);
         if first == ACCEPTED {
             first = status;
         }
@@ -150,11 +151,21 @@ fn listener_at<N: Net + Files, E: Write>(
         ListenAddress::Address(address) => Listener::bind(rt, *address)?,
         ListenAddress::Path(path) => Listener::bind_path(rt, path)?,
     };
-    match listener.address()? {
-        Some(address) => writeln!(err, "listening on {address}")?,
-        None => writeln!(err, "listening on {place}")?,
+    match tell_place(&listener, place, err) {
+        Ok(()) => Ok(listener),
+        Err(error) => {
+            drop(listener);
+            Err(error)
+        }
     }
-    Ok(listener)
+}
+
+/// Says where it is listened.
+fn tell_place<E: Write>(listener: &Listener, place: &ListenAddress, err: &mut E) -> io::Result<()> {
+    match listener.address()? {
+        Some(address) => writeln!(err, "listening on {address}"),
+        None => writeln!(err, "listening on {place}"),
+    }
 }
 
 /// Says how a connection ended, where it wasn't served to its end, and gives its status.

@@ -13,6 +13,7 @@ use cp_rpc::{MessageIn, MessageView};
 use cp_schema::MethodNumber;
 use cp_tables::Entries;
 use std::alloc::{AllocError, Global};
+use std::mem;
 
 /// A call, and why it was refused, if it was.
 #[derive(Clone, Copy)]
@@ -43,9 +44,10 @@ impl<'r> Drop for Guard<'r> {
             rules: _,
             state: _,
             comes_back: _,
-            ruling: _,
+            ruling,
             call: _,
         } = self;
+        drop(ruling);
     }
 }
 
@@ -161,7 +163,7 @@ impl<'r> Visitor for Guard<'r> {
         }
         let ruling = self.judge(message)?;
         let goes_on = !matches!(ruling, Ruling::Closes(_));
-        self.ruling = Some(ruling);
+        drop(mem::replace(&mut self.ruling, Some(ruling)));
         self.call = self.call_in(message);
         Ok(goes_on)
     }

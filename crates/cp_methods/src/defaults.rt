@@ -16,8 +16,8 @@ impl<'s> Text<'s> {
     ) -> Result<(), AllocError> {
         self.put(" = ")?;
         match value {
-            SchemaValue::Text(text) => self.quoted(text.as_str()),
-            SchemaValue::Data(bytes) => self.data(bytes),
+            SchemaValue::Text(text) => push_quoted(&mut self.lines, text.as_str()),
+            SchemaValue::Data(bytes) => push_data(&mut self.lines, bytes),
             SchemaValue::Tree(_) => self.put("(..)"),
             SchemaValue::Bits(_) | SchemaValue::Other => self.number(of.of, bits),
         }
@@ -64,38 +64,6 @@ impl<'s> Text<'s> {
         }
         write!(self.lines, "{bits}")
     }
-
-    /// Adds a text between quotes.
-    fn quoted(&mut self, text: &str) -> Result<(), AllocError> {
-        self.lines.push('"')?;
-        for c in text.chars() {
-            match c {
-                '"' | '\\' => {
-                    self.lines.push('\\')?;
-                    self.lines.push(c)?;
-                }
-                '\n' => self.put("\\n")?,
-                c if c.is_ascii_control() => {
-                    let byte = c as u32;
-                    write!(self.lines, "\\x{byte:02x}")?;
-                }
-                c => self.lines.push(c)?,
-            }
-        }
-        self.lines.push('"')
-    }
-
-    /// Adds data in hexadecimal.
-    fn data(&mut self, bytes: &[u8]) -> Result<(), AllocError> {
-        self.put("0x\"")?;
-        for (place, byte) in bytes.iter().enumerate() {
-            if place > 0 {
-                self.lines.push(' ')?;
-            }
-            write!(self.lines, "{byte:02x}")?;
-        }
-        self.lines.push('"')
-    }
 }
 
 /// The bits of a constant.
@@ -104,6 +72,43 @@ pub(crate) fn bits_of(value: &SchemaValue) -> u64 {
         SchemaValue::Bits(bits) => *bits,
         _ => 0,
     }
+}
+
+/// Adds a text between quotes.
+fn push_quoted(line: &mut String, text: &str) -> Result<(), AllocError> {
+    line.push('"')?;
+    for c in text.chars() {
+        push_char(line, c)?;
+    }
+    line.push('"')
+}
+
+/// Adds a character of a text between quotes.
+fn push_char(line: &mut String, c: char) -> Result<(), AllocError> {
+    match c {
+        '"' | '\\' => {
+            line.push('\\')?;
+            line.push(c)
+        }
+        '\n' => line.push_str("\\n"),
+        c if c.is_ascii_control() => {
+            let byte = c as u32;
+            write!(line, "\\x{byte:02x}")
+        }
+        c => line.push(c),
+    }
+}
+
+/// Adds data in hexadecimal.
+fn push_data(line: &mut String, bytes: &[u8]) -> Result<(), AllocError> {
+    line.push_str("0x\"")?;
+    for (place, byte) in bytes.iter().enumerate() {
+        if place > 0 {
+            line.push(' ')?;
+        }
+        write!(line, "{byte:02x}")?;
+    }
+    line.push('"')
 }
 
 /// The sign and the size of a number of this width, which has these bits.

@@ -101,9 +101,7 @@ impl<'s> Text<'s> {
             }
             NodeKind::Interface(of) => self.interface(node, of),
             NodeKind::Const(of) => {
-                self.put("const ")?;
-                self.put(node.name())?;
-                self.put(" :")?;
+                write!(self.lines, "const {} :", node.name())?;
                 put_type(&mut self.lines, self.schema, of.of)?;
                 self.value(of.of, bits_of(&of.value), &of.value)?;
                 self.put(";\n")
@@ -114,8 +112,7 @@ impl<'s> Text<'s> {
 
     /// Adds the first line of a struct or an enum, and its comment.
     fn head(&mut self, word: &str, node: &Node) -> Result<(), AllocError> {
-        self.put(word)?;
-        self.put(node.name())?;
+        write!(self.lines, "{word}{}", node.name())?;
         self.open()
     }
 
@@ -142,8 +139,7 @@ impl<'s> Text<'s> {
         self.open()?;
         for (place, method) in of.methods.iter().enumerate() {
             self.indent()?;
-            self.put(method.name.as_str())?;
-            write!(self.lines, " @{place}")?;
+            write!(self.lines, "{} @{place}", method.name.as_str())?;
             put_types(&mut self.lines, self.schema, method)?;
             self.put(";\n")?;
             self.member_comment(place)?;
@@ -155,9 +151,7 @@ impl<'s> Text<'s> {
     fn enumerants(&mut self, items: &[String]) -> Result<(), AllocError> {
         for (place, name) in items.iter().enumerate() {
             self.indent()?;
-            self.put(name.as_str())?;
-            write!(self.lines, " @{place}")?;
-            self.put(";\n")?;
+            write!(self.lines, "{} @{place};\n", name.as_str())?;
             self.member_comment(place)?;
         }
         Ok(())
@@ -244,9 +238,8 @@ impl<'s> Text<'s> {
     fn comment(&mut self, text: &str) -> Result<(), AllocError> {
         for line in text.lines() {
             self.indent()?;
-            self.put(if line.is_empty() { "#" } else { "# " })?;
-            self.put(line)?;
-            self.put("\n")?;
+            let mark = if line.is_empty() { "#" } else { "# " };
+            write!(self.lines, "{mark}{line}\n")?;
         }
         Ok(())
     }

@@ -40,14 +40,12 @@ fn put_interface(
     of: &Interface,
 ) -> Result<(), AllocError> {
     put_head(lines, schema, node, of)?;
-    lines.push('\n')?;
     for method in &of.methods {
-        lines.push_str("  ")?;
+        lines.push_str("\n  ")?;
         put_name(lines, node.name(), method.name.as_str())?;
         put_types(lines, schema, method)?;
-        lines.push('\n')?;
     }
-    Ok(())
+    lines.push('\n')
 }
 
 /// Adds an interface with those that it extends.

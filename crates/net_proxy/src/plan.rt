@@ -129,5 +129,8 @@ where
     let target = Target::of(rt, route.target)?;
     let listener = Listener::bind(rt, route.address)?;
     let incoming = Incoming::new(listener, Some(route.count as u64));
-    Proxy::new(rt, plan, incoming, target)?.run(rt, watch, err)
+    let mut proxy = Proxy::new(rt, plan, incoming, target)?;
+    let status = proxy.run(rt, watch, err);
+    drop(proxy);
+    status
 }

@@ -16,6 +16,7 @@ use slab::Slab;
 use std::alloc::{AllocGlobal, Global};
 use std::collections::VecDeque;
 use std::io::{self, Write};
+use std::mem;
 use std::net::Net;
 use std::time::{Clock, Duration, Instant};
 
@@ -38,7 +39,6 @@ const AGAIN: u64 = 100;
 const SECOND: u64 = 250;
 
 /// The connections that came, each with the one that was made for it.
-#[derive(Drop)]
 pub(crate) struct Proxy<'a, 'p, 'r> {
     alloc: Global,
     plan: &'p RelayPlan<'r>,
@@ -57,6 +57,26 @@ pub(crate) struct Proxy<'a, 'p, 'r> {
     status: u8,
 }
 
+// Not derived: who lets one go calls this function, and need not prove the drop of all that it holds.
+impl<'a, 'p, 'r> Drop for Proxy<'a, 'p, 'r> {
+    fn drop(self) {
+        let Proxy {
+            alloc: _,
+            plan: _,
+            poll: _,
+            events: _,
+            incoming: _,
+            target: _,
+            pairs: _,
+            spare: _,
+            queue: _,
+            start: _,
+            second: _,
+            status: _,
+        } = self;
+    }
+}
+
 impl<'a, 'p, 'r> Proxy<'a, 'p, 'r> {
     /// A proxy to which no connection has come.
     pub(crate) fn new<N: Net + Clock + AllocGlobal>(
@@ -65,11 +85,9 @@ impl<'a, 'p, 'r> Proxy<'a, 'p, 'r> {
         mut incoming: Incoming,
         target: Target<'a>,
     ) -> io::Result<Proxy<'a, 'p, 'r>> {
-        let poll = Poll::new(rt)?;
-        incoming.register(poll.registry(), LISTENER)?;
-        let alloc = rt.alloc();
-        let events = Events::with_capacity(alloc, EVENTS)?;
         let start = Instant::now(rt)?;
+        let (poll, events) = polled(rt, &mut incoming)?;
+        let alloc = rt.alloc();
         Ok(Proxy {
             alloc,
             plan,
@@ -245,7 +263,7 @@ impl<'a, 'p, 'r> Proxy<'a, 'p, 'r> {
             }
         }
         if self.spare.capacity() > MOST_SPARE {
-            self.spare = Vec::new(self.alloc);
+            drop(mem::replace(&mut self.spare, Vec::new(self.alloc)));
         }
         Ok(())
     }
@@ -285,4 +303,12 @@ impl<'a, 'p, 'r> Proxy<'a, 'p, 'r> {
         let guard = self.plan.guard?;
         Some(guard.rules.name_of(MethodNumber { interface, method }))
     }
+}
+
+/// What waits for the listener, and room for its events.
+fn polled<N: Net + AllocGlobal>(rt: &N, incoming: &mut Incoming) -> io::Result<(Poll, Events)> {
+    let poll = Poll::new(rt)?;
+    incoming.register(poll.registry(), LISTENER)?;
+    let events = Events::with_capacity(rt.alloc(), EVENTS)?;
+    Ok((poll, events))
 }
