@@ -21,6 +21,8 @@
 #   readme    the story of the README, in a fresh clone, each line pasted      five minutes
 #   tails     tail calls with C++ and Rust peers, both ways, and by hand          the proof of a program of its own, and 30 seconds
 #   interfaces typed clients and objects with those of the reference library  the proofs of five crates of its own, and a minute
+#   notebook  objects made in calls, and pushes, with the reference library    the proof of examples, and half a minute
+#   chat      a chat room with 999 silent members of the reference library      the proof of examples, and half a minute
 #   sessions  15,000 random sessions with two servers                          ten minutes
 #   crowd     the same with servers that serve 16 of them at once              ten minutes
 #   served    20 million messages of random sessions, served in memory         a minute, and half of one with the address sanitizer
@@ -37,7 +39,7 @@
 set -u
 here=$(cd "$(dirname "${BASH_SOURCE[0]}")" && pwd)
 root=$(dirname "$here")
-all=(look memory moves peers matrix relay guard fields schemas texts host load callees faults readme interfaces sessions crowd served pieces starved embed fuzz edits plants)
+all=(look memory moves peers matrix relay guard fields schemas texts host load callees faults readme interfaces notebook chat sessions crowd served pieces starved embed fuzz edits plants)
 alone=night # runs only where it is named: it takes as long as all others
 planted=(cp_words cp_tables cp_writing cp_packed cp_frame cp_messages cp_rpc cp_stream cp_refs cp_vat cp_serve)
 
@@ -103,6 +105,10 @@ faults() { built && "$here/faults/run.sh" "$server" "$folder/faults"; }
 readme() { rm -rf "$folder/readme" && mkdir "$folder/readme" && "$here/readme/follow.py" "$folder/readme"; }
 
 interfaces() { "$here/interfaces/run.sh" "$folder/interfaces"; }
+
+notebook() { "$root/tools/build.sh" examples && "$here/notebook/run.sh" "$root/crates/examples/out/examples" "$folder/notebook"; }
+
+chat() { "$root/tools/build.sh" examples && "$here/chat/run.sh" "$root/crates/examples/out/examples" "$folder/chat"; }
 
 sessions() { built && "$here/fuzz/sessions.sh" "$server" "$folder" 15000 7; }
 

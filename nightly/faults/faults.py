@@ -47,6 +47,8 @@ INTERRUPTED = {
     "call --timeout": naming(errno.EINTR) + "|nothing came for",
     "relay": naming(errno.EINTR),
 }
+# What says that a reader or a peer is gone: the command ends as docs/PROFILE.md says of that, and it isn't a device's fault.
+GONE = {"write": [errno.EPIPE], "recv": [errno.ECONNRESET], "send": [errno.EPIPE, errno.ECONNRESET]}
 # The sessions whose sockets never wait.
 NEVER_WAIT = ["serve --at-once", "call", "call --timeout", "relay"]
 ENDING = [signal.SIGTERM, signal.SIGINT, signal.SIGKILL]
@@ -67,6 +69,18 @@ def device(call, number, how):
     return dict(LD_PRELOAD=f"{BUILD}/device.so", CALL=call, NUMBER=str(number), HOW=str(how))
 
 
+def is_left(name, call, whole, outcome):
+    """Whether it ended as one does whose reader (of a write) or peer is gone: what it wrote is a beginning."""
+    told = [it for it in outcome.lines if it not in whole.lines]
+    if wrong_bytes(whole, outcome, range(len(whole.got))):
+        return False
+    if call == "write":
+        return outcome.status == 141 and not told
+    if name.startswith("call"):
+        return outcome.status == 1 and told == ["the peer's messages ended"]
+    return name == "relay" and outcome.status == whole.status and not told
+
+
 # Trials. Each is of a session: its name, its script, and its outcome without a fault.
 
 
@@ -81,7 +95,10 @@ def system_calls(tally, name, script, whole):
 
     def change(kind, call, how, cause=None):
         for number, outcome in in_turn(script, lambda number: device(call, number, how)):
-            tally.add(kind, wrong_with(whole, outcome, cause), outcome, f"{number} of {call} by {how}")
+            wrong = wrong_with(whole, outcome, cause)
+            if wrong and how in GONE.get(call, []) and is_left(name, call, whole, outcome):
+                wrong = None
+            tally.add(kind, wrong, outcome, f"{number} of {call} by {how}")
 
     for call, errors in ERRORS.items():
         change("late", call, "late")
@@ -129,8 +146,7 @@ def outputs(tally, name, script, whole):
             tally.add("full after some bytes", wrong, outcome, most)
     if len(whole.out) > LONG:
         outcome = play(lambda run: leave_reading(script(run)), pipesize=4096)
-        wrong = wrong_with(whole, outcome, naming(errno.EPIPE)) or outcome.status == 0 and "no fault"
-        tally.add("without a reader", wrong, outcome)
+        tally.add("without a reader", None if is_left(name, "write", whole, outcome) else "it doesn't end for that", outcome)
 
 
 def limited(script, most):
@@ -164,20 +180,21 @@ def peers(tally, name, script, whole):
         left_by_either(tally)
 
 
-def leaves(stream, *more):
-    """Each place at which a peer may leave, and how; the bytes before it that are whole frames, and what a line then says."""
+def leaves(stream, *more, ends_by_reset=False):
+    """Each place at which a peer may leave, and how; the bytes before it that are whole frames, and what a line then says.
+    Where a reset after a whole frame is an end, no line says so."""
     ends, whole = set(itertools.accumulate(map(len, frames_of(stream)))), 0
     for count in range(len(stream) + 1):
         whole = count if count in ends else whole
         yield count, Peer.end, stream[:whole], "" if whole == count else f"refused at byte {whole}: F3 Truncated", *more
-        yield count, Peer.reset, stream[:whole], r"device(: Connection reset by peer \(os error 104\))?", *more
+        reset = "" if ends_by_reset and whole == count else r"device(: Connection reset by peer \(os error 104\))?"
+        yield count, Peer.reset, stream[:whole], reset, *more
 
 
 def left_by_target(tally, whole):
     for count, leave, _, _ in leaves(ASKED_ANSWERS):
         outcome = play(lambda run: called(run, answers=ASKED_ANSWERS[:count], leave=leave))
-        cause = "Connection reset by peer" if leave is Peer.reset else "the peer's messages ended|F3 Truncated"
-        tally.add(f"left by {leave.__name__}", wrong_with(whole, outcome, cause), outcome, count)
+        tally.add(f"left by {leave.__name__}", wrong_with(whole, outcome, "the peer's messages ended|F3 Truncated"), outcome, count)
 
 
 def left_by_clients(tally, *options):
@@ -197,7 +214,7 @@ def left_by_clients(tally, *options):
 
 
 def left_by_either(tally):
-    cases = [*leaves(CLIENT, True), *leaves(ANSWERS, False)]
+    cases = [*leaves(CLIENT, True, ends_by_reset=True), *leaves(ANSWERS, False, ends_by_reset=True)]
 
     def is_relayed(run, count, leave, whole, _, goes):
         near = run.connect()
@@ -233,7 +250,8 @@ def leave_all(tally, cases, begin, is_right, lines):
 
     outcome = play(script, pipesize=LINES)
     lines, said = list(filter(None, lines)), [it for it in outcome.lines if it != "listening on PLACE"]
-    if outcome.status != 2 or len(lines) != len(said) or not all(map(re.fullmatch, lines, said)):
+    status = 2 if "device" in lines[0] else 1  # (that of the first line)
+    if outcome.status != status or len(lines) != len(said) or not all(map(re.fullmatch, lines, said)):
         tally.wrong.append(f"status {outcome.status}, or other lines: {said[:9]}")
     if held[-1] > held[1] + 64:
         tally.wrong.append("its memory grew")
