@@ -199,7 +199,7 @@ impl<'a, 'v, L: Ledger> Checker<'a, 'v, L> {
                 segment: first.segment,
                 word: start + words as usize,
             };
-            self.check_row(row, ptrs as usize, depth)?;
+            self.check_words(row, ptrs as usize, depth)?;
             start = row.word + ptrs as usize;
         }
         Ok(())
@@ -208,6 +208,21 @@ impl<'a, 'v, L: Ledger> Checker<'a, 'v, L> {
     /// Checks the pointer words from `first` on.
     #[cycle(check)]
     fn check_row(&mut self, first: Place, count: usize, depth: u32) -> Result<(), TreeFault>
+        requires exists { first.segment < length self.old.segments.now }
+        requires within { first.word + count ≤ length (segment (words_of self.old.segments.now) first.segment) }
+        requires small { first.word + count < 2 ^ 63 }
+        ensures reports { GoesOver pointers_of_row (row_at first count depth) self.old result self.new }
+        ensures few { self.new.visits.now + self.new.budget ≤ self.old.visits.now + count + self.old.budget }
+        ensures same { self.new.segments ≡ self.old.segments }
+        ensures lent { self.new.visits.ghost_name ≡ self.old.visits.ghost_name }
+    {
+        self.check_words(first, count, depth)
+    }
+
+    /// Checks the pointer words from `first` on. The elements of a list are checked without a call for each.
+    #[cycle(check)]
+    #[inline(always)]
+    fn check_words(&mut self, first: Place, count: usize, depth: u32) -> Result<(), TreeFault>
         requires exists { first.segment < length self.old.segments.now }
         requires within { first.word + count ≤ length (segment (words_of self.old.segments.now) first.segment) }
         requires small { first.word + count < 2 ^ 63 }

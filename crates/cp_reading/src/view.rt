@@ -78,6 +78,7 @@ impl<'a> View<'a> {
     /// "Messages"). All that is reachable is gone over once and checked against the limits, without
     /// taking memory. The fault is the first in reading order: the root's word comes first, each word
     /// before what hangs on it, and a body's pointers from the left. It names its pointer word.
+    #[inline(always)]
     pub fn root(segments: &'a Segments, limits: Limits) -> Result<View<'a>, TreeFault>
         // What is viewed is the message's tree.
         ensures found { IfOk result (λ t. Root segments.now limits t) }
@@ -95,6 +96,7 @@ impl<'a> View<'a> {
 
     /// As `root`, and counts each pointer word that it visits. Words of landing pads aren't counted; a
     /// far pointer has at most two.
+    #[inline(always)]
     pub fn root_counted<L: Ledger>(
         segments: &'a Segments,
         limits: Limits,
@@ -277,6 +279,7 @@ fn words_of_part<'a>(
 }
 
 /// The message's tree, by a count that is dropped.
+#[inline(always)]
 fn root_uncounted<'a, L: Ledger>(
     segments: &'a Segments,
     limits: Limits,

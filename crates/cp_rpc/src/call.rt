@@ -76,7 +76,7 @@ impl<S: Source> CallView<S> {
     }
 
     /// The call that a struct says.
-    #[inline(never)]
+    #[inline(always)]
     pub(crate) fn of(t: &S) -> Result<CallView<S>, SchemaFault>
         requires { IsStructField (S.seen t.now) }
         ensures { Gives (viewed_call S.seen) (call_denoted (S.seen t.now)) (call_faults (S.seen t.now)) result }

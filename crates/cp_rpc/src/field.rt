@@ -9,6 +9,7 @@ use crate::source::{Look, Source};
 use cp_messages::{Field, SchemaFault};
 
 /// A field of a struct's type: null, or a struct.
+#[inline(always)]
 pub(crate) fn struct_field<S: Source>(t: &S, i: u32, field: Field) -> Result<S, SchemaFault>
     requires { IsStructField (S.seen t.now) }
     ensures found { IfOk result (λ x. (S.seen x ≡ pointee_of (S.seen t.now) i) × IsStructField (S.seen x)) }
@@ -23,6 +24,7 @@ pub(crate) fn struct_field<S: Source>(t: &S, i: u32, field: Field) -> Result<S, 
 }
 
 /// A field that is a list of structs: null, or a composite list.
+#[inline(always)]
 pub(crate) fn list_field<S: Source>(t: &S, i: u32, field: Field) -> Result<S, SchemaFault>
     requires { IsStructField (S.seen t.now) }
     ensures found { IfOk result (λ x. S.seen x ≡ pointee_of (S.seen t.now) i) }
@@ -58,6 +60,7 @@ pub(crate) fn text_field<S: Source>(t: &S, i: u32, field: Field) -> Result<S, Sc
 }
 
 /// The number of elements of a composite list; of any other tree there are none.
+#[inline(always)]
 pub(crate) fn item_count<S: Source>(t: &S) -> usize
     ensures { result ≡ length (items_of (S.seen t.now)) }
 {

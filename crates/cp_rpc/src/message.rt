@@ -1,7 +1,8 @@
 //! Reading messages by their members.
 
-ghost use Rattle.std.specs.Prelude.{◌≡◌, true, IfOk};
-ghost use Rattle.cp_messages.specs.Fields.{IsStructField};
+ghost use Rattle.std.specs.Prelude.{◌≡◌, ◌≢◌, true, IfOk};
+ghost use Rattle.cp_tree.specs.Node.{data_of};
+ghost use Rattle.cp_messages.specs.Fields.{IsStructField, u16_of};
 ghost use Rattle.cp_rpc.specs.Answers.{Checks, Gives};
 ghost use Rattle.cp_messages.specs.Others.{is_other};
 ghost use Rattle.cp_messages.specs.Denoted.{message_denoted};
@@ -68,34 +69,21 @@ impl<S: Source> MessageIn<S> {
         }
     }
 
-    // What reads a member with members of its own isn't inlined: the places of its locals would be cleared here for each message.
+    // A message is large: to clear its place and to move it take longer than to read a small one. So each member with members of
+    // its own has a function that isn't inlined, which has what it reads in its own place; the small ones are read here.
 
     /// The message that a struct says.
+    #[inline(always)]
     pub(crate) fn of(t: &S) -> Result<MessageIn<S>, SchemaFault>
         requires { IsStructField (S.seen t.now) }
         ensures { Gives (viewed_message S.seen) (message_denoted (S.seen t.now)) (message_faults (S.seen t.now)) result }
     {
         match u16_at(t.data(), Message::WHICH) {
-            0 => Ok(MessageIn::Unimplemented(t.pointer(Message::MEMBER))),
-            1 => {
-                let member = struct_field(t, Message::MEMBER, Field::MessageAbort)?;
-                Ok(MessageIn::Abort(ExceptionView::of(&member)?))
-            }
-            2 => {
-                let member = struct_field(t, Message::MEMBER, Field::MessageCall)?;
-                Ok(MessageIn::Call(CallView::of(&member)?))
-            }
-            3 => {
-                let member = struct_field(t, Message::MEMBER, Field::MessageReturn)?;
-                Ok(MessageIn::Return(ReturnView::of(&member)?))
-            }
+            2 => MessageIn::call_of(t),
+            3 => MessageIn::return_of(t),
             4 => {
                 let member = struct_field(t, Message::MEMBER, Field::MessageFinish)?;
                 Ok(MessageIn::Finish(finish_of(member.data())))
-            }
-            5 => {
-                let member = struct_field(t, Message::MEMBER, Field::MessageResolve)?;
-                Ok(MessageIn::Resolve(ResolveView::of(&member)?))
             }
             6 => {
                 let member = struct_field(t, Message::MEMBER, Field::MessageRelease)?;
@@ -105,12 +93,60 @@ impl<S: Source> MessageIn<S> {
                 let member = struct_field(t, Message::MEMBER, Field::MessageBootstrap)?;
                 Ok(MessageIn::Bootstrap(bootstrap_of(member.data())))
             }
+            which => MessageIn::other_of(t, which),
+        }
+    }
+
+    /// The call that a struct says.
+    #[inline(never)]
+    fn call_of(t: &S) -> Result<MessageIn<S>, SchemaFault>
+        requires is_struct { IsStructField (S.seen t.now) }
+        requires is_call { u16_of (data_of (S.seen t.now)) 0 ≡ 2 }
+        ensures { Gives (viewed_message S.seen) (message_denoted (S.seen t.now)) (message_faults (S.seen t.now)) result }
+    {
+        let member = struct_field(t, Message::MEMBER, Field::MessageCall)?;
+        Ok(MessageIn::Call(CallView::of(&member)?))
+    }
+
+    /// The return that a struct says.
+    #[inline(never)]
+    fn return_of(t: &S) -> Result<MessageIn<S>, SchemaFault>
+        requires is_struct { IsStructField (S.seen t.now) }
+        requires is_return { u16_of (data_of (S.seen t.now)) 0 ≡ 3 }
+        ensures { Gives (viewed_message S.seen) (message_denoted (S.seen t.now)) (message_faults (S.seen t.now)) result }
+    {
+        let member = struct_field(t, Message::MEMBER, Field::MessageReturn)?;
+        Ok(MessageIn::Return(ReturnView::of(&member)?))
+    }
+
+    /// The message with this member that a struct says, if it is none of those that are read elsewhere.
+    #[inline(never)]
+    fn other_of(t: &S, which: u16) -> Result<MessageIn<S>, SchemaFault>
+        requires is_struct { IsStructField (S.seen t.now) }
+        requires which { which ≡ u16_of (data_of (S.seen t.now)) 0 }
+        requires no_call { which ≢ 2 }
+        requires no_return { which ≢ 3 }
+        requires no_finish { which ≢ 4 }
+        requires no_release { which ≢ 6 }
+        requires no_bootstrap { which ≢ 8 }
+        ensures { Gives (viewed_message S.seen) (message_denoted (S.seen t.now)) (message_faults (S.seen t.now)) result }
+    {
+        match which {
+            0 => Ok(MessageIn::Unimplemented(t.pointer(Message::MEMBER))),
+            1 => {
+                let member = struct_field(t, Message::MEMBER, Field::MessageAbort)?;
+                Ok(MessageIn::Abort(ExceptionView::of(&member)?))
+            }
+            5 => {
+                let member = struct_field(t, Message::MEMBER, Field::MessageResolve)?;
+                Ok(MessageIn::Resolve(ResolveView::of(&member)?))
+            }
             13 => {
                 let member = struct_field(t, Message::MEMBER, Field::MessageDisembargo)?;
                 Ok(MessageIn::Disembargo(DisembargoView::of(&member)?))
             }
-            which => Ok(MessageIn::Other {
-                which: other_of(which),
+            _ => Ok(MessageIn::Other {
+                which: number_of(which),
                 body: t.pointer(Message::MEMBER),
             }),
         }
@@ -139,7 +175,7 @@ impl<S: Source> MessageIn<S> {
 }
 
 /// The number of a member that isn't looked into.
-fn other_of(number: u16) -> OtherWhich
+fn number_of(number: u16) -> OtherWhich
     requires { is_other number ≡ true }
     ensures { result ≡ number }
 {

@@ -54,6 +54,7 @@ impl<S: Source> CapTableView<S> {
     }
 
     /// The table that a list says.
+    #[inline(always)]
     fn of(source: S) -> Result<CapTableView<S>, SchemaFault>
         ensures { Gives (λ t. t) (descriptors_denoted (S.seen source)) (flat_map descriptor_faults (items_of (S.seen source))) result }
     {
@@ -112,6 +113,7 @@ impl<S: Source> PayloadView<S> {
     }
 
     /// The payload that a struct says.
+    #[inline(always)]
     pub(crate) fn of(t: &S) -> Result<PayloadView<S>, SchemaFault>
         requires { IsStructField (S.seen t.now) }
         ensures { Gives (viewed_payload S.seen) (payload_denoted (S.seen t.now)) (payload_faults (S.seen t.now)) result }

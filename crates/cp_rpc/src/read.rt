@@ -18,6 +18,7 @@ use std::alloc::Global;
 
 /// The message that the root struct of a frame says, read in place. A fault is the first in the
 /// order of the fields, depth first.
+#[inline(always)]
 pub fn message_view<'a>(view: View<'a>) -> Result<MessageView<'a>, SchemaFault>
     requires { IsStruct view }
     // What is read is what the tree says.
@@ -31,6 +32,7 @@ pub fn message_view<'a>(view: View<'a>) -> Result<MessageView<'a>, SchemaFault>
 }
 
 /// The message that a root struct of any source says, read where it lies, as by `message_view`.
+#[inline(always)]
 pub fn message_in<S: Source>(root: &S) -> Result<MessageIn<S>, SchemaFault>
     requires { IsStruct (S.seen root.now) }
     // What is read is what the tree says.

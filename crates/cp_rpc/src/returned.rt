@@ -38,6 +38,7 @@ pub struct ReturnView<S: Source> {
 
 impl<S: Source> ReturnedView<S> {
     /// What a return's struct says was returned.
+    #[inline(always)]
     fn of(t: &S) -> Result<ReturnedView<S>, SchemaFault>
         requires { IsStructField (S.seen t.now) }
         ensures { Gives (viewed_returned S.seen) (returned_denoted (S.seen t.now)) (return_faults (S.seen t.now)) result }
@@ -98,7 +99,7 @@ impl<S: Source> ReturnView<S> {
     }
 
     /// The return that a struct says.
-    #[inline(never)]
+    #[inline(always)]
     pub(crate) fn of(t: &S) -> Result<ReturnView<S>, SchemaFault>
         requires { IsStructField (S.seen t.now) }
         ensures { Gives (viewed_return S.seen) (return_denoted (S.seen t.now)) (return_faults (S.seen t.now)) result }

@@ -69,9 +69,11 @@ pub trait Source: Drop {
         ensures { IfOk result (λ w. w ≡ seen self.now) };
 }
 
+// Inlined: a view is large, and to move it takes longer than to make it.
 impl<'a> Source for View<'a> {
     ghost seen = { λ v. v };
 
+    #[inline(always)]
     fn look(&self) -> Look {
         match self.shape() {
             Shape::Null => Look::Null,
@@ -85,6 +87,7 @@ impl<'a> Source for View<'a> {
         }
     }
 
+    #[inline(always)]
     fn data(&self) -> &[u64] {
         match self.shape() {
             Shape::Struct { .. } => self.words(),
@@ -92,10 +95,12 @@ impl<'a> Source for View<'a> {
         }
     }
 
+    #[inline(always)]
     fn pointer(&self, i: u32) -> View<'a> {
         self.child(i)
     }
 
+    #[inline(always)]
     fn item(&self, i: usize) -> View<'a> {
         let Shape::Structs { count, .. } = self.shape() else {
             // Only a composite list has elements.

@@ -41,6 +41,7 @@ impl<S: Source> TargetView<S> {
     }
 
     /// The target that a struct says.
+    #[inline(always)]
     pub(crate) fn of(t: &S) -> Result<TargetView<S>, SchemaFault>
         requires { IsStructField (S.seen t.now) }
         ensures { Gives (viewed_target S.seen) (target_denoted (S.seen t.now)) (target_faults (S.seen t.now)) result }

@@ -16,10 +16,10 @@ check_body-returns-in_err-charge-clause-reports g t c =
 pub check_body-returns-clause-reports : goal.check_body-returns-clause-reports
 check_body-returns-clause-reports g t c = rw (charged_ok _ _ _ _ _ _ (rw c.price.ensures at c.in_ok-charge.ensures.paid)) c.check_parts.ensures.reports
 
-pub check_elements-returns-in_err-check_row-clause-reports : goal.check_elements-returns-in_err-check_row-clause-reports
-check_elements-returns-in_err-check_row-clause-reports g t c =
+pub check_elements-returns-in_err-check_words-clause-reports : goal.check_elements-returns-in_err-check_words-clause-reports
+check_elements-returns-in_err-check_words-clause-reports g t c =
     let p = err_from_is_err_and c.from_residual.result c.from_residual.ensures.1 in
-    rw (p.1, p.2) (bodies_fail _ _ _ _ _ _ _ _ _ _ c.loop-i.invariant.3 _ (omega (arith, c.loop-i.invariant.1)) (rw c.loop-i.invariant.5 at c.in_err-check_row.ensures.reports))
+    rw (p.1, p.2) (bodies_fail _ _ _ _ _ _ _ _ _ _ c.loop-i.invariant.3 _ (omega (arith, c.loop-i.invariant.1)) (rw c.loop-i.invariant.5 at c.in_err-check_words.ensures.reports))
 
 pub check_elements-loop-i-preserved : goal.check_elements-loop-i-preserved
 check_elements-loop-i-preserved g t c =
@@ -30,10 +30,10 @@ check_elements-loop-i-preserved g t c =
       m - 1,
       omega (arith, l.invariant.1),
       omega (arith, l.invariant.2, fewer),
-      bodies_go_on _ _ _ _ _ _ _ _ _ _ l.invariant.3 _ _ some (rw l.invariant.5 at c.in_ok-check_row.ensures.reports),
-      omega (arith, l.invariant.1, l.invariant.4, fewer, c.in_ok-check_row.ensures.few),
-      c.in_ok-check_row.ensures.same ∙ l.invariant.5,
-      c.in_ok-check_row.ensures.lent ∙ l.invariant.6,
+      bodies_go_on _ _ _ _ _ _ _ _ _ _ l.invariant.3 _ _ some (rw l.invariant.5 at c.in_ok-check_words.ensures.reports),
+      omega (arith, l.invariant.1, l.invariant.4, fewer, c.in_ok-check_words.ensures.few),
+      c.in_ok-check_words.ensures.same ∙ l.invariant.5,
+      c.in_ok-check_words.ensures.lent ∙ l.invariant.6,
     )
 
 pub check_elements-returns-clause-reports : goal.check_elements-returns-clause-reports
@@ -42,16 +42,16 @@ check_elements-returns-clause-reports g t c = bodies_end _ _ _ _ _ _ _ _ _ _ c.l
 pub check_elements-returns-then-ptrs-eq0-clause-reports : goal.check_elements-returns-then-ptrs-eq0-clause-reports
 check_elements-returns-then-ptrs-eq0-clause-reports g t c = rw c.if-ptrs-eq0.true (passed-flat _ _ _ _ _ _ _ _)
 
-pub check_row-loop-i-init : goal.check_row-loop-i-init
-check_row-loop-i-init g t c = (c.args.count, omega arith, rw add-zero refl, omega arith, refl, refl)
+pub check_words-loop-i-init : goal.check_words-loop-i-init
+check_words-loop-i-init g t c = (c.args.count, omega arith, rw add-zero refl, omega arith, refl, refl)
 
-pub check_row-returns-in_err-check_word-clause-reports : goal.check_row-returns-in_err-check_word-clause-reports
-check_row-returns-in_err-check_word-clause-reports g t c =
+pub check_words-returns-in_err-check_word-clause-reports : goal.check_words-returns-in_err-check_word-clause-reports
+check_words-returns-in_err-check_word-clause-reports g t c =
     let p = err_from_is_err_and c.from_residual.result c.from_residual.ensures.1 in
     rw (p.1, p.2) (row_fails _ _ _ _ _ _ c.loop-i.invariant.2 _ (omega (arith, c.loop-i.invariant.1)) (rw c.loop-i.invariant.4 at c.in_err-check_word.ensures.reports))
 
-pub check_row-loop-i-preserved : goal.check_row-loop-i-preserved
-check_row-loop-i-preserved g t c =
+pub check_words-loop-i-preserved : goal.check_words-loop-i-preserved
+check_words-loop-i-preserved g t c =
     let l = c.loop-i in
     let next : c.args.first.word + (l.i + 1) ≡ c.args.first.word + l.i + 1 = omega arith in (
       l.invariant.0 - 1,
@@ -62,8 +62,8 @@ check_row-loop-i-preserved g t c =
       c.in_ok-check_word.ensures.lent ∙ l.invariant.5,
     )
 
-pub check_row-returns-clause-reports : goal.check_row-returns-clause-reports
-check_row-returns-clause-reports g t c = row_ends _ _ _ _ _ _ c.loop-i.invariant.2 (omega (arith, c.loop-i.invariant.1))
+pub check_words-returns-clause-reports : goal.check_words-returns-clause-reports
+check_words-returns-clause-reports g t c = row_ends _ _ _ _ _ _ c.loop-i.invariant.2 (omega (arith, c.loop-i.invariant.1))
 
 pub check_ptrs-returns-then-count-eq0-clause-reports : goal.check_ptrs-returns-then-count-eq0-clause-reports
 check_ptrs-returns-then-count-eq0-clause-reports g t c = row_ends _ _ _ _ _ _ refl c.if-count-eq0.true
