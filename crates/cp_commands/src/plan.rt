@@ -17,6 +17,7 @@ use cp_words::{Limits, Segments};
 use cp_writing::write_segments;
 use std::alloc::Global;
 use std::io::{self, ErrorKind, Read, Write};
+use std::mem;
 
 /// A command, apart from the file that it reads.
 #[derive(Clone, Copy)]
@@ -169,7 +170,9 @@ impl Plan<'_> {
         };
         let done = self.do_pieces(from, &mut last, out, progress);
         // Also after a fault: what was accepted before it goes out.
-        last.batch.flush(out)?;
+        let flushed = last.batch.flush(out);
+        drop(last);
+        flushed?;
         done
     }
 
@@ -249,7 +252,9 @@ fn show<W: Write>(
 ) -> Result<(), Stop> {
     let view = shown_in(segments, limits)?;
     line.clear();
-    push_line(alloc, line, &view)?;
+    let pushed = push_line(alloc, line, &view);
+    drop(view);
+    pushed?;
     Ok(out.write_all(line.as_bytes())?)
 }
 
@@ -261,15 +266,22 @@ fn name<W: Write>(
     last: &mut Last,
     out: &mut W,
 ) -> Result<(), Stop> {
-    let alloc = last.alloc;
     let view = shown_in(segments, limits)?;
-    last.line.clear();
-    push_line(alloc, &mut last.line, &view)?;
-    let named = names.line(alloc, &mut last.returns, last.line.as_str(), &view)?;
-    if let Some(line) = named {
-        last.line = line;
-    }
+    let named = put_line(names, last, &view);
+    drop(view);
+    named?;
     Ok(out.write_all(last.line.as_bytes())?)
+}
+
+/// Puts a message's line over the last one.
+fn put_line(names: &Names, last: &mut Last, view: &MessageView<'_>) -> Result<(), Stop> {
+    last.line.clear();
+    push_line(last.alloc, &mut last.line, view)?;
+    let named = names.line(last.alloc, &mut last.returns, last.line.as_str(), view)?;
+    if let Some(line) = named {
+        drop(mem::replace(&mut last.line, line));
+    }
+    Ok(())
 }
 
 /// The message that segments hold, for one who may have meant another struct.
@@ -293,7 +305,9 @@ fn decode<W: Write>(
 ) -> Result<(), Stop> {
     let view = View::root(segments, limits)?;
     let text = message_line(alloc, decoder, view)?;
-    Ok(out.write_all(text.as_bytes())?)
+    let written = out.write_all(text.as_bytes());
+    drop(text);
+    Ok(written?)
 }
 
 /// Writes the frame's tree again, in segments of at most this many words.
@@ -307,6 +321,10 @@ fn recut<W: Write>(
 ) -> Result<(), Stop> {
     let limits = Limits::standard();
     let root = read_root(alloc, segments, limits)?;
-    let cut = write_segments(alloc, &root, words, limits)?;
-    batch.put(&cut, mode, out)
+    let cut = write_segments(alloc, &root, words, limits);
+    drop(root);
+    let cut = cut?;
+    let put = batch.put(&cut, mode, out);
+    drop(cut);
+    put
 }

@@ -9,7 +9,10 @@ use std::alloc::AllocError;
 pub(crate) fn push_text(bytes: &mut Vec<u8>, raw: &[u8]) -> Result<bool, AllocError> {
     let mut rest = raw;
     for _ in 0..raw.len() {
-        let Some((byte, after)) = first_byte(rest) else {
+        let (plain, escape) = before_escape(rest);
+        bytes.extend_from_slice(plain)?;
+        rest = escape;
+        let Some((byte, after)) = first_byte(escape) else {
             break;
         };
         bytes.push(byte)?;
@@ -35,7 +38,17 @@ pub(crate) fn push_hex(bytes: &mut Vec<u8>, raw: &[u8]) -> Result<bool, AllocErr
     Ok(first.is_none())
 }
 
-/// The byte that the front of a text stands for, and what comes after it.
+/// What of a text stands for itself, and what comes from its first escape on.
+fn before_escape(text: &[u8]) -> (&[u8], &[u8]) {
+    for (place, byte) in text.iter().enumerate() {
+        if *byte == b'\\' {
+            return (&text[..place], &text[place..]);
+        }
+    }
+    (text, &[])
+}
+
+/// The byte that the escape at the front of a text stands for, and what comes after it.
 fn first_byte(text: &[u8]) -> Option<(u8, &[u8])> {
     match text {
         [b'\\', b'x', high, low, rest @ ..] => {
@@ -44,9 +57,7 @@ fn first_byte(text: &[u8]) -> Option<(u8, &[u8])> {
         }
         [b'\\', b'0'..=b'7', ..] => octal(text),
         [b'\\', mark, rest @ ..] => Some((meant_by(*mark)?, rest)),
-        [b'\\'] => None,
-        [byte, rest @ ..] => Some((*byte, rest)),
-        [] => None,
+        _ => None,
     }
 }
 

@@ -1,6 +1,7 @@
 //! Messages as lines of text, which `show` prints.
 #![tactic(auto)]
 
+mod digits;
 mod line;
 mod notation;
 

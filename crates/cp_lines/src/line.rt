@@ -18,13 +18,13 @@ pub fn push_line(
     match message {
         MessageIn::Unimplemented(view) => {
             line.push_str("unimplemented ")?;
-            tree(alloc, line, view)?;
+            tree(line, view)?;
         }
         MessageIn::Abort(view) => {
             line.push_str("abort ")?;
             exception(alloc, line, view)?;
         }
-        MessageIn::Call(view) => call(alloc, line, view)?,
+        MessageIn::Call(view) => call(line, view)?,
         MessageIn::Return(view) => returned(alloc, line, view)?,
         MessageIn::Finish(finish) => {
             let (q, release) = (finish.question_id, finish.release_result_caps);
@@ -41,14 +41,14 @@ pub fn push_line(
         MessageIn::Disembargo(view) => disembargo(line, view)?,
         MessageIn::Other { which, body } => {
             write!(line, "other {} ", which.number())?;
-            tree(alloc, line, body)?;
+            tree(line, body)?;
         }
     }
     line.push('\n')
 }
 
 /// A call: `call q=N to=TARGET i=H m=N results=R params=P`.
-fn call(alloc: Global, line: &mut String, view: &CallView<View>) -> Result<(), AllocError> {
+fn call(line: &mut String, view: &CallView<View>) -> Result<(), AllocError> {
     write!(line, "call q={} to=", view.question_id)?;
     target(line, &view.target)?;
     let (interface, method) = (view.interface_id, view.method_id);
@@ -58,12 +58,12 @@ fn call(alloc: Global, line: &mut String, view: &CallView<View>) -> Result<(), A
         SendResultsToView::Yourself => line.push_str("yourself")?,
         SendResultsToView::ThirdParty(view) => {
             line.push_str("thirdParty:")?;
-            tree(alloc, line, view)?;
+            tree(line, view)?;
         }
         SendResultsToView::Unknown(number) => write!(line, "unknown:{}", number.number())?,
     }
     line.push_str(" params=")?;
-    payload(alloc, line, &view.params)
+    payload(line, &view.params)
 }
 
 /// A return: `return a=N releaseParamCaps=B`, then what was returned.
@@ -73,7 +73,7 @@ fn returned(alloc: Global, line: &mut String, view: &ReturnView<View>) -> Result
     match &view.returned {
         ReturnedView::Results(view) => {
             line.push_str(" results ")?;
-            payload(alloc, line, view)
+            payload(line, view)
         }
         ReturnedView::Exception(view) => {
             line.push_str(" exception ")?;
@@ -86,7 +86,7 @@ fn returned(alloc: Global, line: &mut String, view: &ReturnView<View>) -> Result
         }
         ReturnedView::AcceptFromThirdParty(view) => {
             line.push_str(" acceptFromThirdParty ")?;
-            tree(alloc, line, view)
+            tree(line, view)
         }
         ReturnedView::Unknown(number) => write!(line, " unknown {}", number.number()),
     }
@@ -98,7 +98,7 @@ fn resolve(alloc: Global, line: &mut String, view: &ResolveView<View>) -> Result
     match &view.resolution {
         ResolutionView::Cap(view) => {
             line.push_str(" cap ")?;
-            descriptor(alloc, line, view)
+            descriptor(line, view)
         }
         ResolutionView::Exception(view) => {
             line.push_str(" exception ")?;
@@ -148,23 +148,19 @@ fn promised_answer(line: &mut String, view: &PromisedAnswerView<View>) -> Result
 }
 
 /// A payload: `{T caps[..]}`, with the descriptors joined by commas.
-fn payload(alloc: Global, line: &mut String, view: &PayloadView<View>) -> Result<(), AllocError> {
+fn payload(line: &mut String, view: &PayloadView<View>) -> Result<(), AllocError> {
     line.push('{')?;
-    tree(alloc, line, &view.content)?;
+    tree(line, &view.content)?;
     line.push_str(" caps[")?;
     for i in 0..view.cap_table.len() {
         separate(line, i)?;
-        descriptor(alloc, line, &view.cap_table.descriptor(i))?;
+        descriptor(line, &view.cap_table.descriptor(i))?;
     }
     line.push_str("]}")
 }
 
 /// A descriptor: `none`, or its name, a colon, and what it names.
-fn descriptor(
-    alloc: Global,
-    line: &mut String,
-    view: &DescriptorView<View>,
-) -> Result<(), AllocError> {
+fn descriptor(line: &mut String, view: &DescriptorView<View>) -> Result<(), AllocError> {
     match view {
         DescriptorView::None => line.push_str("none"),
         DescriptorView::SenderHosted(id) => write!(line, "senderHosted:{id}"),
@@ -176,7 +172,7 @@ fn descriptor(
         }
         DescriptorView::ThirdPartyHosted(view) => {
             line.push_str("thirdPartyHosted:")?;
-            tree(alloc, line, view)
+            tree(line, view)
         }
         DescriptorView::Unknown(number) => write!(line, "unknown:{}", number.number()),
     }

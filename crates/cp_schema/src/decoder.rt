@@ -35,7 +35,7 @@ pub enum DecodeFault {
 impl fmt::Display for DecodeFault {
     fn fmt<W: fmt::Write>(&self, f: &mut fmt::Formatter<W>) -> fmt::Result {
         match self {
-            DecodeFault::WrongKind(fault) => write!(f, "{fault}"),
+            DecodeFault::WrongKind(fault) => fault.fmt(f),
             DecodeFault::TooDeep => f.write_str("its schema has groups that lie in themselves"),
             DecodeFault::OutOfMemory => f.write_str("memory ran out"),
         }

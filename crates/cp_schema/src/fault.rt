@@ -29,9 +29,9 @@ impl fmt::Display for RequestFault {
     fn fmt<W: fmt::Write>(&self, f: &mut fmt::Formatter<W>) -> fmt::Result {
         match self {
             RequestFault::Missing => f.write_str("there is no whole message"),
-            RequestFault::Frame(fault) => write!(f, "{fault}"),
-            RequestFault::Tree(fault) => write!(f, "{fault}"),
-            RequestFault::WrongKind(fault) => write!(f, "{fault}"),
+            RequestFault::Frame(fault) => fault.fmt(f),
+            RequestFault::Tree(fault) => fault.fmt(f),
+            RequestFault::WrongKind(fault) => fault.fmt(f),
             RequestFault::NotUtf8 => f.write_str("a name isn't UTF-8"),
             RequestFault::TooDeep => f.write_str("lists lie too deep within one another"),
             RequestFault::OutOfMemory => f.write_str("memory ran out"),
@@ -41,7 +41,7 @@ impl fmt::Display for RequestFault {
 
 impl fmt::Debug for RequestFault {
     fn fmt<W: fmt::Write>(&self, f: &mut fmt::Formatter<W>) -> fmt::Result {
-        write!(f, "{self}")
+        fmt::Display::fmt(self, f)
     }
 }
 

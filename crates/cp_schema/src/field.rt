@@ -51,16 +51,30 @@ impl StructField {
 impl<'n> Load<FieldView<'n>> for StructField {
     fn load(alloc: Global, view: &FieldView<'n>) -> Result<StructField, RequestFault> {
         let default = default_of(alloc, view)?;
-        let kind = kind_of(view, &default)?;
-        let name = text_of(alloc, view.name())?;
-        Ok(StructField {
-            name,
-            tag: view.discriminant_value(),
-            ordinal: view.ordinal().explicit(),
-            kind,
-            default,
-        })
+        match named(alloc, view, &default) {
+            Ok((name, kind)) => Ok(StructField {
+                name,
+                tag: view.discriminant_value(),
+                ordinal: view.ordinal().explicit(),
+                kind,
+                default,
+            }),
+            Err(fault) => {
+                drop(default);
+                Err(fault)
+            }
+        }
     }
+}
+
+/// The name of a field with this default, and what it is.
+fn named(
+    alloc: Global,
+    view: &FieldView<'_>,
+    default: &SchemaValue,
+) -> Result<(String, FieldKind), RequestFault> {
+    let kind = kind_of(view, default)?;
+    Ok((text_of(alloc, view.name())?, kind))
 }
 
 /// The default of a field.

@@ -101,15 +101,19 @@ impl Line {
         }
     }
 
-    /// Adds characters between quotes.
+    /// Adds characters between quotes. Those that stand for themselves go in runs.
     pub(crate) fn characters(&mut self, text: &str) {
         self.push('"');
-        for c in text.chars() {
-            if c.is_ascii() {
-                self.byte(c as u8);
-            } else {
-                self.push(c);
-            }
+        let mut left = text;
+        for _ in 0..text.len() {
+            let bytes = left.as_bytes();
+            let run = run_of(bytes);
+            self.put(left.get(..run).unwrap_or(""));
+            let Some(escaped) = bytes.get(run) else {
+                break;
+            };
+            self.byte(*escaped);
+            left = left.get(run.saturating_add(1)..).unwrap_or("");
         }
         self.push('"');
     }
@@ -144,8 +148,29 @@ impl Line {
 
     /// Adds a byte by its number.
     fn octal(&mut self, byte: u8) {
-        if write!(self.text, "\\{byte:03o}").is_err() {
-            self.is_full = true;
+        self.push('\\');
+        self.digit(byte / 64);
+        self.digit(byte / 8 % 8);
+        self.digit(byte % 8);
+    }
+
+    /// Adds a digit.
+    pub(crate) fn digit(&mut self, digit: u8) {
+        self.push((b'0' + digit % 10) as char);
+    }
+}
+
+/// How many bytes there are before the first that is escaped in a text.
+fn run_of(bytes: &[u8]) -> usize {
+    for (place, byte) in bytes.iter().enumerate() {
+        if is_escaped(*byte) {
+            return place;
         }
     }
+    bytes.len()
+}
+
+/// Whether a byte of a text is escaped: never one of a character beyond ASCII.
+fn is_escaped(byte: u8) -> bool {
+    matches!(byte, 0..32 | b'"' | b'\'' | b'\\' | 127)
 }

@@ -15,10 +15,25 @@ pub(crate) fn load_all<'n, V: Item<'n>, T: Load<V>>(
     list: List<'n, V>,
 ) -> Result<Vec<T>, RequestFault> {
     let mut all = Vec::new(alloc);
+    match load_each(alloc, list, &mut all) {
+        Ok(()) => Ok(all),
+        Err(fault) => {
+            drop(all);
+            Err(fault)
+        }
+    }
+}
+
+/// Adds all that is owned of the views of a list.
+fn load_each<'n, V: Item<'n>, T: Load<V>>(
+    alloc: Global,
+    list: List<'n, V>,
+    all: &mut Vec<T>,
+) -> Result<(), RequestFault> {
     for view in list {
         all.push(T::load(alloc, &view)?)?;
     }
-    Ok(all)
+    Ok(())
 }
 
 /// A text.

@@ -140,14 +140,51 @@ fn schema_of(alloc: Global, segments: &Segments) -> Result<Schema, RequestFault>
     // By views that the plugin made of schema.capnp, with the accessors of `only.txt` alone: another one needs a line there.
     let view = View::root(segments, Limits::standard())?;
     let request = CodeGeneratorRequestView::of(Pointee::of_view(view))?;
-    let (nodes, files) = (request.nodes()?, request.requested_files()?);
-    let comments = load_all(alloc, request.source_info()?)?;
-    let files = load_all(alloc, files)?;
-    Ok(Schema {
-        nodes: load_all(alloc, nodes)?,
-        files,
-        comments,
-    })
+    let loaded = load_request(alloc, &request);
+    drop(request);
+    loaded
+}
+
+/// The same of its view.
+fn load_request(
+    alloc: Global,
+    request: &CodeGeneratorRequestView<'_>,
+) -> Result<Schema, RequestFault> {
+    let nodes = load_all(alloc, request.nodes()?)?;
+    match load_about(alloc, request) {
+        Ok((files, comments)) => Ok(Schema {
+            nodes,
+            files,
+            comments,
+        }),
+        Err(fault) => {
+            drop(nodes);
+            Err(fault)
+        }
+    }
+}
+
+/// The files of a request and the comments.
+fn load_about(
+    alloc: Global,
+    request: &CodeGeneratorRequestView<'_>,
+) -> Result<(Vec<File>, Vec<Comments>), RequestFault> {
+    let files = load_all(alloc, request.requested_files()?)?;
+    match load_comments(alloc, request) {
+        Ok(comments) => Ok((files, comments)),
+        Err(fault) => {
+            drop(files);
+            Err(fault)
+        }
+    }
+}
+
+/// The comments of a request.
+fn load_comments(
+    alloc: Global,
+    request: &CodeGeneratorRequestView<'_>,
+) -> Result<Vec<Comments>, RequestFault> {
+    load_all(alloc, request.source_info()?)
 }
 
 impl Node {
@@ -185,10 +222,7 @@ fn kind_of(alloc: Global, view: &NodeView<'_>) -> Result<NodeKind, RequestFault>
     match view.which() {
         NodeWhich::File => Ok(NodeKind::File),
         NodeWhich::Struct => structure_of(alloc, &view.struct_()),
-        NodeWhich::Enum => match view.enum_().enumerants() {
-            Ok(items) => load_all(alloc, items).map(NodeKind::Enum),
-            Err(fault) => Err(RequestFault::WrongKind(fault)),
-        },
+        NodeWhich::Enum => Ok(NodeKind::Enum(load_all(alloc, view.enum_().enumerants()?)?)),
         NodeWhich::Interface => interface_of(alloc, &view.interface()),
         NodeWhich::Const => constant_of(alloc, &view.const_()),
         _ => Ok(NodeKind::Other),
@@ -209,12 +243,19 @@ fn structure_of(alloc: Global, view: &NodeStructView<'_>) -> Result<NodeKind, Re
 
 /// An interface.
 fn interface_of(alloc: Global, view: &NodeInterfaceView<'_>) -> Result<NodeKind, RequestFault> {
-    let (supers, methods) = (view.superclasses()?, view.methods()?);
-    let supers = load_all(alloc, supers)?;
-    Ok(NodeKind::Interface(Interface {
-        supers,
-        methods: load_all(alloc, methods)?,
-    }))
+    let supers = load_all(alloc, view.superclasses()?)?;
+    match methods_of(alloc, view) {
+        Ok(methods) => Ok(NodeKind::Interface(Interface { supers, methods })),
+        Err(fault) => {
+            drop(supers);
+            Err(fault)
+        }
+    }
+}
+
+/// The methods of an interface.
+fn methods_of(alloc: Global, view: &NodeInterfaceView<'_>) -> Result<Vec<Method>, RequestFault> {
+    load_all(alloc, view.methods()?)
 }
 
 /// A constant.

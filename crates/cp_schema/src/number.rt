@@ -1,6 +1,9 @@
 //! Numbers in the reference tool's notation.
 
 use crate::line::Line;
+use std::num::{
+    nearest_u32_to_f32, nearest_u64_to_f64, saturating_f32_to_u32, saturating_f64_to_u64,
+};
 
 /// The smallest float of 32 bits that has all its bits.
 const SMALLEST: f32 = 1.17549435e-38;
@@ -32,6 +35,13 @@ impl Line {
     /// Adds a float of 32 bits: by six digits, or by eight where six say another number, or where it is so small that
     /// it has fewer bits.
     pub(crate) fn float32(&mut self, x: f32) {
+        let size = if x < 0.0 { -x } else { x };
+        let count = saturating_f32_to_u32(size * 1000.0 + 0.5);
+        // The float nearest to so few thousandths is shown as these: they have six digits at the most.
+        if 0 < count && count < 1_000_000 && nearest_u32_to_f32(count) / 1000.0 == size {
+            self.thousandths(x < 0.0, count as u64);
+            return;
+        }
         // The reference tool's digits.
         let mut short = Line::new(self.alloc);
         if write!(short.text, "{x:e}").is_err() {
@@ -56,6 +66,16 @@ impl Line {
 
     /// Adds a float of 64 bits: by fifteen digits, or by seventeen where fifteen say another number.
     pub(crate) fn float64(&mut self, x: f64) {
+        let size = if x < 0.0 { -x } else { x };
+        let count = saturating_f64_to_u64(size * 1000.0 + 0.5);
+        // As above: they have fifteen digits at the most.
+        if 0 < count
+            && count < 1_000_000_000_000_000
+            && nearest_u64_to_f64(count) / 1000.0 == size
+        {
+            self.thousandths(x < 0.0, count);
+            return;
+        }
         let mut short = Line::new(self.alloc);
         if write!(short.text, "{x:e}").is_err() {
             self.is_full = true;
@@ -74,6 +94,24 @@ impl Line {
             self.is_full = true;
         }
         self.general(long.text.as_str(), precision);
+    }
+
+    /// Adds a number of thousandths, without zeros at its end.
+    fn thousandths(&mut self, is_negative: bool, count: u64) {
+        if is_negative {
+            self.push('-');
+        }
+        self.unsigned(count / 1000);
+        let mut left = count % 1000;
+        if left > 0 {
+            self.push('.');
+        }
+        for _ in 0..3 {
+            if left > 0 {
+                self.digit((left / 100 % 10) as u8);
+                left = left % 100 * 10;
+            }
+        }
     }
 
     /// Adds a number that is written with an exponent: without zeros at its end, and with no exponent where it has few

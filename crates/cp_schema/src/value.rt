@@ -7,7 +7,6 @@ use cp_tree::Tree;
 use std::alloc::Global;
 
 /// The value of a constant, or a field's default.
-#[derive(Drop)]
 pub enum SchemaValue {
     /// A number, a bool or a value of an enum, by its bits.
     Bits(u64),
@@ -17,6 +16,19 @@ pub enum SchemaValue {
     Tree(Tree),
     /// A value of another type, null, or an empty list, which null stands for.
     Other,
+}
+
+// Not derived: who lets one go calls this function, and need not prove the drop of a tree.
+impl Drop for SchemaValue {
+    fn drop(self) {
+        match self {
+            SchemaValue::Bits(_) => {}
+            SchemaValue::Text(_) => {}
+            SchemaValue::Data(_) => {}
+            SchemaValue::Tree(_) => {}
+            SchemaValue::Other => {}
+        }
+    }
 }
 
 impl SchemaValue {
@@ -34,21 +46,32 @@ impl SchemaValue {
 /// The value of a constant, or a field's default.
 pub(crate) fn value_of(alloc: Global, view: &ValueView<'_>) -> Result<SchemaValue, RequestFault> {
     match view.which() {
-        ValueWhich::Text => text_of(alloc, view.text()).map(SchemaValue::Text),
+        ValueWhich::Text => Ok(SchemaValue::Text(text_of(alloc, view.text())?)),
         ValueWhich::Data => Ok(SchemaValue::Data(view.data_()?.to_vec(alloc)?)),
-        ValueWhich::List => match view.list().tree(alloc)? {
-            // Null reads as the empty list already.
-            list if is_empty(&list) => Ok(SchemaValue::Other),
-            list => Ok(SchemaValue::Tree(list)),
-        },
         // All of these are the same pointer.
-        ValueWhich::Struct | ValueWhich::AnyPointer => match view.list().tree(alloc)? {
-            Tree::Null => Ok(SchemaValue::Other),
-            tree => Ok(SchemaValue::Tree(tree)),
-        },
+        ValueWhich::List => Ok(list_in(view.list().tree(alloc)?)),
+        ValueWhich::Struct | ValueWhich::AnyPointer => Ok(tree_in(view.list().tree(alloc)?)),
         ValueWhich::Void | ValueWhich::Interface | ValueWhich::Unknown(_) => Ok(SchemaValue::Other),
         _ => Ok(SchemaValue::Bits(bits_of(view))),
     }
+}
+
+/// A list that has elements: null reads as the empty list already.
+fn list_in(list: Tree) -> SchemaValue {
+    if is_empty(&list) {
+        drop(list);
+        return SchemaValue::Other;
+    }
+    SchemaValue::Tree(list)
+}
+
+/// A tree that isn't null.
+fn tree_in(tree: Tree) -> SchemaValue {
+    if let Tree::Null = &tree {
+        drop(tree);
+        return SchemaValue::Other;
+    }
+    SchemaValue::Tree(tree)
 }
 
 /// The bits of a number.

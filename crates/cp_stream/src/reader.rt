@@ -165,6 +165,7 @@ fn read_piece(
         Err(refusal) => {
             // An allocation failure lost messages of the piece, so it isn't kept for later.
             if refusal.is_memory() || messages.is_empty() {
+                drop(messages);
                 *status = ReaderStatus::Failed;
                 return Err(refused(*at, refusal));
             }

@@ -16,6 +16,7 @@ use std::alloc::Global;
 /// The message of rpc.capnp that a frame's segments hold, read in place: the first pointer's tree, as
 /// `struct Message` (encoding specification, "Messages"). No memory is taken. A fault of reading the
 /// tree (G1 to G9) refuses it, or else the first field that is at fault (S1, S2).
+#[inline(always)]
 pub fn view_in<'a>(segments: &'a Segments, limits: Limits) -> Result<MessageView<'a>, Refusal>
     // What is viewed is the message that the segments hold.
     ensures found { IfOk result (λ v. Holds limits segments.now (viewed v)) }
@@ -61,5 +62,8 @@ pub(crate) fn message_in(
     let message = view.message(alloc);
     // For the proof: it is dropped at one place.
     drop(view);
-    message.map_err(|_| Refusal::Schema(SchemaFault::OutOfMemory))
+    match message {
+        Ok(message) => Ok(message),
+        Err(_) => Err(Refusal::Schema(SchemaFault::OutOfMemory)),
+    }
 }
