@@ -1,3 +1,4 @@
 pub mod Answering
 pub mod Polling
+pub mod Renaming
 pub mod Sets

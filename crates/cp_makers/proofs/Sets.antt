@@ -2,7 +2,6 @@
 use Rattle.std.proofs.Common.{◌≡◌, ℕ, ◌<◌, ◌≤◌, ◌==◌, Bool, true, false, cond, List, [], ◌∷◌, Option, Some, None, IfSome, refl, sym, ap, subst, ◌∙◌, arith}
 use Rattle.std.specs.Prelude.{◌||◌, ◌&&◌, not, slice_get}
 use Rattle.std.proofs.lemmas.Bool.Decides.{nat_tests}
-use Rattle.std.specs.List.{list_any}
 use Rattle.std.specs.BTreeMap.Range.{IsLeBy}
 use Rattle.std.specs.declared.ops.Bound.TheVariants.{Included, Unbounded}
 use Rattle.std.specs.Ordering.{nat_cmp, eq_by_cmp, is_gt}
@@ -71,9 +70,12 @@ or_first true b c = refl
 or_first false b c = refl
 
 -- what is held at first, and what is once more numbers are put in
-pub held_first : (owing : List ℕ) (held : Numbers) (k : ℕ) (others : Bool) → held ≡ inserted owing empty → (contains held k || others) ≡ (is_among k owing || others)
-held_first owing held k others e =
-    rw e (ap (λ b. b || others) (contains-inserted owing empty k ∙ ap (λ b. b || is_among k owing) (contains-empty nat_cmp k)))
+pub held_first : (owing makers : List ℕ) (held : Numbers) (k : ℕ) (others : Bool) → held ≡ inserted makers (inserted owing empty)
+    → (contains held k || others) ≡ (is_among k owing || (is_among k makers || others))
+held_first owing makers held k others e =
+    let first = contains-inserted owing empty k ∙ ap (λ b. b || is_among k owing) (contains-empty nat_cmp k) in
+    let both = contains-inserted makers (inserted owing empty) k ∙ ap (λ b. b || is_among k makers) first in
+    rw e (ap (λ b. b || others) both ∙ or_first (is_among k owing) (is_among k makers) others)
 
 pub held_next : (ns : List ℕ) (held new : Numbers) (k : ℕ) (others all : Bool) → new ≡ inserted ns held → (contains held k || (is_among k ns || others)) ≡ all → (contains new k || others) ≡ all
 held_next ns held new k others all e h =

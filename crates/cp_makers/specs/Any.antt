@@ -1,13 +1,7 @@
 -- An object of one of two kinds.
-use Rattle.std.specs.Prelude.{◌≡◌, ℕ, Option}
-use Rattle.cp_refs.specs.declared.call.Request.{Request}
-use Rattle.cp_refs.specs.declared.outcome.Outcome.{Outcome}
-use Rattle.cp_servants.specs.declared.servant.Ask.{Ask}
-use Rattle.cp_servants.specs.declared.servant.Reply.{Reply}
-use Rattle.cp_servants.specs.declared.servant.Settled.{Settled}
+use Rattle.std.specs.Prelude.{◌≡◌}
 use Rattle.cp_makers.specs.declared.any.Any2.{Any2}
 use Rattle.cp_makers.specs.declared.any.Any2.TheVariants as kinds
-use Rattle.cp_makers.specs.Here.{Place}
 use Rattle.cp_makers.specs.Maker.{MakerKind}
 
 -- each stays of its kind, and changes so

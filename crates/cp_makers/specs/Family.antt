@@ -1,5 +1,5 @@
 -- The objects of a connection, with those that they make.
-use Rattle.std.specs.Prelude.{◌≡◌, ℕ, ◌+◌, ◌-◌, ◌==◌, ◌&&◌, ◌||◌, Bool, true, false, if◌then◌else◌, nat_lt, not, List, [], ◌∷◌, ◌++◌, Option, Some, None}
+use Rattle.std.specs.Prelude.{◌≡◌, ℕ, ◌+◌, ◌-◌, ◌==◌, ◌&&◌, ◌||◌, Bool, if◌then◌else◌, nat_lt, not, List, [], ◌∷◌, ◌++◌, Option, Some, None, is_some}
 use Rattle.std.specs.List.{list_any}
 use Rattle.std.specs.Option.{option_map_or}
 use Rattle.std.specs.FinMap.{get, insert, remove, empty, values, entries}
@@ -15,6 +15,8 @@ use Rattle.cp_servants.specs.declared.servant.Settled.{Settled}
 use Rattle.cp_servants.specs.Outcomes.{named_imports}
 use Rattle.cp_makers.specs.declared.here.Deed.{Deed}
 use Rattle.cp_makers.specs.declared.here.Deed.TheVariants as deeds
+use Rattle.cp_makers.specs.declared.here.Newcomer.{Newcomer}
+use Rattle.cp_makers.specs.declared.here.Newcomer.TheVariants as newcomers
 use Rattle.cp_makers.specs.declared.member.Member.{Member}
 use Rattle.cp_makers.specs.declared.waker.Waker.{Waker}
 use Rattle.cp_makers.specs.declared.family.Family.{Family}
@@ -22,15 +24,17 @@ use Rattle.cp_makers.specs.Here.{Place, begun, place_of}
 use Rattle.cp_makers.specs.Maker.{MakerKind}
 use Rattle.cp_makers.specs.Members.{earlier, is_later, newborn, one_more}
 use Rattle.cp_makers.specs.Numbers.{Numbers, is_among, is_number, without, without_each}
+use Rattle.cp_makers.specs.Promises.{Promised, named, none_promised, promised_of, promising, resolving, with_outcome, with_request}
 
 -- The objects by their numbers; where they are, and which number the next one gets; below which number they stay; which are to be polled; who owes the answer
--- of which call; who is to be woken elsewhere, in order; and the time before which none is to be woken here.
+-- of which call; their promises; who is to be woken elsewhere, in order; and the time before which none is to be woken here.
 pub record Kin (A : Type 0) : Type 0 where
   pub members : Table (Member A)
   pub here : Place A
   pub stays : ℕ
   pub awake : Numbers
   pub owed : Table ℕ
+  pub promised : Promised
   pub wakes : List Waker
   pub first_alarm : Option ℕ
 
@@ -41,13 +45,14 @@ kin_of f = record {
   stays = f.stays;
   awake = f.awake;
   owed = f.owed;
+  promised = promised_of f.promises;
   wakes = f.wakes.items;
   first_alarm = f.first_alarm;
 }
 
 -- no objects
 abbrev pub alone : {A : Type 0} → Kin A
-alone = record { members = empty; here = begun; stays = 0; awake = set.empty; owed = empty; wakes = []; first_alarm = None }
+alone = record { members = empty; here = begun; stays = 0; awake = set.empty; owed = empty; promised = none_promised; wakes = []; first_alarm = None }
 
 -- the first time that is to come
 abbrev pub first_of : ℕ → Option ℕ → Option ℕ → Option ℕ
@@ -60,18 +65,26 @@ own_of number None owed = None
 own_of number (Some given) owed = if is_number number (get owed given.ticket) then Some given else None
 
 module _ {A : Type 0} where
-  -- one object more is there, under the next number, and is to be polled
-  abbrev pub joining : A → Kin A → Kin A
-  joining object kin = record kin {
+  -- its promises are these
+  abbrev pub promised_so : Promised → Kin A → Kin A
+  promised_so promised kin = record kin { promised = promised }
+
+  -- one object more is there, under the next number, and is to be polled; or one promise of the object that does something
+  abbrev pub joining : Newcomer A → Kin A → Kin A
+  joining (newcomers.Object object) kin = record kin {
     members = insert kin.members kin.here.next (newborn object);
     awake = set.insert kin.awake kin.here.next;
     here = record kin.here { next = kin.here.next + 1 };
   }
+  joining newcomers.Promise kin = record kin {
+    promised = promising kin.here.next kin.here.this.object kin.promised;
+    here = record kin.here { next = kin.here.next + 1 };
+  }
 
   -- these are there too, under the next numbers, in order
-  abbrev pub joined : List A → Kin A → Kin A
+  abbrev pub joined : List (Newcomer A) → Kin A → Kin A
   joined [] kin = kin
-  joined (object ∷ more) kin = joined more (joining object kin)
+  joined (newcomer ∷ more) kin = joined more (joining newcomer kin)
 
   -- what was made is there from now on
   abbrev pub with_those_made : Kin A → Kin A
@@ -80,7 +93,7 @@ module _ {A : Type 0} where
   -- the program adds one, which stays
   abbrev pub adding : A → Kin A → Kin A
   adding object kin =
-      let more = with_those_made (record kin { here = record kin.here { made = kin.here.made ++ object ∷ [] } }) in
+      let more = with_those_made (record kin { here = record kin.here { made = kin.here.made ++ newcomers.Object object ∷ [] } }) in
       record more { stays = more.here.next }
 
   -- the object of this number is as it was but for this
@@ -111,6 +124,7 @@ module _ {A : Type 0} where
       if waker.session == kin.here.this.session then waking waker.object kin else record kin { wakes = kin.wakes ++ waker ∷ [] }
   following number (deeds.WakeAt time) kin =
       record (changing number (λ m. record m { alarm = Some time }) kin) { first_alarm = Some (earlier kin.first_alarm time) }
+  following number (deeds.Resolve promise value) kin = promised_so (resolving promise value kin.promised) kin
 
   abbrev pub followed : ℕ → List Deed → Kin A → Kin A
   followed number [] kin = kin
@@ -141,15 +155,17 @@ module _ {A : Type 0} where
   abbrev pub answering : ℕ → Settled → Kin A → Kin A
   answering number given kin = record (changing number (λ m. record m { holds = without_each given.gives_up m.holds }) kin) { owed = remove kin.owed given.ticket }
 
-  -- the object owes an answer, or another keeps it
+  -- the object owes an answer, or made a promise that isn't resolved, or another keeps it
   abbrev pub is_held : Kin A → ℕ → Bool
-  is_held kin k = is_among k (values kin.owed) || list_any (λ member. is_among k member.keeps) (values kin.members)
+  is_held kin k =
+      is_among k (values kin.owed) || (is_among k (values kin.promised.makers) || list_any (λ member. is_among k member.keeps) (values kin.members))
 
-  -- these are those that owe an answer or that others keep
+  -- these are those of which that is so
   abbrev pub AreHeld : Kin A → Numbers → Type 0
   AreHeld kin held = (k : ℕ) → set.contains held k ≡ is_held kin k
 
-  -- An object goes unless the connection refers to it: the program didn't add it, it waits for no outcome, it owes no answer, and none keeps it.
+  -- An object goes unless the connection refers to it: the program didn't add it, it waits for no outcome, owes no answer, has no promise to resolve, and
+  -- none keeps it.
   abbrev pub is_idle : Kin A → ℕ → Member A → Bool
   is_idle kin k member = not (nat_lt k kin.stays) && member.asked == 0 && not (is_held kin k)
 
@@ -160,6 +176,18 @@ module _ {A : Type 0} where
 
   abbrev pub idle_of : Kin A → List ℕ
   idle_of kin = idle_among kin (entries kin.members)
+
+  -- A promise goes unless the vat uses it: it is resolved, and no object keeps it.
+  abbrev pub is_loose : Kin A → ℕ → Bool
+  is_loose kin number = not (is_some (get kin.promised.makers number)) && not (is_held kin number)
+
+  -- the vat's promises of those of these, in order
+  abbrev pub loose_among : Kin A → List (ℕ × ℕ) → List ℕ
+  loose_among kin [] = []
+  loose_among kin (entry ∷ more) = if is_loose kin entry.1 then entry.0 ∷ loose_among kin more else loose_among kin more
+
+  abbrev pub loose_of : Kin A → List ℕ
+  loose_of kin = loose_among kin (entries kin.promised.names)
 
   -- the object of this number is gone
   abbrev pub losing : ℕ → Kin A → Kin A
@@ -195,14 +223,14 @@ module _ {A : Type 0} where
 
 -- Of objects of one kind.
 module _ {A : Type 0} (kind : MakerKind A A) where
-  -- The object of this number is called. It is given the call's imports, and does what its kind says. What it replied is noted, it is to be polled, and what it
-  -- did beside is done.
+  -- The object of this number is called, and sees the promises of objects under their numbers. It is given the call's imports, and does what its kind says. What
+  -- it replied is noted, it is to be polled, and what it did beside is done.
   pub record Calls (number ticket : ℕ) (request : Request) (reply : Reply) (old new : Kin A) : Type 0 where
     pub before : Member A
     pub object : A
     pub place : Place A
     pub was : get old.members number ≡ Some before
-    pub takes : kind.takes before.object ticket request (entered number old) reply place object
+    pub takes : kind.takes before.object ticket (with_request (named old.promised.names) request) (entered number old) reply place object
     pub is : new ≡ settled number (awoken number (noting number ticket reply
         (leaving place (placing number (record before { object = object; holds = before.holds ++ named_imports request.caps }) old))))
 
@@ -240,6 +268,6 @@ module _ {A : Type 0} (kind : MakerKind A A) where
     pub object : A
     pub place : Place A
     pub was : get old.members number ≡ Some before
-    pub is_told : kind.is_told before.object mark outcome (entered number old) place object
+    pub is_told : kind.is_told before.object mark (with_outcome (named old.promised.names) outcome) (entered number old) place object
     pub is : new ≡ settled number (awoken number (leaving place
         (placing number (record before { object = object; asked = before.asked - 1; holds = before.holds ++ named_imports (caps_of outcome) }) old)))

@@ -3,6 +3,7 @@ pub mod Maker
 pub mod Any
 pub mod Numbers
 pub mod Members
+pub mod Promises
 pub mod Family
 pub mod Hall
 pub mod Listed

@@ -6,16 +6,17 @@ ghost use Rattle.cp_vat_machine.specs.InUse.{caps_of};
 ghost use Rattle.cp_servants.specs.declared.servant.Settled.{Settled};
 ghost use Rattle.cp_servants.specs.Outcomes.{named_imports};
 ghost use Rattle.cp_servants.specs.Requests.{request_of};
-ghost use Rattle.cp_makers.specs.Family.{Asks, Calls, Polls, Tells, adding, alone, answering, asking, awoken, followed, following, held_by, joining, kin_of, losing, noting, own_of, resting, settled, waking, with_those_made};
-ghost use Rattle.cp_makers.specs.Members.{earlier};
+ghost use Rattle.cp_makers.specs.Family.{Asks, Calls, Polls, Tells, adding, alone, answering, asking, awoken, followed, following, held_by, joining, kin_of, losing, noting, own_of, placing, resting, settled, waking, with_those_made};
+ghost use Rattle.cp_makers.specs.Members.{earlier, newborn};
 ghost use Rattle.cp_makers.specs.declared.here.Deed.TheVariants as deeds;
 
-use crate::here::{Deed, Here};
+use crate::here::{Deed, Here, Newcomer};
 use crate::maker::Maker;
 use crate::member::Member;
 use crate::members::{give_up, keep, let_go, note_ask, set_alarm};
 use crate::number_set::NumberSet;
 use crate::owed::Owed;
+use crate::promises::Promises;
 use crate::waker::Waker;
 use cp_refs::{Cap, Outcome, Request};
 use cp_servants::{Ask, Reply, RequestView, Settled, named_imports};
@@ -24,8 +25,8 @@ use cp_vat_machine::Ids;
 use std::alloc::{AllocError, Global};
 use std::collections::VecDeque;
 
-/// The objects of a connection, with those that they make, by their numbers. Numbers go up, and none is given twice: so a name of an
-/// object that is gone never reaches another.
+/// The objects of a connection, with the objects and promises that they make, by their numbers. Numbers go up, and none is given twice:
+/// so a name of an object that is gone never reaches another.
 ///
 /// # When an object is dropped
 ///
@@ -33,9 +34,12 @@ use std::collections::VecDeque;
 ///
 /// - nothing of its connection refers to it: the vat doesn't, and no call of it waits to be taken;
 /// - it owes no answer, and waits for the outcome of no call of its own;
+/// - each promise that it made is resolved;
 /// - no object keeps it (`Here::keep`).
 ///
 /// Then its time to be woken goes with it, and what it kept; and the imports that it held are given up.
+///
+/// A promise that is resolved is forgotten once nothing of the connection refers to it and no object keeps it.
 ///
 /// # Which objects are polled
 ///
@@ -51,6 +55,7 @@ pub struct Family<O> {
     /// The objects that are to be polled.
     pub(crate) awake: NumberSet,
     pub(crate) owed: Owed,
+    pub(crate) promises: Promises,
     /// The objects of other sessions that are to be woken, in order.
     pub(crate) wakes: VecDeque<Waker>,
     /// No object is to be woken before this time.
@@ -69,6 +74,7 @@ impl<O: Maker<Makes = O>> Family<O> {
             stays: 0,
             awake: NumberSet::new(alloc),
             owed: Owed::new(alloc),
+            promises: Promises::new(alloc),
             wakes: VecDeque::new(alloc),
             first_alarm: None,
         }
@@ -107,6 +113,7 @@ impl<O: Maker<Makes = O>> Family<O> {
         ensures { IfOk result (λ reply. Calls O.makes number ticket request reply (kin_of self.old) (kin_of self.new)) }
     {
         let imports = named_imports(self.alloc, &request.caps)?;
+        let request = self.promises.named_request(request);
         self.here.enter(number);
         let member = self.members.entry_mut(number);
         member.holds.add_each(imports.ids())?;
@@ -126,6 +133,18 @@ impl<O: Maker<Makes = O>> Family<O> {
         ensures { IfOk result (λ reply. Calls O.makes number ticket (request_of request.entry) reply (kin_of self.old) (kin_of self.new)) }
     {
         let imports = named_imports(self.alloc, &request.caps)?;
+        let RequestView {
+            interface,
+            method,
+            content,
+            caps,
+        } = request;
+        let request = RequestView {
+            interface,
+            method,
+            content,
+            caps: self.promises.named_each(caps),
+        };
         self.here.enter(number);
         let member = self.members.entry_mut(number);
         member.holds.add_each(imports.ids())?;
@@ -173,6 +192,7 @@ impl<O: Maker<Makes = O>> Family<O> {
         ensures { OnOk result (Tells O.makes number mark outcome (kin_of self.old) (kin_of self.new)) }
     {
         let imports = given_imports(self.alloc, &outcome)?;
+        let outcome = self.promises.named_outcome(outcome);
         self.here.enter(number);
         let member = self.members.entry_mut(number);
         member.holds.add_each(imports.ids())?;
@@ -270,15 +290,15 @@ impl<O: Maker<Makes = O>> Family<O> {
     {
         self.join()?;
         let deeds = self.here.take_deeds();
-        self.follow_each(number, &deeds)
+        self.follow_each(number, deeds)
     }
 
     /// Does what an object wanted, in order.
-    fn follow_each(&mut self, number: u32, deeds: &[Deed]) -> Result<(), AllocError>
-        ensures { OnOk result (kin_of self.new ≡ followed number deeds.now (kin_of self.old)) }
+    fn follow_each(&mut self, number: u32, deeds: Vec<Deed>) -> Result<(), AllocError>
+        ensures { OnOk result (kin_of self.new ≡ followed number deeds.items (kin_of self.old)) }
     {
         for deed in deeds {
-            self.follow(number, *deed)?;
+            self.follow(number, deed)?;
         }
         Ok(())
     }
@@ -299,6 +319,7 @@ impl<O: Maker<Makes = O>> Family<O> {
                 self.first_alarm = Some(earlier(self.first_alarm, time));
                 Ok(())
             }
+            Deed::Resolve(promise, value) => self.promises.resolve(promise, value),
         }
     }
 
@@ -313,30 +334,39 @@ impl<O: Maker<Makes = O>> Family<O> {
         Ok(())
     }
 
-    /// The objects that were made are there from now on, each under the next number.
+    /// The objects and promises that were made are there from now on, each under the next number.
     fn join(&mut self) -> Result<(), AllocError>
         ensures { OnOk result (kin_of self.new ≡ with_those_made (kin_of self.old)) }
     {
         let made = self.here.take_made();
-        for object in made {
-            self.join_one(object)?;
+        for newcomer in made {
+            self.join_one(newcomer)?;
         }
         Ok(())
     }
 
-    /// One object more is there, under the next number.
-    fn join_one(&mut self, object: O) -> Result<(), AllocError>
-        ensures { OnOk result (kin_of self.new ≡ joining object (kin_of self.old)) }
+    /// One object or promise more is there, under the next number.
+    fn join_one(&mut self, newcomer: Newcomer<O>) -> Result<(), AllocError>
+        ensures { OnOk result (kin_of self.new ≡ joining newcomer (kin_of self.old)) }
     {
         let number = self.here.next();
         let Some(next) = number.checked_add(1) else {
-            drop(object);
+            drop(newcomer);
             return Err(AllocError);
         };
-        self.members.put(number, Member::new(self.alloc, object))?;
-        self.awake.insert(number)?;
         self.here.set_next(next);
-        Ok(())
+        match newcomer {
+            Newcomer::Object(object) => self.join_object(number, object),
+            Newcomer::Promise => self.promises.make(number, self.here.waker().object),
+        }
+    }
+
+    /// One object more is there, and is to be polled.
+    fn join_object(&mut self, number: u32, object: O) -> Result<(), AllocError>
+        ensures { OnOk result (kin_of self.new ≡ awoken number (placing number (newborn object) (kin_of self.old))) }
+    {
+        self.members.put(number, Member::new(self.alloc, object))?;
+        self.awake.insert(number)
     }
 }
 

@@ -3,8 +3,9 @@
 use crate::family::Family;
 use crate::hall::Hall;
 use crate::maker::Maker;
+use crate::pledge::Pledge;
 use crate::waker::Waker;
-use cp_refs::{Outcome, Request};
+use cp_refs::{Outcome, PromiseId, Request};
 use cp_servants::{Ask, Reply, RequestView, Settled};
 use cp_vat_machine::Ids;
 use std::alloc::{AllocError, Global};
@@ -53,7 +54,7 @@ impl<O: Maker<Makes = O>> Hall for Family<O> {
     }
 
     fn guests(&self) -> usize {
-        self.len()
+        self.len().saturating_add(self.promises.len())
     }
 
     fn idle(&self, _alloc: Global) -> Result<Ids, AllocError> {
@@ -86,5 +87,33 @@ impl<O: Maker<Makes = O>> Hall for Family<O> {
 
     fn next_wake(&mut self) -> Option<Waker> {
         self.wakes.pop_front()
+    }
+
+    fn next_pledge(&mut self) -> Option<Pledge> {
+        self.promises.next()
+    }
+
+    fn promise_of(&self, number: u32) -> Option<PromiseId> {
+        self.promises.ids.get(number).copied()
+    }
+
+    fn keep_promise(&mut self, number: u32, id: PromiseId) -> Result<(), AllocError> {
+        self.promises.keep(number, id)
+    }
+
+    fn meant(&self, outcome: Outcome) -> Outcome {
+        self.promises.meant_outcome(outcome)
+    }
+
+    fn meant_ask(&self, ask: Ask) -> Ask {
+        self.promises.meant_ask(ask)
+    }
+
+    fn loose_promises(&self, _alloc: Global) -> Result<Ids, AllocError> {
+        Family::loose_promises(self)
+    }
+
+    fn forget(&mut self, id: PromiseId) {
+        self.promises.forget(id);
     }
 }

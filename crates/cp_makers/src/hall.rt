@@ -4,8 +4,9 @@ ghost use Rattle.std.specs.Prelude.{◌≡◌, ◌↔◌, true, false, IsTrue, I
 ghost use Rattle.cp_servants.specs.Requests.{request_of};
 ghost use Rattle.cp_makers.specs.Hall.{HallKind};
 
+use crate::pledge::Pledge;
 use crate::waker::Waker;
-use cp_refs::{Outcome, Request};
+use cp_refs::{Outcome, PromiseId, Request};
 use cp_servants::{Ask, Reply, RequestView, Settled};
 use cp_vat_machine::Ids;
 use std::alloc::{AllocError, Global};
@@ -58,7 +59,7 @@ pub trait Hall: Drop {
     fn again(&self) -> bool
         ensures { result ≡ true → hall.may_go_on self.now };
 
-    /// How many objects there are that may go.
+    /// How many objects and promises there are that may go.
     fn guests(&self) -> usize
         ensures { result ≡ hall.guests self.now };
 
@@ -93,4 +94,32 @@ pub trait Hall: Drop {
     /// Takes out the first object of another session that is to be woken.
     fn next_wake(&mut self) -> Option<Waker>
         ensures { hall.hands_on result self.old self.new };
+
+    /// Takes out what is to be done first of the promises of objects.
+    fn next_pledge(&mut self) -> Option<Pledge>
+        ensures { hall.hands_pledge result self.old self.new };
+
+    /// The vat's promise for a number of `Pledge`.
+    fn promise_of(&self, number: u32) -> Option<PromiseId>
+        ensures { result ≡ hall.promise_of number self.now };
+
+    /// The vat made this promise for a number of `Pledge`.
+    fn keep_promise(&mut self, number: u32, id: PromiseId) -> Result<(), AllocError>
+        ensures { OnOk result (hall.keeps_promise number id self.old self.new) };
+
+    /// What an object answered, as the vat is to have it: its promises are the vat's.
+    fn meant(&self, outcome: Outcome) -> Outcome
+        ensures { result ≡ hall.means outcome self.now };
+
+    /// A call that an object makes, as the vat is to have it.
+    fn meant_ask(&self, ask: Ask) -> Ask
+        ensures { result ≡ hall.means_ask ask self.now };
+
+    /// The vat's promises that are resolved and that no object keeps: they go unless the vat uses them.
+    fn loose_promises(&self, alloc: Global) -> Result<Ids, AllocError>
+        ensures { IfOk result (λ ids. ids ≡ hall.loose self.now) };
+
+    /// The vat forgot this promise of its own.
+    fn forget(&mut self, id: PromiseId)
+        ensures { hall.forgets id self.old self.new };
 }

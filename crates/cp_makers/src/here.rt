@@ -2,25 +2,36 @@
 
 ghost use Rattle.std.specs.Prelude.{◌≡◌, ◌+◌, [], IfOk, IfSome, OnOk, OnErr};
 ghost use Rattle.cp_refs.specs.declared.cap.Cap.TheVariants as caps;
-ghost use Rattle.cp_makers.specs.Here.{begun, giving_up, keeping, next_number, place_of, time_after, with_deed, with_made};
+ghost use Rattle.cp_makers.specs.Here.{begun, giving_up, keeping, next_number, place_of, time_after, with_deed, with_made, with_promise};
 ghost use Rattle.cp_makers.specs.declared.here.Deed.{Deed};
 ghost use Rattle.cp_makers.specs.declared.here.Deed.TheVariants as deeds;
 
+use crate::resolver::Resolver;
 use crate::waker::Waker;
 use cp_refs::Cap;
 use std::alloc::{AllocError, Global};
 use std::mem;
 
+/// What an object made: it has a number from then on.
+#[derive(Drop)]
+pub(crate) enum Newcomer<M> {
+    Object(M),
+    /// A promise of the object's.
+    Promise,
+}
+
 /// What an object did beside what it answered.
-#[derive(Clone, Copy)]
+#[derive(Drop)]
 pub(crate) enum Deed {
-    /// It keeps this object.
+    /// It keeps this object or promise.
     Keep(u32),
-    /// It keeps this object once less.
+    /// It keeps this one once less.
     GiveUp(u32),
     Wake(Waker),
     /// It is to be woken at this time.
     WakeAt(u64),
+    /// The promise of this number comes to this.
+    Resolve(u32, Cap),
 }
 
 /// Where an object is while it is called, polled, asked or told: what it may do there beside what it answers. `M` is the one type of
@@ -32,10 +43,10 @@ pub struct Here<M> {
     this: Waker,
     /// What time it is.
     time: u64,
-    /// The number that the first object gets that is made. None is given twice.
+    /// The number that what is made first gets. None is given twice.
     next: u32,
-    /// The objects that were made, in order.
-    made: Vec<M>,
+    /// The objects and promises that were made, in order.
+    made: Vec<Newcomer<M>>,
     /// What else was done, in order.
     deeds: Vec<Deed>,
 }
@@ -56,8 +67,37 @@ impl<M: Drop> Here<M> {
             drop(object);
             return Err(AllocError);
         };
-        self.made.push(object)?;
+        self.made.push(Newcomer::Object(object))?;
         Ok(Cap::Object(number))
+    }
+
+    /// Makes a promise, whose capability (`Resolver::cap`) may be named at once: the calls on it wait, in order, until it is resolved.
+    /// The object stays until then.
+    ///
+    /// # Errors
+    ///
+    /// Memory ran out, or 2^32 objects and promises were made. Where the vat has no room for a promise more, calls on it fail with
+    /// `no such object`.
+    pub fn promise(&mut self) -> Result<Resolver, AllocError>
+        ensures number { IfOk result (λ resolver. resolver.number ≡ next_number (place_of self.old)) }
+        ensures made { OnOk result (place_of self.new ≡ with_promise (place_of self.old)) }
+        ensures err { OnErr result (place_of self.new ≡ place_of self.old) }
+    {
+        let Some(number) = number_after(self.next, self.made.len()) else {
+            return Err(AllocError);
+        };
+        self.made.push(Newcomer::Promise)?;
+        Ok(Resolver { number })
+    }
+
+    /// Resolves a promise: it comes to an object of this end, to what the object was given, or, where that is `Broken`, to an
+    /// exception. The calls on it that wait go there, in order, and the peer is told. Where the vat refuses the value, as one that leads
+    /// back to the promise, it comes to the exception `bad outcome`.
+    pub fn resolve(&mut self, resolver: Resolver, value: Cap) -> Result<(), AllocError>
+        ensures noted { OnOk result (place_of self.new ≡ with_deed (place_of self.old) (deeds.Resolve resolver.number value)) }
+        ensures err { OnErr result (place_of self.new ≡ place_of self.old) }
+    {
+        self.note(Deed::Resolve(resolver.number, value))
     }
 
     /// The object itself.
@@ -104,8 +144,8 @@ impl<M: Drop> Here<M> {
         self.alloc
     }
 
-    /// Keeps an object that the object stores, though nothing else refers to it: once more for each call of this. What isn't an
-    /// object of this end isn't kept by this.
+    /// Keeps an object or a promise that the object stores, though nothing else refers to it: once more for each call of this. What
+    /// isn't an object of this end, or a promise of one, isn't kept by this.
     pub fn keep(&mut self, cap: &Cap) -> Result<(), AllocError>
         ensures noted { OnOk result (place_of self.new ≡ keeping cap.now (place_of self.old)) }
         ensures err { OnErr result (place_of self.new ≡ place_of self.old) }
@@ -116,7 +156,7 @@ impl<M: Drop> Here<M> {
         }
     }
 
-    /// Keeps an object once less.
+    /// Keeps an object or a promise once less.
     pub fn give_up(&mut self, cap: &Cap) -> Result<(), AllocError>
         ensures noted { OnOk result (place_of self.new ≡ giving_up cap.now (place_of self.old)) }
         ensures err { OnErr result (place_of self.new ≡ place_of self.old) }
@@ -144,7 +184,7 @@ impl<M: Drop> Here<M> {
         }
     }
 
-    /// The number of the next object.
+    /// The number that is given next.
     pub(crate) fn next(&self) -> u32
         ensures { result ≡ self.now.next }
     {
@@ -172,15 +212,15 @@ impl<M: Drop> Here<M> {
         self.time = now;
     }
 
-    /// The next object gets this number.
+    /// This number is given next.
     pub(crate) fn set_next(&mut self, next: u32)
         ensures { self.new ≡ record self.old { next = next } }
     {
         self.next = next;
     }
 
-    /// Takes the objects out that were made, in order.
-    pub(crate) fn take_made(&mut self) -> Vec<M>
+    /// Takes the objects and promises out that were made, in order.
+    pub(crate) fn take_made(&mut self) -> Vec<Newcomer<M>>
         ensures made { result.items ≡ self.old.made.items }
         ensures none { place_of self.new ≡ record (place_of self.old) { made = [] } }
     {

@@ -1,7 +1,7 @@
-//! The objects that nothing of their family refers to.
+//! The objects and promises that nothing of their family refers to.
 
 ghost use Rattle.std.specs.Prelude.{◌≡◌, IfOk};
-ghost use Rattle.cp_makers.specs.Family.{AreHeld, idle_of, is_idle, kin_of};
+ghost use Rattle.cp_makers.specs.Family.{AreHeld, idle_of, is_idle, is_loose, kin_of, loose_of};
 
 use crate::family::Family;
 use crate::maker::Maker;
@@ -32,13 +32,35 @@ impl<O: Maker<Makes = O>> Family<O> {
         number >= self.stays && member.asked == 0 && !held.contains(number)
     }
 
-    /// The objects that owe an answer or that others keep.
+    /// The vat's promises that go unless the vat uses them, rising.
+    pub(crate) fn loose_promises(&self) -> Result<Ids, AllocError>
+        ensures { IfOk result (λ loose. loose ≡ loose_of (kin_of self.now)) }
+    {
+        let held = self.held()?;
+        let mut loose = Vec::new(self.alloc);
+        for (id, number) in self.promises.names.iter() {
+            if self.is_loose(&held, *number) {
+                loose.push(*id)?;
+            }
+        }
+        Ok(Ids::new(loose))
+    }
+
+    /// Whether a promise goes, unless the vat uses it, where these are held.
+    fn is_loose(&self, held: &NumberSet, number: u32) -> bool
+        ensures { AreHeld (kin_of self.now) held.now → result ≡ is_loose (kin_of self.now) number }
+    {
+        !self.promises.makers.contains(number) && !held.contains(number)
+    }
+
+    /// The objects that owe an answer or made a promise that isn't resolved, and the objects and promises that others keep.
     fn held(&self) -> Result<NumberSet, AllocError>
         ensures { IfOk result (AreHeld (kin_of self.now)) }
     {
         let mut held = NumberSet::new(self.alloc);
         let owing = self.owed.objects(self.alloc)?;
         insert_each(&mut held, &owing)?;
+        self.promises.insert_makers(&mut held)?;
         for (_, member) in self.members.iter() {
             insert_each(&mut held, member.keeps.numbers())?;
         }

@@ -15,6 +15,9 @@ mod members;
 mod number_set;
 mod numbers;
 mod owed;
+mod pledge;
+mod promises;
+mod resolver;
 mod waker;
 
 pub use any::Any2;
@@ -22,4 +25,6 @@ pub use family::Family;
 pub use hall::Hall;
 pub use here::Here;
 pub use maker::Maker;
+pub use pledge::Pledge;
+pub use resolver::Resolver;
 pub use waker::Waker;

@@ -1,8 +1,9 @@
 //! A list of objects that is fixed.
 
 use crate::hall::Hall;
+use crate::pledge::Pledge;
 use crate::waker::Waker;
-use cp_refs::{Outcome, Request};
+use cp_refs::{Outcome, PromiseId, Request};
 use cp_servants::{
     Ask, Reply, RequestView, Servant, Settled, any_again, ask_at, call_at, call_view_at, poll_at,
     tell_at,
@@ -85,4 +86,30 @@ impl<O: Servant> Hall for Vec<O> {
     fn next_wake(&mut self) -> Option<Waker> {
         None
     }
+
+    fn next_pledge(&mut self) -> Option<Pledge> {
+        None
+    }
+
+    fn promise_of(&self, _number: u32) -> Option<PromiseId> {
+        None
+    }
+
+    fn keep_promise(&mut self, _number: u32, _id: PromiseId) -> Result<(), AllocError> {
+        Ok(())
+    }
+
+    fn meant(&self, outcome: Outcome) -> Outcome {
+        outcome
+    }
+
+    fn meant_ask(&self, ask: Ask) -> Ask {
+        ask
+    }
+
+    fn loose_promises(&self, alloc: Global) -> Result<Ids, AllocError> {
+        Ok(Ids::new(Vec::new(alloc)))
+    }
+
+    fn forget(&mut self, _id: PromiseId) {}
 }

@@ -55,6 +55,17 @@ lives_call old new cap request result h = lives_act (events.Call cap request) (a
 pub lives_finish : {A : Type 0} (old new : Link) (question : ℕ) (result : Result A ConnectionFault) → Acts old (events.Finish question) (answered (λ _. values.Nothing) result) new → Lives old new
 lives_finish old new question result h = lives_act (events.Finish question) (answered (λ _. values.Nothing) result) tt h
 
+-- what came of making a promise, of resolving one and of forgetting one
+pub lives_promise : (old new : Link) (result : Result ℕ ConnectionFault) → Acts old events.Promise (answered (λ p. values.Promise p) result) new → Lives old new
+lives_promise old new result h = lives_act events.Promise (answered (λ p. values.Promise p) result) tt h
+
+pub lives_resolve : {A : Type 0} (old new : Link) (id : ℕ) (value : Cap) (result : Result A ConnectionFault) → Acts old (events.Resolve id value) (answered (λ _. values.Nothing) result) new
+    → Lives old new
+lives_resolve old new id value result h = lives_act (events.Resolve id value) (answered (λ _. values.Nothing) result) tt h
+
+pub lives_forget : {A : Type 0} (old new : Link) (id : ℕ) (result : Result A ConnectionFault) → Acts old (events.Forget id) (answered (λ _. values.Nothing) result) new → Lives old new
+lives_forget old new id result h = lives_act (events.Forget id) (answered (λ _. values.Nothing) result) tt h
+
 -- what came of asking what isn't in use
 pub lives_idle : (old new : Link) (result : Result Idle ConnectionFault) → Acts old events.Idle (answered (λ idle. values.Idle idle.imports idle.promises) result) new → Lives old new
 lives_idle old new result h = lives_act events.Idle (answered (λ idle. values.Idle idle.imports idle.promises) result) tt h

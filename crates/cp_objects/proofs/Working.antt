@@ -26,6 +26,11 @@ pub if_ok : {T E : Type 0} {P Q : T → Type 0} (r : Result T E) → IfOk r P �
 if_ok (Ok x) h f = f x h
 if_ok (Err e) h f = tt
 
+-- and from two of them
+pub if_both : {T E D : Type 0} {P Q : T → Type 0} (r : Result T E) → IfOk r P → OnOk r D → ((x : T) → P x → D → Q x) → IfOk r Q
+if_both (Ok x) h d f = f x h d
+if_both (Err e) h d f = tt
+
 -- what isn't there by a test is none
 pub not_some : {X : Type 0} (o : Option X) (b : Bool) → (IsTrue b ↔ IsSome o) → b ≡ false → o ≡ None
 not_some None b h e = refl
@@ -35,15 +40,15 @@ not_some (Some x) b h e = absurd (false≢true (sym e ∙ h.1 refl))
 pub lacks : {P : Type 0} (b : Bool) → (IsTrue b ↔ P) → b ≡ false → P → ⊥
 lacks b test unmet h = false≢true (sym unmet ∙ test.1 h)
 
-pub settles_stranger : (old : Work) (w : Option Settled) (settled : Settled) (a : Table Origin) → w ≡ Some settled → get old.awaited settled.ticket ≡ None
-    → a ≡ remove old.awaited settled.ticket → Settles old w false (record old { awaited = a })
-settles_stranger old w settled a e none r =
+pub settles_stranger : (means : Outcome → Outcome) (old : Work) (w : Option Settled) (settled : Settled) (a : Table Origin) → w ≡ Some settled → get old.awaited settled.ticket ≡ None
+    → a ≡ remove old.awaited settled.ticket → Settles means old w false (record old { awaited = a })
+settles_stranger means old w settled a e none r =
     rw (e, r, ← is_remove old.awaited old.awaited settled.ticket none (λ q h. refl)) (is_stranger settled none)
 
-pub settles_awaited : (old : Work) (w : Option Settled) (settled : Settled) (origin : Origin) (link : Link) (a : Table Origin) (mid : Work) {new : Work} → w ≡ Some settled
+pub settles_awaited : (means : Outcome → Outcome) (old : Work) (w : Option Settled) (settled : Settled) (origin : Origin) (link : Link) (a : Table Origin) (mid : Work) {new : Work} → w ≡ Some settled
     → get old.awaited settled.ticket ≡ Some origin → a ≡ remove old.awaited settled.ticket → GivesUp settled.gives_up (record old { awaited = a }) mid
-    → Answers mid.link origin settled.outcome link → new ≡ record mid { link = link } → Settles old w true new
-settles_awaited old w settled origin link a mid e got r gives answers same = rw e (is_awaited settled origin link {mid = mid} got (rw r at gives) answers same)
+    → Answers mid.link origin (means settled.outcome) link → new ≡ record mid { link = link } → Settles means old w true new
+settles_awaited means old w settled origin link a mid e got r gives answers same = rw e (is_awaited settled origin link {mid = mid} got (rw r at gives) answers same)
 
 -- one is given up, and then the others
 pub gives_next : (items : List ℕ) (i d : ℕ) {old mid : Work} (last : Work) → i < length items → LetsGo (get_or items i d) old mid → GivesUp (drop (i + 1) items) mid last

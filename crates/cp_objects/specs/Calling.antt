@@ -16,6 +16,7 @@ use Rattle.cp_objects.specs.declared.notice.Notice.TheVariants as notices
 use Rattle.cp_servants.specs.declared.servant.Ask.{Ask}
 use Rattle.cp_servants.specs.Outcomes.{refused_call}
 use Rattle.cp_objects.specs.Work.{Work, Holds, IsDone, IsEnd, Notes}
+use Rattle.cp_objects.specs.Pledging.{KeepsPledges}
 
 module _ {H : Type 0} (hall : HallKind H) where
   -- there is no object of this number
@@ -31,10 +32,11 @@ module _ {H : Type 0} (hall : HallKind H) where
     by_object : Holds (caps_of outcome) old new → hall.tells number mark outcome objects others → Hears number mark outcome old new objects others
     by_none : Lacks number objects → new ≡ old → others ≡ objects → Hears number mark outcome old new objects others
 
-  -- The object of this number says which call it makes next. If it isn't asked, it makes none.
-  pub data NextCall (number : ℕ) (work : Work) (ask : Option Ask) (objects others : H) : Type 0 where
-    asks : work.may_call ≡ true → work.link.fault ≡ None → hall.asks number ask objects others → NextCall number work ask objects others
-    is_unasked : IsUnasked number work objects → ask ≡ None → others ≡ objects → NextCall number work ask objects others
+  -- The object of this number says which call it makes next, and did something of promises perhaps. If it isn't asked, it makes none.
+  pub data NextCall (number : ℕ) (old : Work) (ask : Option Ask) (new : Work) (objects others : H) : Type 0 where
+    asks : {between : H} (link : Link) → old.may_call ≡ true → old.link.fault ≡ None → hall.asks number ask objects between
+        → KeepsPledges hall old.link link between others → new ≡ record old { link = link } → NextCall number old ask new objects others
+    is_unasked : IsUnasked number old objects → ask ≡ None → new ≡ old → others ≡ objects → NextCall number old ask new objects others
 
   -- A call of the object of this number is made: it is a question, whose outcome the object will be told; or the vat refuses it, and the object is told so; or
   -- the connection had ended.
@@ -46,11 +48,11 @@ module _ {H : Type 0} (hall : HallKind H) where
     had_ended : (fault : ConnectionFault) (link : Link) → IsEnd fault → Acts old.link (events.Call ask.cap ask.request) (Err fault) link
         → new ≡ record old { link = link } → others ≡ objects → MakesCall number ask old new objects others
 
-  -- The calls of the object of this number are made, one after another, until it makes no more.
+  -- The calls of the object of this number are made, as they mean to the vat, one after another, until it makes no more.
   pub data MakesCalls (number : ℕ) : Work → Work → H → H → Type 0 where
-    makes_none : {old : Work} {objects others : H} → NextCall number old None objects others → MakesCalls number old old objects others
-    makes_one : {old mid new : Work} {objects between last others : H} (ask : Ask) → NextCall number old (Some ask) objects between
-        → MakesCall number ask old mid between last → MakesCalls number mid new last others → MakesCalls number old new objects others
+    makes_none : {old new : Work} {objects others : H} → NextCall number old None new objects others → MakesCalls number old new objects others
+    makes_one : {old asked mid new : Work} {objects between last others : H} (ask : Ask) → NextCall number old (Some ask) asked objects between
+        → MakesCall number (hall.means_ask ask between) asked mid between last → MakesCalls number mid new last others → MakesCalls number old new objects others
 
   -- An outcome is handed back: to the object whose call it is of, whose question is finished, and which may make calls then; or it is noted for the user.
   pub data HandsBack (question : ℕ) (outcome : Outcome) (old new : Work) (objects others : H) : Type 0 where

@@ -1,6 +1,12 @@
--- Which objects are dropped.
-use Rattle.std.specs.Prelude.{◌≡◌, ◌≢◌, ℕ, true, false, List, [], ◌∷◌}
+-- Which promises are forgotten, and which objects are dropped.
+use Rattle.std.specs.Prelude.{◌≡◌, ◌≢◌, ℕ, true, false, List, [], ◌∷◌, Ok, Err}
 use Rattle.cp_vat_machine.specs.InUse.{is_object_used}
+use Rattle.cp_vat_machine.specs.declared.event.Event.TheVariants as events
+use Rattle.cp_vat_machine.specs.declared.event.Value.TheVariants as values
+use Rattle.cp_connection.specs.declared.fault.ConnectionFault.{ConnectionFault}
+use Rattle.cp_connection.specs.declared.fault.ConnectionFault.TheVariants as faults
+use Rattle.cp_connection.specs.Link.{Link}
+use Rattle.cp_connection.specs.Doing.{Acts}
 use Rattle.cp_makers.specs.Hall.{HallKind}
 use Rattle.cp_objects.specs.Work.{Work, GivesUp}
 
@@ -9,7 +15,7 @@ module _ {H : Type 0} (hall : HallKind H) where
   pub data LosesIdle (number : ℕ) (old new : Work) (objects others : H) : Type 0 where
     goes : (imports : List ℕ) → is_object_used old.link.vat number ≡ false → hall.loses number imports objects others → GivesUp imports old new
         → LosesIdle number old new objects others
-    stays : is_object_used old.link.vat number ≡ true → new ≡ old → others ≡ objects → LosesIdle number old new objects others
+    is_used : is_object_used old.link.vat number ≡ true → new ≡ old → others ≡ objects → LosesIdle number old new objects others
 
   -- these, one after another
   abbrev pub LosesEach : List ℕ → Work → Work → H → H → Type 0
@@ -17,7 +23,20 @@ module _ {H : Type 0} (hall : HallKind H) where
   LosesEach (number ∷ more) old new objects others =
       (mid : Work) × (between : H) × LosesIdle number old mid objects between × LosesEach more mid new between others
 
-  -- The objects that go unless the connection refers to them are looked at, in order, where all that happened was worked off.
+  -- A promise of the vat goes unless the vat uses it, or the connection had ended.
+  pub data Forgets (id : ℕ) (old new : Link) (objects others : H) : Type 0 where
+    is_forgotten : Acts old (events.Forget id) (Ok values.Nothing) new → hall.forgets id objects others → Forgets id old new objects others
+    stays : (fault : ConnectionFault) → fault ≢ faults.OutOfMemory → Acts old (events.Forget id) (Err fault) new → others ≡ objects
+        → Forgets id old new objects others
+
+  -- these, one after another
+  abbrev pub ForgetsEach : List ℕ → Link → Link → H → H → Type 0
+  ForgetsEach [] old new objects others = (new ≡ old) × (others ≡ objects)
+  ForgetsEach (id ∷ more) old new objects others = (mid : Link) × (between : H) × Forgets id old mid objects between × ForgetsEach more mid new between others
+
+  -- Where all that happened was worked off, the promises are looked at that go unless the vat uses them, in order, and then the objects that go unless the
+  -- connection refers to them.
   pub data DropsIdle (old new : Work) (objects others : H) : Type 0 where
     looks_at_none : old.link.happened ≢ [] → new ≡ old → others ≡ objects → DropsIdle old new objects others
-    looks_at_each : old.link.happened ≡ [] → LosesEach (hall.idle objects) old new objects others → DropsIdle old new objects others
+    looks_at_each : (link : Link) (between : H) → old.link.happened ≡ [] → ForgetsEach (hall.loose objects) old.link link objects between
+        → LosesEach (hall.idle between) (record old { link = link }) new between others → DropsIdle old new objects others

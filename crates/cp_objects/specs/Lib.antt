@@ -1,5 +1,6 @@
 pub mod Holders
 pub mod Work
+pub mod Pledging
 pub mod Calling
 pub mod Rounds
 pub mod Idle
@@ -7,3 +8,4 @@ pub mod Receiving
 pub mod WorkOf
 pub mod Noticed
 pub mod Dropping
+pub mod Laws

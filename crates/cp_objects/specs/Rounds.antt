@@ -3,6 +3,7 @@ use Rattle.std.specs.Prelude.{◌≡◌, ℕ, ◌+◌, Bool, true, false, ◌||�
 use Rattle.std.specs.FinMap.{get, remove}
 use Rattle.cp_refs.specs.declared.call.Origin.{Origin}
 use Rattle.cp_refs.specs.declared.call.Request.{Request}
+use Rattle.cp_refs.specs.declared.outcome.Outcome.{Outcome}
 use Rattle.cp_connection.specs.declared.happening.Happening.{Happening}
 use Rattle.cp_connection.specs.declared.happening.Happening.TheVariants as happenings
 use Rattle.cp_connection.specs.Link.{Link}
@@ -16,14 +17,16 @@ use Rattle.cp_servants.specs.declared.servant.Settled.{Settled}
 use Rattle.cp_servants.specs.Outcomes.{no_such_object}
 use Rattle.cp_objects.specs.Work.{Work, Answers, GivesUp, Holds, Notes, Replies, Releases}
 use Rattle.cp_objects.specs.Calling.{HandsBack, Lacks, MakesCalls}
+use Rattle.cp_objects.specs.Pledging.{KeepsPledges}
 
--- What a poll gave settles a call that is awaited, once the object gave imports up. A ticket that isn't awaited is dropped.
-pub data Settles (old : Work) : Option Settled → Bool → Work → Type 0 where
-  gives_none : Settles old None false old
-  is_stranger : (settled : Settled) → get old.awaited settled.ticket ≡ None → Settles old (Some settled) false old
+-- What a poll gave settles a call that is awaited, once the object gave imports up, with what its outcome means to the vat. A ticket that isn't awaited is
+-- dropped.
+pub data Settles (means : Outcome → Outcome) (old : Work) : Option Settled → Bool → Work → Type 0 where
+  gives_none : Settles means old None false old
+  is_stranger : (settled : Settled) → get old.awaited settled.ticket ≡ None → Settles means old (Some settled) false old
   is_awaited : (settled : Settled) (origin : Origin) (link : Link) {mid new : Work} → get old.awaited settled.ticket ≡ Some origin
-      → GivesUp settled.gives_up (record old { awaited = remove old.awaited settled.ticket }) mid → Answers mid.link origin settled.outcome link
-      → new ≡ record mid { link = link } → Settles old (Some settled) true new
+      → GivesUp settled.gives_up (record old { awaited = remove old.awaited settled.ticket }) mid → Answers mid.link origin (means settled.outcome) link
+      → new ≡ record mid { link = link } → Settles means old (Some settled) true new
 
 -- Of the objects of one hall.
 module _ {H : Type 0} (hall : HallKind H) where
@@ -32,12 +35,13 @@ module _ {H : Type 0} (hall : HallKind H) where
     by_object : Holds call.caps old new → hall.calls number ticket call reply objects others → Gives number ticket call reply old new objects others
     by_none : Lacks hall number objects → reply ≡ replies.Now no_such_object [] → new ≡ old → others ≡ objects → Gives number ticket call reply old new objects others
 
-  -- What a happening asks is done: a call goes to its object, whose reply counts, and which may make calls then; an outcome is handed back; and that the vat
-  -- closed is noted.
+  -- What a happening asks is done: a call goes to its object, which did something of promises perhaps, whose reply counts, and which may make calls then; an
+  -- outcome is handed back; and that the vat closed is noted.
   abbrev pub Handles : Happening → Work → Work → H → H → Type 0
   Handles (happenings.Delivered k origin ticket call) old new objects others =
-      (reply : Reply) × (called mid : Work) × (between : H) × Gives k ticket call reply old called objects between × Replies called origin ticket reply mid
-      × MakesCalls hall k mid new between others
+      (reply : Reply) × (called mid : Work) × (link : Link) × (between kept : H) × Gives k ticket call reply old called objects between
+      × KeepsPledges hall called.link link between kept × Replies (λ outcome. hall.means outcome kept) (record called { link = link }) origin ticket reply mid
+      × MakesCalls hall k mid new kept others
   Handles (happenings.Settled question outcome) old new objects others = HandsBack hall question outcome old new objects others
   Handles (happenings.Closed reason) old new objects others = Notes (notices.Closed reason) old new × (others ≡ objects)
 
@@ -47,14 +51,15 @@ module _ {H : Type 0} (hall : HallKind H) where
     handles : {old mid new : Work} {objects between others : H} (first : Happening) (link : Link) → HandsOut old.link (Some first) link
         → Handles first (record old { link = link }) mid objects between → WorksOff mid new between others → WorksOff old new objects others
 
-  -- The objects from this number on are polled that are to be, in order. Each may make calls then, and what that leads to is worked off before the next. It is
-  -- noted whether one gave an outcome that was awaited. Once the connection ended, no more is polled.
+  -- The objects from this number on are polled that are to be, in order. Each did something of promises perhaps, and may make calls then, and what that leads to
+  -- is worked off before the next. It is noted whether one gave an outcome that was awaited. Once the connection ended, no more is polled.
   pub data PollsFrom : ℕ → Work → Bool → Work → H → H → Type 0 where
     none_left : {from : ℕ} {old : Work} {objects : H} → hall.is_next from None objects → PollsFrom from old false old objects objects
     has_ended : {from : ℕ} {old : Work} {objects : H} → IsSome old.link.fault → PollsFrom from old false old objects objects
-    polls : {from : ℕ} {old mid called done new : Work} {objects between asked last others : H} {gave : Bool} (number : ℕ) (settled : Option Settled) (first more : Bool)
-        → old.link.fault ≡ None → hall.is_next from (Some number) objects → hall.polls number settled objects between → Settles old settled first mid
-        → MakesCalls hall number mid called between asked → WorksOff called done asked last → PollsFrom (number + 1) done more new last others → gave ≡ (first || more)
+    polls : {from : ℕ} {old mid called done new : Work} {link : Link} {objects between kept asked last others : H} {gave : Bool} (number : ℕ)
+        (settled : Option Settled) (first more : Bool) → old.link.fault ≡ None → hall.is_next from (Some number) objects → hall.polls number settled objects between
+        → KeepsPledges hall old.link link between kept → Settles (λ outcome. hall.means outcome kept) (record old { link = link }) settled first mid
+        → MakesCalls hall number mid called kept asked → WorksOff called done asked last → PollsFrom (number + 1) done more new last others → gave ≡ (first || more)
         → PollsFrom from old gave new objects others
 
   -- A round: each object is polled once that is to be, in order; then the imports that were given up are tried, and what that leads to is worked off.

@@ -91,11 +91,12 @@ pub data Answers (old : Link) (origin : Origin) (outcome : Outcome) (new : Link)
   is_replaced : (refusal : VatFault) (mid : Link) → Acts old (events.Answer origin outcome) (Err (faults.Refused refusal)) mid
       → IsDone mid (events.Answer origin bad_outcome) new → Answers old origin outcome new
 
--- What follows an object's answer to a call: at once the object gives imports up, and the call is answered; later it is awaited.
-abbrev pub Replies : Work → Origin → ℕ → Reply → Work → Type 0
-Replies old origin ticket (replies.Now outcome gives_up) new =
-    (mid : Work) × (link : Link) × GivesUp gives_up old mid × Answers mid.link origin outcome link × (new ≡ record mid { link = link })
-Replies old origin ticket replies.Later new = new ≡ record old { awaited = insert old.awaited ticket origin }
+-- What follows an object's answer to a call: at once the object gives imports up, and the call is answered with what its outcome means to the vat; later it
+-- is awaited.
+abbrev pub Replies : (Outcome → Outcome) → Work → Origin → ℕ → Reply → Work → Type 0
+Replies means old origin ticket (replies.Now outcome gives_up) new =
+    (mid : Work) × (link : Link) × GivesUp gives_up old mid × Answers mid.link origin (means outcome) link × (new ≡ record mid { link = link })
+Replies means old origin ticket replies.Later new = new ≡ record old { awaited = insert old.awaited ticket origin }
 
 -- An import whose release was refused stays if it is still in use, and else is dropped.
 pub data Stays (i : ℕ) (refusal : VatFault) (old new : Work) : Type 0 where

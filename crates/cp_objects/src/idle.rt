@@ -1,27 +1,33 @@
-//! Objects that nothing refers to.
+//! Objects and promises that nothing refers to.
 
 ghost use Rattle.std.specs.Prelude.{OnOk};
-ghost use Rattle.cp_objects.specs.Dropping.{DropsIdle, LosesEach, LosesIdle};
+ghost use Rattle.cp_objects.specs.Dropping.{DropsIdle, Forgets, ForgetsEach, LosesEach, LosesIdle};
+ghost use Rattle.cp_objects.specs.Work.{Lives};
 ghost use Rattle.cp_objects.specs.WorkOf.{work_of};
 
 use crate::objects::Objects;
-use cp_connection::Connection;
+use cp_connection::{Connection, ConnectionFault};
 use cp_makers::Hall;
+use cp_refs::PromiseId;
 use std::alloc::AllocError;
 
 impl Objects {
-    /// Drops each object that may go and that nothing of the connection refers to; the imports that it held are given up. Nothing is
-    /// dropped while something that happened wasn't worked off, as that may be a call of an object.
+    /// Forgets each promise of objects that is resolved and that nothing refers to. Then drops each object that may go and that nothing
+    /// of the connection refers to; the imports that it held are given up. Nothing is done while something that happened wasn't worked
+    /// off, as that may be a call of an object, or name a promise.
     pub fn drop_idle<H: Hall>(
         &mut self,
-        connection: &Connection,
+        connection: &mut Connection,
         objects: &mut H,
     ) -> Result<(), AllocError>
-        ensures { OnOk result (DropsIdle H.hall (work_of self.old connection.now) (work_of self.new connection.now) objects.old objects.new) }
+        ensures done { OnOk result (DropsIdle H.hall (work_of self.old connection.old) (work_of self.new connection.new) objects.old objects.new) }
+        ensures lives { Lives connection.old connection.new }
     {
         if connection.held().happenings > 0 {
             return Ok(());
         }
+        let loose = objects.loose_promises(self.alloc)?;
+        forget_each(connection, objects, loose.ids())?;
         let idle = objects.idle(self.alloc)?;
         self.drop_each(connection, objects, idle.ids())
     }
@@ -55,5 +61,42 @@ impl Objects {
         }
         let imports = objects.remove(self.alloc, number);
         self.give_up(&imports)
+    }
+}
+
+/// Forgets each of these promises that the vat doesn't use.
+fn forget_each<H: Hall>(
+    connection: &mut Connection,
+    objects: &mut H,
+    ids: &[PromiseId],
+) -> Result<(), AllocError>
+    ensures done { OnOk result (ForgetsEach H.hall ids.now connection.old connection.new objects.old objects.new) }
+    ensures lives { Lives connection.old connection.new }
+{
+    for id in ids {
+        forget(connection, objects, *id)?;
+    }
+    Ok(())
+}
+
+/// Forgets a promise, if the vat doesn't use it.
+fn forget<H: Hall>(
+    connection: &mut Connection,
+    objects: &mut H,
+    id: PromiseId,
+) -> Result<(), AllocError>
+    ensures done { OnOk result (Forgets H.hall id connection.old connection.new objects.old objects.new) }
+    ensures lives { Lives connection.old connection.new }
+{
+    let fault = match connection.forget(id) {
+        Ok(()) => {
+            objects.forget(id);
+            return Ok(());
+        }
+        Err(fault) => fault,
+    };
+    match fault {
+        ConnectionFault::OutOfMemory => Err(AllocError),
+        _ => Ok(()),
     }
 }

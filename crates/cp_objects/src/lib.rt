@@ -4,8 +4,11 @@
 mod asker;
 mod holders;
 mod idle;
+mod laws;
 mod notice;
 mod objects;
+mod pledges;
 
+pub use laws::waits_in_order;
 pub use notice::Notice;
 pub use objects::Objects;

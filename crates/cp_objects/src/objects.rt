@@ -19,6 +19,7 @@ ghost use Rattle.cp_objects.specs.WorkOf.{work_of};
 use crate::asker::Asker;
 use crate::holders::ImportHolders;
 use crate::notice::{Notice, noticed_memory};
+use crate::pledges::with_pledges_kept;
 use cp_connection::{Connection, ConnectionFault, Happening};
 use cp_makers::Hall;
 use cp_refs::{Caps, Origin, Outcome, Request};
@@ -58,6 +59,11 @@ use std::mem;
 /// Its object answers at once, or says `Later` and settles it at a poll. A call of an object that doesn't exist fails
 /// with `no such object`, and where the vat refuses an outcome the call fails with `bad outcome`. Once the connection
 /// ended no call is answered any more, and no object is polled.
+///
+/// # Objects that make promises
+///
+/// What an object did of promises (`Here::promise`, `Here::resolve`) is done as soon as it was called, polled or asked, before what it
+/// gave then is used. So the vat has a promise before it is named, and calls on it wait there until it is resolved.
 ///
 /// # Objects that call
 ///
@@ -270,8 +276,9 @@ impl Objects {
                 ticket,
                 call,
             } => {
-                let reply = self.reply_of(objects, object, ticket, call)?;
-                self.reply(connection, origin, ticket, reply)?;
+                let said = self.reply_of(objects, object, ticket, call)?;
+                let reply = with_pledges_kept(self.alloc, connection, objects, said)?;
+                self.reply(connection, objects, origin, ticket, reply)?;
                 self.make_calls(connection, objects, object)
             }
             Happening::Settled { question, outcome } => {
@@ -295,8 +302,9 @@ impl Objects {
             return Ok(());
         };
         let (object, origin, ticket) = (lent.object, lent.origin, lent.ticket);
-        let reply = self.reply_to_lent(objects, lent)?;
-        self.reply(connection, origin, ticket, reply)?;
+        let said = self.reply_to_lent(objects, lent)?;
+        let reply = with_pledges_kept(self.alloc, connection, objects, said)?;
+        self.reply(connection, objects, origin, ticket, reply)?;
         self.make_calls(connection, objects, object)
     }
 
@@ -375,7 +383,8 @@ impl Objects {
             let Some(ask) = self.next_call(connection, objects, number)? else {
                 return Ok(());
             };
-            self.make_call(connection, objects, number, ask)?;
+            let meant = objects.meant_ask(ask);
+            self.make_call(connection, objects, number, meant)?;
         }
         Err(AllocError)
     }
@@ -383,17 +392,18 @@ impl Objects {
     /// The next call of an object: none where objects may not call, and once the connection ended.
     fn next_call<H: Hall>(
         &self,
-        connection: &Connection,
+        connection: &mut Connection,
         objects: &mut H,
         number: u32,
     ) -> Result<Option<Ask>, AllocError>
-        ensures { IfOk result (λ ask. NextCall H.hall number (work_of self.now connection.now) ask objects.old objects.new) }
+        ensures done { IfOk result (λ ask. NextCall H.hall number (work_of self.now connection.old) ask (work_of self.now connection.new) objects.old objects.new) }
+        ensures lives { Lives connection.old connection.new }
     {
         if !self.may_call || !objects.has(number) || has_ended(connection) {
             return Ok(None);
         }
         let ask = objects.ask_at(number)?;
-        Ok(ask)
+        with_pledges_kept(self.alloc, connection, objects, ask)
     }
 
     /// Makes a call of an object. Where the vat refuses it the object is told so.
@@ -425,20 +435,21 @@ impl Objects {
     }
 
     /// Answers a call with what its object replied, or awaits that.
-    fn reply(
+    fn reply<H: Hall>(
         &mut self,
         connection: &mut Connection,
+        objects: &H,
         origin: Origin,
         ticket: u64,
         reply: Reply,
     ) -> Result<(), AllocError>
-        ensures done { OnOk result (Replies (work_of self.old connection.old) origin ticket reply (work_of self.new connection.new)) }
+        ensures done { OnOk result (Replies (λ outcome. H.hall.means outcome objects.now) (work_of self.old connection.old) origin ticket reply (work_of self.new connection.new)) }
         ensures lives { Lives connection.old connection.new }
     {
         match reply {
             Reply::Now { outcome, gives_up } => {
                 self.give_up(&gives_up)?;
-                answer(self.alloc, connection, origin, outcome)
+                answer(self.alloc, connection, origin, objects.meant(outcome))
             }
             Reply::Later => self.awaited.put(ticket, origin),
         }
@@ -546,8 +557,9 @@ impl Objects {
             if !objects.has(number) {
                 return Err(AllocError);
             }
-            let settled = objects.poll_at(number)?;
-            gave |= self.settle(connection, settled)?;
+            let said = objects.poll_at(number)?;
+            let settled = with_pledges_kept(self.alloc, connection, objects, said)?;
+            gave |= self.settle(connection, objects, settled)?;
             self.make_calls(connection, objects, number)?;
             self.work_off(connection, objects)?;
             // No object has the last number of all.
@@ -561,12 +573,13 @@ impl Objects {
 
     /// Answers a call with what an object settled it with, if it did. Says whether it was awaited: if not, what the
     /// object gave is dropped.
-    fn settle(
+    fn settle<H: Hall>(
         &mut self,
         connection: &mut Connection,
+        objects: &H,
         settled: Option<Settled>,
     ) -> Result<bool, AllocError>
-        ensures done { IfOk result (λ gave. Settles (work_of self.old connection.old) settled gave (work_of self.new connection.new)) }
+        ensures done { IfOk result (λ gave. Settles (λ outcome. H.hall.means outcome objects.now) (work_of self.old connection.old) settled gave (work_of self.new connection.new)) }
         ensures lives { Lives connection.old connection.new }
     {
         let Some(settled) = settled else {
@@ -576,7 +589,8 @@ impl Objects {
             return Ok(false);
         };
         self.give_up(&settled.gives_up)?;
-        answer(self.alloc, connection, origin, settled.outcome)?;
+        let outcome = objects.meant(settled.outcome);
+        answer(self.alloc, connection, origin, outcome)?;
         Ok(true)
     }
 

@@ -59,6 +59,7 @@ use Rattle.cp_objects.specs.declared.notice.Notice.{Notice}
 use Rattle.cp_objects.specs.declared.notice.Notice.TheVariants as notices
 use Rattle.cp_objects.specs.Work as objects
 use Rattle.cp_objects.specs.Calling as calling
+use Rattle.cp_objects.specs.Pledging as pledging
 use Rattle.cp_objects.specs.Rounds as rounds
 use Rattle.cp_objects.proofs.Holding.{holds_unnoted, gives_up_all, tries_all}
 use Rattle.cp_serve.specs.Work.{Work, Did, IsDone, Answers, is_taken, was_closed, is_replaced, Replies, Tries, is_released, is_used, is_dropped, TriesEach, Releases}
@@ -429,7 +430,7 @@ module _ (base : Link) (w : Work) (o : objects.Work) (h : Matches base w o) wher
 
 -- ---- what objects reply and settle
 
-follows_replies : {base : Link} {w : Work} {o new : objects.Work} → Matches base w o → (origin : Origin) (ticket : ℕ) (reply : Reply) → objects.Replies o origin ticket reply new
+follows_replies : {base : Link} {w : Work} {o new : objects.Work} → Matches base w o → (origin : Origin) (ticket : ℕ) (reply : Reply) → objects.Replies (λ outcome. outcome) o origin ticket reply new
     → (next : Work) × Replies w origin ticket reply next × Matches base next new
 follows_replies {base = base} {w = w} {o = o} h origin ticket (replies.Now outcome gives_up) r =
     let owed : objects.Work = record o { given_up = o.given_up ++ gives_up } in
@@ -446,7 +447,7 @@ follows_replies {base = base} {w = w} {o = o} h origin ticket replies.Later r =
           (owes base w o h a (insert o.awaited ticket origin) w.given_up o.given_up (ap (λ (t : Table Origin). insert t ticket origin) h.awaited) h.given_up),
     )
 
-follows_settles : {base : Link} {w : Work} {o new : objects.Work} → Matches base w o → (settled : Option Settled) (gave : Bool) → rounds.Settles o settled gave new
+follows_settles : {base : Link} {w : Work} {o new : objects.Work} → Matches base w o → (settled : Option Settled) (gave : Bool) → rounds.Settles (λ outcome. outcome) o settled gave new
     → (next : Work) × Settles w settled gave next × Matches base next new
 follows_settles {w = w} h settled gave rounds.gives_none = (w, gives_none, h)
 follows_settles {w = w} h settled gave (rounds.is_stranger s none) = (w, is_stranger s (ap (λ (t : Table Origin). get t s.ticket) (sym h.awaited) ∙ none), h)
@@ -465,13 +466,20 @@ follows_settles {base = base} {w = w} {o = o} h settled gave (rounds.is_awaited 
 -- ---- objects that may not call make no calls
 
 module _ {H : Type 0} {hall : HallKind H} where
-  next_none : {number : ℕ} {o : objects.Work} {ask : Option Ask} {seen others : H} → o.may_call ≡ false → calling.NextCall hall number o ask seen others → (ask ≡ None) × (others ≡ seen)
-  next_none off (calling.asks may still asked) = absurd (true≢false (sym may ∙ off))
-  next_none off (calling.is_unasked why none same) = (none, same)
+  next_none : {number : ℕ} {o new : objects.Work} {ask : Option Ask} {seen others : H} → o.may_call ≡ false → calling.NextCall hall number o ask new seen others
+      → (ask ≡ None) × (new ≡ o) × (others ≡ seen)
+  next_none off (calling.asks link may still asked kept is) = absurd (true≢false (sym may ∙ off))
+  next_none off (calling.is_unasked why none still same) = (none, still, same)
 
   no_calls : {number : ℕ} {o new : objects.Work} {seen others : H} → o.may_call ≡ false → calling.MakesCalls hall number o new seen others → (new ≡ o) × (others ≡ seen)
-  no_calls off (calling.makes_none next) = (refl, (next_none off next).1)
+  no_calls off (calling.makes_none next) = let none = next_none off next in (none.1, none.2)
   no_calls off (calling.makes_one ask next made more) = none_out (sym (next_none off next).0)
+
+-- ---- objects of a list make no promises
+
+no_pledges : {A : Type 0} {kind : Kind A} {old new : Link} {seen others : Vec A} → pledging.KeepsPledges (listed kind) old new seen others → (new ≡ old) × (others ≡ seen)
+no_pledges (pledging.none_left none) = (refl, none.1)
+no_pledges (pledging.keeps pledge handed kept rest) = none_out (sym handed.0)
 
 -- ---- effects that are worked off
 
@@ -512,13 +520,16 @@ module _ {A : Type 0} {kind : Kind A} where
   sends_off seen (effects.Closed reason ∷ more) w e h = (w, (λ next last k. k), h, subst HasNoSend (sym e) tt)
 
   -- a call that is delivered
-  delivers : {base : Link} {w : Work} {o given mid new : objects.Work} {seen between others : Vec A} (k : ℕ) (origin : Origin) (ticket : ℕ) (call : Request) (reply : Reply)
-      → Matches base w o → rounds.Gives (listed kind) k ticket call reply o given seen between → objects.Replies given origin ticket reply mid → calling.MakesCalls (listed kind) k mid new between others
+  delivers : {base : Link} {w : Work} {o given mid new : objects.Work} {link : Link} {seen between kept others : Vec A} (k : ℕ) (origin : Origin) (ticket : ℕ) (call : Request)
+      (reply : Reply) → Matches base w o → rounds.Gives (listed kind) k ticket call reply o given seen between → pledging.KeepsPledges (listed kind) given.link link between kept
+      → objects.Replies (λ outcome. outcome) (record given { link = link }) origin ticket reply mid → calling.MakesCalls (listed kind) k mid new kept others
       → (next : Work) × Delivers kind w seen.items k origin ticket call next others.items × Matches base next new
-  delivers {base = base} {w = w} {o = o} {given = given} {mid = mid} {seen = seen} {between = between} {others = others} k origin ticket call reply h gives replied called =
-      let more = follows_replies h origin ticket reply (subst (λ (x : objects.Work). objects.Replies x origin ticket reply mid) (unnoted gives) replied) in
+  delivers {base = base} {w = w} {o = o} {given = given} {mid = mid} {seen = seen} {between = between} {others = others} k origin ticket call reply h gives pledged replied called =
+      let quiet = no_pledges pledged in
+      let is : record given { link = _ } ≡ o = ap (λ (l : Link). record given { link = l }) quiet.0 ∙ unnoted gives in
+      let more = follows_replies h origin ticket reply (subst (λ (x : objects.Work). objects.Replies (λ outcome. outcome) x origin ticket reply mid) is replied) in
       let none = no_calls more.2.none_call called in
-      (more.0, by more.0 more.1 none.1 gives, subst (λ (x : objects.Work). Matches base more.0 x) (sym none.0) more.2)
+      (more.0, by more.0 more.1 (none.1 ∙ quiet.1) gives, subst (λ (x : objects.Work). Matches base more.0 x) (sym none.0) more.2)
     where
       unnoted : rounds.Gives (listed kind) k ticket call reply o given seen between → given ≡ o
       unnoted (rounds.by_object holds changes) = holds_unnoted call.caps o h.none_call holds
@@ -555,7 +566,7 @@ module _ {base : Link} {o : objects.Work} (first : Happening) (link : Link) (out
         let heads : first ≡ happenings.Delivered k origin ticket call = cc (all) in
         let tails : link.happened ≡ happening_by rest = cc (all) in
         let parts = subst (λ (x : Happening). rounds.Handles (listed kind) x (record o { link = link }) mid seen between) heads handled in
-        let done = delivers k origin ticket call parts.0 (one_taken (effects.Deliver k origin ticket call) rest e refl refl tails) parts.4 parts.5 parts.6 in
+        let done = delivers k origin ticket call parts.0 (one_taken (effects.Deliver k origin ticket call) rest e refl refl tails) parts.6 parts.7 parts.8 parts.9 in
         (effects.Deliver k origin ticket call, rest, done.0, e, done.1, done.2)
 
     one_settled : (q : ℕ) (outcome : Outcome) (rest : List Effect) → v.effects ≡ effects.Settled q outcome ∷ rest → Acted kind base v mid seen between
@@ -634,12 +645,13 @@ module _ {A : Type 0} {kind : Kind A} where
       → (next : Work) × PollsFrom kind place w seen.items gave next others.items × Matches base next new × (next.effects ≡ [])
   follows_polls (rounds.none_left past) w h rest = (w, service.none_left past, h, rest)
   follows_polls {base = base} {o = o} (rounds.has_ended some) w h rest = (w, service.is_closed (closed_work base w o h some rest), h, rest)
-  follows_polls {base = base} {o = o} {seen = seen} {others = others} {gave = gave} (rounds.polls {last = last} number settled first more still next polled settles calls off tail e) w h rest =
-      let one = follows_settles h settled first settles in
+  follows_polls {base = base} {o = o} {seen = seen} {others = others} {gave = gave} (rounds.polls {mid = mid} {last = last} number settled first more still next polled pledged settles calls off tail e) w h rest =
+      let quiet = no_pledges pledged in
+      let one = follows_settles h settled first (subst (λ (l : Link). rounds.Settles (λ outcome. outcome) (record o { link = l }) settled first mid) quiet.0 settles) in
       let none = no_calls one.2.none_call calls in
       let two = follows_works_off off one.0 (subst (λ (x : objects.Work). Matches base one.0 x) (sym none.0) one.2) in
       let three = follows_polls tail two.0 two.2 two.3 in
-      let polls = service.polls {new = three.0} settled first more (open_work base w o h still).0 polled one.1 (subst (λ (x : Vec A). WorksOff kind one.0 x.items two.0 last.items) none.1 two.1) three.1 e in
+      let polls = service.polls {new = three.0} settled first more (open_work base w o h still).0 polled one.1 (subst (λ (x : Vec A). WorksOff kind one.0 x.items two.0 last.items) (none.1 ∙ quiet.1) two.1) three.1 e in
       (three.0, subst (λ (n : ℕ). PollsFrom kind n w seen.items gave three.0 others.items) next.0 polls, three.2, three.3)
 
 follows_each : {base : Link} (imports : List ℕ) {w : Work} {o new : objects.Work} → Matches base w o → objects.TriesEach o imports new → (next : Work) × TriesEach w imports next × Matches base next new

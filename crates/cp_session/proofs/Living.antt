@@ -11,7 +11,6 @@ use Rattle.cp_objects.specs.declared.notice.Notice.{Notice}
 use Rattle.cp_objects.specs.Receiving.{IsCutShort, is_unreceived, ran_out}
 use Rattle.cp_objects.specs.Rounds.{HandsOver}
 use Rattle.cp_objects.specs.Work.{Work, Lives}
-use Rattle.cp_objects.proofs.Dropping.{drops_link}
 use Rattle.cp_objects.proofs.Living.{lives_none}
 use Rattle.cp_makers.specs.Hall.{HallKind}
 use Rattle.cp_session.specs.declared.progress.Phase.{Phase}
@@ -27,7 +26,6 @@ use Rattle.cp_session.specs.Serves.{Ends, Follows, IsUnended, Takes}
 use Rattle.cp_session.specs.Serves as serves
 use Rattle.cp_session.specs.Service.{Service}
 use Rattle.cp_session.specs.State.{State, link_of}
-use Rattle.cp_session.specs.Sweep.{SweepsInTime, too_early, in_time}
 
 -- a connection took these bytes, and was told that those were written
 abbrev IsLife : Link → List ℕ → List ℕ → Link → Type 0
@@ -129,18 +127,17 @@ polls_life {H = H} {old = old} (doing.rests why same) = life_same (life_none (li
 polls_life (doing.polls mid more done settles) = life_same (life_of done.works.lives) (settles_link settles)
 
 -- what time does to the objects is nothing to the connection but calls of its own
-sweeps_link : {H : Type 0} {hall : HallKind H} {now : ℕ} {old new : Service} {objects others : H} → SweepsInTime hall now old new objects others → new.work.link ≡ old.work.link
-sweeps_link (too_early why same left) = ap (λ (s : Service). s.work.link) same
-sweeps_link (in_time due sweeps) = ap (λ (s : Service). s.work.link) sweeps.is ∙ drops_link sweeps.drops
+lives_same : {H : Type 0} {old new : State H} → new ≡ old → Lives (link_of old) (link_of new)
+lives_same {H = H} {old = old} same = subst (λ (s : State H). Lives (link_of old) (link_of s)) (sym same) (lives_none (link_of old))
 
-passes_link : {H : Type 0} {hall : HallKind H} {now : ℕ} {old new : State H} → doing.PassesTime hall now old new → link_of new ≡ link_of old
-passes_link {H = H} (doing.too_early why same) = ap (λ (s : State H). link_of s) same
-passes_link (doing.passes due acts) = sweeps_link acts.sweeps
-passes_link (doing.runs_out_of_memory due link limits progress) = link
+passes_lives : {H : Type 0} {hall : HallKind H} {now : ℕ} {old new : State H} → doing.PassesTime hall now old new → Lives (link_of old) (link_of new)
+passes_lives (doing.too_early why same) = lives_same same
+passes_lives (doing.passes due acts) = acts.lives
+passes_lives (doing.runs_out_of_memory due lives limits progress) = lives
 
-goes_by_link : {H : Type 0} {hall : HallKind H} {now : ℕ} {old new : State H} → doing.GoesBy hall now old new → link_of new ≡ link_of old
-goes_by_link (inl passed) = passes_link passed.1
-goes_by_link {H = H} (inr stopped) = ap (λ (s : State H). link_of s) stopped.1
+goes_by_lives : {H : Type 0} {hall : HallKind H} {now : ℕ} {old new : State H} → doing.GoesBy hall now old new → Lives (link_of old) (link_of new)
+goes_by_lives (inl passed) = passes_lives passed.1
+goes_by_lives (inr stopped) = lives_same stopped.1
 
 -- where the peer is refused the connection is aborted, if its bytes are taken
 refused_life : {H : Type 0} {hall : HallKind H} {old new : State H} {now : ℕ} → doing.IsRefused hall old now new → IsLife (link_of old) [] [] (link_of new)
@@ -161,7 +158,7 @@ does_life {H = H} {old = old} (runs.writes count now wrote is) =
     (life_same (life_one (life.writes count wrote.wrote refl)) (settles_link wrote.settles ∙ ap (λ (s : State H). link_of s) wrote.moves))
 does_life {old = old} (runs.ticks now ticked is) =
     life_of_deed is
-    (life_same (life_refused (life_none (link_of old)) ticked.told ticked.refuses) (settles_link ticked.settles ∙ goes_by_link ticked.goes_by))
+    (life_same (life_then (life_refused (life_none (link_of old)) ticked.told ticked.refuses) (goes_by_lives ticked.goes_by)) (settles_link ticked.settles))
 does_life (runs.refuses now refused is) = life_of_deed is (refused_life refused)
 does_life {H = H} {old = old} (runs.tells event told is) =
     life_of_deed is

@@ -229,7 +229,8 @@ module _ {H : Type 0} (hall : HallKind H) where
   abbrev pub alarm_of : State H → Option ℕ
   alarm_of state = earlier (hall.deadline state.objects) state.service.sweep.at
 
-  -- Those objects are woken whose time has come, and those are dropped that nothing refers to, where the time for that has come.
+  -- Those objects are woken whose time has come, and those are dropped that nothing refers to, where the time for that has come. Of the connection nothing is
+  -- done but calls of the application.
   pub record ActsInTime (now : ℕ) (old new : State H) : Type 0 where
     pub at : H
     pub woken : H
@@ -237,12 +238,13 @@ module _ {H : Type 0} (hall : HallKind H) where
     pub wakes : hall.wakes_due at woken
     pub sweeps : SweepsInTime hall now old.service new.service woken new.objects
     pub same : new ≡ record old { service = new.service; objects = new.objects }
+    pub lives : Lives (link_of old) (link_of new)
 
   -- Time passes for the objects, and nothing is done before that time. If memory runs out for it nothing more is taken.
   pub data PassesTime (now : ℕ) (old new : State H) : Type 0 where
     too_early : (HasCome now (alarm_of old) → ⊥) → new ≡ old → PassesTime now old new
     passes : HasCome now (alarm_of old) → ActsInTime now old new → PassesTime now old new
-    runs_out_of_memory : HasCome now (alarm_of old) → link_of new ≡ link_of old → new.limits ≡ old.limits → new.progress ≡ failed old.progress faults.OutOfMemory
+    runs_out_of_memory : HasCome now (alarm_of old) → Lives (link_of old) (link_of new) → new.limits ≡ old.limits → new.progress ≡ failed old.progress faults.OutOfMemory
         → PassesTime now old new
 
   -- what time does to the objects, unless nothing more is given

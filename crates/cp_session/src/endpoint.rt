@@ -176,10 +176,10 @@ impl Endpoint {
         self.sweep.at
     }
 
-    /// Time passed: seeks objects that nothing refers to, where it is time for that.
+    /// Time passed: seeks objects and promises that nothing refers to, where it is time for that.
     pub(crate) fn tick<H: Hall>(&mut self, objects: &mut H, now: u64) -> Result<(), AllocError>
         ensures sweeps { OnOk result (SweepsInTime H.hall now (service_of self.old) (service_of self.new) objects.old objects.new) }
-        ensures same { self.new.connection ≡ self.old.connection }
+        ensures lives { Lives self.old.connection self.new.connection }
     {
         if !has_come(self.sweep.at, now) {
             return Ok(());
@@ -187,10 +187,10 @@ impl Endpoint {
         self.sweep_all(objects, now)
     }
 
-    /// Drops the objects that nothing refers to, where messages or time paid for it, and else later.
+    /// Drops the objects and promises that nothing refers to, where messages or time paid for it, and else later.
     fn sweep_objects<H: Hall>(&mut self, objects: &mut H, now: u64) -> Result<(), AllocError>
         ensures sweeps { OnOk result (Sweeps H.hall now (service_of self.old) (service_of self.new) objects.old objects.new) }
-        ensures same { self.new.connection ≡ self.old.connection }
+        ensures lives { Lives self.old.connection self.new.connection }
     {
         if objects.guests() == 0 {
             return Ok(());
@@ -202,13 +202,13 @@ impl Endpoint {
         Ok(())
     }
 
-    /// Drops the objects that nothing refers to.
+    /// Drops the objects and promises that nothing refers to.
     fn sweep_all<H: Hall>(&mut self, objects: &mut H, now: u64) -> Result<(), AllocError>
         ensures sweeps { OnOk result (SweepsAll H.hall now (service_of self.old) (service_of self.new) objects.old objects.new) }
-        ensures same { self.new.connection ≡ self.old.connection }
+        ensures lives { Lives self.old.connection self.new.connection }
     {
         let before = objects.guests();
-        self.work.drop_idle(&self.connection, objects)?;
+        self.work.drop_idle(&mut self.connection, objects)?;
         let messages = self.connection.tally().messages;
         self.sweep = Sweep::after(before, objects.guests(), messages, now);
         Ok(())

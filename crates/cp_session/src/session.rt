@@ -4,6 +4,7 @@ ghost use Rattle.std.specs.Prelude.{◌≡◌, ◌↔◌, ◌≤◌, ◌⊎◌, 
 ghost use Rattle.cp_vat_machine.specs.declared.event.Event.TheVariants as machine;
 ghost use Rattle.cp_vat_machine.specs.declared.event.Value.TheVariants as values;
 ghost use Rattle.cp_connection.specs.Doing.{answered};
+ghost use Rattle.cp_objects.specs.Work.{Lives};
 ghost use Rattle.cp_objects.specs.declared.notice.Notice.TheVariants as notices;
 ghost use Rattle.cp_session.specs.Doing.{ActsInTime, Adds, Did, EndsBytes, EndsCut, Exports, Finishes, GivesMore, GivesNone, GoesBy, GoesOn, HandsOn, HasMore, HasNone, IsCut, IsRefused, IsUnfinished, IsSettled, IsStopped, IsUnsettled, IsUntaken, IsUnworked, Lists, MayTake, PassesTime, PollsOn, Receives, RunsOut, Settles, TakesIn, Tells, Ticks, Wakes, Writes, alarm_of, due_of, ending_by, fault_of, knows_by, next_cap, told_of};
 ghost use Rattle.cp_session.specs.Kept.{kept_of};
@@ -417,7 +418,7 @@ impl<H: Hall> Session<H> {
     fn act_in_time(&mut self, now: u64) -> Result<(), AllocError>
         ensures acts { OnOk result (ActsInTime H.hall now (state_of self.old) (state_of self.new)) }
         ensures same { state_of self.new ≡ record (state_of self.old) { service = (state_of self.new).service; objects = (state_of self.new).objects } }
-        ensures link { link_of (state_of self.new) ≡ link_of (state_of self.old) }
+        ensures lives { Lives (link_of (state_of self.old)) (link_of (state_of self.new)) }
     {
         self.objects.set_now(now);
         self.objects.wake_due()?;

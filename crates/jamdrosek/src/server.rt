@@ -30,7 +30,7 @@
 //! The reader and the writer may be the two ends of a `TcpStream`, `&stream` twice, or bytes in memory.
 
 pub use cp_builder::DraftFault;
-pub use cp_makers::{Any2, Family, Hall, Here, Maker, Waker};
+pub use cp_makers::{Any2, Family, Hall, Here, Maker, Pledge, Resolver, Waker};
 pub use cp_refs::{Cap, Caps, Outcome, Request};
 pub use cp_servants::{
     Ask, Content, Reply, RequestView, Servant, Settled, data_in, outcome_of, text_in, word_in,

@@ -4,5 +4,6 @@ mod model;
 mod notebook;
 mod pages;
 mod pair;
+mod promising;
 mod ringing;
 mod watching;

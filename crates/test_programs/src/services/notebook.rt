@@ -1,6 +1,6 @@
 //! A notebook: its pages are objects, and it tells watchers what was added.
 
-use cp_makers::{Any2, Here, Maker, Waker};
+use cp_makers::{Any2, Here, Maker, Resolver, Waker};
 use cp_refs::{Cap, Caps, Outcome, Request};
 use cp_servants::{
     Ask, Content, Reply, Settled, named_imports, no_such_method, outcome_of, word_in,
@@ -15,7 +15,8 @@ use std::rc::Rc;
 /// Both interfaces.
 pub(crate) const NOTES: u64 = 0xe5a1_0000_0000_0007;
 
-/// Methods of a notebook: a new page of a number, a watcher more, a note more, and a word after some milliseconds.
+/// Methods of a notebook: a new page of a number, a watcher more, a note more, and a word after some milliseconds. Then a page that is
+/// promised, what it comes to (the capability that is named, or a page of a number), that it comes to nothing, and what was named.
 pub(crate) const OPEN: u16 = 0;
 
 pub(crate) const WATCH: u16 = 1;
@@ -24,8 +25,16 @@ pub(crate) const ADD: u16 = 2;
 
 pub(crate) const REMIND: u16 = 3;
 
-/// Methods of a page: its number, to make a page that it keeps, that page, to keep it no more, and to
-/// make one that it only names.
+pub(crate) const PROMISE: u16 = 4;
+
+pub(crate) const RESOLVE: u16 = 5;
+
+pub(crate) const BREAK: u16 = 6;
+
+pub(crate) const SAME: u16 = 7;
+
+/// Methods of a page: its number, to make a page that it keeps, that page, to keep it no more, to make one that it only names, how
+/// often it was counted before, and to promise one.
 pub(crate) const READ: u16 = 0;
 
 pub(crate) const KEEP: u16 = 1;
@@ -35,6 +44,10 @@ pub(crate) const KEPT: u16 = 2;
 pub(crate) const GIVE_UP: u16 = 3;
 
 pub(crate) const NAME: u16 = 4;
+
+pub(crate) const COUNT: u16 = 5;
+
+pub(crate) const VOW: u16 = 6;
 
 /// All objects of a connection.
 pub(crate) type Served = Any2<Book, Page>;
@@ -67,6 +80,7 @@ pub(crate) struct Book {
     asks: VecDeque<Ask>,
     /// What it says when it is woken next.
     reminder: Option<(u64, u64)>,
+    vow: Vow,
 }
 
 /// A page.
@@ -75,6 +89,15 @@ pub(crate) struct Page {
     number: u64,
     /// A page that it keeps.
     kept: Option<Cap>,
+    counted: u64,
+    vow: Vow,
+}
+
+/// The page that an object promised last, and when the object resolves that itself.
+#[derive(Drop)]
+struct Vow {
+    resolver: Option<Resolver>,
+    at: Option<u64>,
 }
 
 /// The notebook of a session.
@@ -85,11 +108,17 @@ pub(crate) fn new_book(alloc: Global, notes: &Shared) -> Result<Served, AllocErr
         told: 0,
         asks: VecDeque::new(alloc),
         reminder: None,
+        vow: Vow::none(),
     }))
 }
 
 fn new_page(number: u64) -> Served {
-    Served::Second(Page { number, kept: None })
+    Served::Second(Page {
+        number,
+        kept: None,
+        counted: 0,
+        vow: Vow::none(),
+    })
 }
 
 /// An answer that keeps no import.
@@ -122,6 +151,71 @@ fn refused(alloc: Global, caps: &Caps) -> Result<Reply, AllocError> {
     now(alloc, no_such_method(alloc)?, caps)
 }
 
+impl Vow {
+    /// Nothing was promised.
+    fn none() -> Vow {
+        Vow {
+            resolver: None,
+            at: None,
+        }
+    }
+
+    /// Promises a page, which it makes itself after some milliseconds, if these are more than none.
+    fn make(&mut self, after: u64, here: &mut Here<Served>) -> Result<Cap, AllocError> {
+        let resolver = here.promise()?;
+        let cap = resolver.cap();
+        drop(mem::replace(&mut self.resolver, Some(resolver)));
+        if after > 0 {
+            here.wake_after(after)?;
+            self.at = Some(here.now().saturating_add(after));
+        }
+        Ok(cap)
+    }
+
+    /// What was promised comes to this.
+    fn keep(&mut self, value: Cap, here: &mut Here<Served>) -> Result<(), AllocError> {
+        match self.resolver.take() {
+            Some(resolver) => here.resolve(resolver, value),
+            None => {
+                drop(value);
+                Ok(())
+            }
+        }
+    }
+
+    /// What was promised comes to a page, if it is time for that.
+    fn keep_in_time(&mut self, here: &mut Here<Served>) -> Result<(), AllocError> {
+        let Some(at) = self.at else {
+            return Ok(());
+        };
+        if here.now() < at {
+            return Ok(());
+        }
+        self.at = None;
+        let page = here.make(new_page(at))?;
+        self.keep(page, here)
+    }
+}
+
+/// The first capability of a table.
+fn first_of(alloc: Global, caps: &Caps) -> Result<Cap, AllocError> {
+    match caps.caps().first() {
+        Some(cap) => cap.copy(alloc),
+        None => Ok(Cap::None),
+    }
+}
+
+/// A capability whose calls fail.
+fn broken(alloc: Global) -> Result<Cap, AllocError> {
+    match no_such_method(alloc)? {
+        Outcome::Failed(exception) => Ok(Cap::Broken(exception)),
+        other => {
+            drop(other);
+            Ok(Cap::None)
+        }
+    }
+}
+
 impl Notes {
     /// Adds a note, and has all woken.
     fn add(&mut self, word: u64, here: &mut Here<Served>) -> Result<(), AllocError> {
@@ -150,8 +244,30 @@ impl Book {
                 self.reminder = Some((here.now().saturating_add(word), word));
                 done(alloc, caps)
             }
+            PROMISE => named(alloc, self.vow.make(word, here)?, caps),
+            RESOLVE => self.resolve(word, caps, here),
+            BREAK => {
+                self.vow.keep(broken(alloc)?, here)?;
+                done(alloc, caps)
+            }
+            SAME => named(alloc, first_of(alloc, caps)?, caps),
             _ => refused(alloc, caps),
         }
+    }
+
+    /// What it promised comes to the capability that is named, or to a page of this number.
+    fn resolve(
+        &mut self,
+        number: u64,
+        caps: &Caps,
+        here: &mut Here<Served>,
+    ) -> Result<Reply, AllocError> {
+        let value = match first_of(here.alloc(), caps)? {
+            Cap::None => here.make(new_page(number))?,
+            other => other,
+        };
+        self.vow.keep(value, here)?;
+        done(here.alloc(), caps)
     }
 
     /// Keeps a watcher, if one is named.
@@ -243,6 +359,7 @@ impl Maker for Book {
 
     fn poll(&mut self, here: &mut Here<Served>) -> Result<Option<Settled>, AllocError> {
         self.tell_all(here.alloc())?;
+        self.vow.keep_in_time(here)?;
         if let Some((at, word)) = self.reminder {
             if at <= here.now() {
                 self.reminder = None;
@@ -291,6 +408,12 @@ impl Page {
                 let cap = here.make(new_page(word))?;
                 drop(mem::replace(&mut self.kept, Some(cap)));
                 done(alloc, caps)
+            }
+            VOW => named(alloc, self.vow.make(word, here)?, caps),
+            COUNT => {
+                let outcome = outcome_of(alloc, Content::new(alloc).word(self.counted))?;
+                self.counted = self.counted.saturating_add(1);
+                now(alloc, outcome, caps)
             }
             _ => refused(alloc, caps),
         }
@@ -344,7 +467,8 @@ impl Maker for Page {
         reply
     }
 
-    fn poll(&mut self, _here: &mut Here<Served>) -> Result<Option<Settled>, AllocError> {
+    fn poll(&mut self, here: &mut Here<Served>) -> Result<Option<Settled>, AllocError> {
+        self.vow.keep_in_time(here)?;
         Ok(None)
     }
 

@@ -144,40 +144,82 @@ impl Pair {
     /// What a question comes to, which is finished.
     pub(crate) fn outcome(&mut self, rt: &impl Abort, question: u32) -> Got {
         self.run(rt);
-        let event = self.client.poll_event().expect(rt, "an event");
-        let (asked, got) = told(event).expect(rt, "an outcome");
+        self.expect_outcome(rt, question)
+    }
+
+    /// What a question came to, first of those whose outcomes weren't taken. It is finished.
+    pub(crate) fn expect_outcome(&mut self, rt: &impl Abort, question: u32) -> Got {
+        let (asked, got) = self.next_outcome(rt);
         check!(rt; asked == question);
+        got
+    }
+
+    /// The first outcome that wasn't taken, of a question that is finished.
+    pub(crate) fn next_outcome(&mut self, rt: &impl Abort) -> (u32, Got) {
+        let event = self.client.poll_event().expect(rt, "an event");
+        let (question, got) = told(event).expect(rt, "an outcome");
         self.client.finish(question).expect(rt, "a finish");
         self.run(rt);
-        got
+        (question, got)
+    }
+
+    /// Calls a method of an import with a word.
+    pub(crate) fn begin(&mut self, rt: &impl Abort, import: u32, method: u16, word: u64) -> u32 {
+        let content = Content::new(self.alloc).word(word).expect(rt, "params");
+        let request = content.request(NOTES, method);
+        self.client
+            .call(Cap::Import(import), request)
+            .expect(rt, "a call")
     }
 
     /// Calls a method of an import with a word, and waits.
     pub(crate) fn call(&mut self, rt: &impl Abort, import: u32, method: u16, word: u64) -> Got {
-        let content = Content::new(self.alloc).word(word).expect(rt, "params");
-        let request = content.request(NOTES, method);
-        let question = self
-            .client
-            .call(Cap::Import(import), request)
-            .expect(rt, "a call");
+        let question = self.begin(rt, import, method, word);
         self.outcome(rt, question)
     }
 
     /// Calls a method of an import with a capability, and waits.
     pub(crate) fn call_with(&mut self, rt: &impl Abort, import: u32, method: u16, cap: Cap) -> Got {
+        let question = self.begin_with(rt, import, method, cap);
+        self.outcome(rt, question)
+    }
+
+    /// Calls a method of an import with a capability.
+    pub(crate) fn begin_with(
+        &mut self,
+        rt: &impl Abort,
+        import: u32,
+        method: u16,
+        cap: Cap,
+    ) -> u32 {
         let content = Content::new(self.alloc).cap(cap).expect(rt, "params");
         let request = content.request(NOTES, method);
-        let question = self
-            .client
+        self.client
             .call(Cap::Import(import), request)
-            .expect(rt, "a call");
-        self.outcome(rt, question)
+            .expect(rt, "a call")
     }
 
     /// Drops a capability.
     pub(crate) fn release(&mut self, rt: &impl Abort, import: u32) {
         self.client.release(import).expect(rt, "a release");
         self.run(rt);
+    }
+
+    /// Drops all capabilities but that of the notebook: those of promises first, and then what these came to.
+    pub(crate) fn release_others(&mut self, rt: &impl Abort) {
+        for _ in 0..2 {
+            self.try_to_release_others();
+        }
+        self.run(rt);
+    }
+
+    /// Drops those that nothing uses.
+    fn try_to_release_others(&mut self) {
+        for import in 0..16 {
+            if import != self.book {
+                let _ = self.client.release(import);
+            }
+        }
     }
 
     /// How many objects the server has.

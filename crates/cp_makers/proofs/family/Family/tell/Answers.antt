@@ -9,6 +9,6 @@ returns g c =
       object = c.told.new.self;
       place = place_of c.told.new.here;
       was = c.entry_mut-member.ensures.value;
-      is_told = rw c.enter.ensures at c.in_ok-told.ensures;
+      is_told = rw (c.enter.ensures, c.named_outcome-outcome.ensures) at c.in_ok-told.ensures;
       is = rw (c.in_ok-insert.ensures.put, c.saturating_sub-member.ensures, c.in_ok-add_each.ensures.added, c.ids.ensures, c.in_ok-imports.ensures) at settled;
     })

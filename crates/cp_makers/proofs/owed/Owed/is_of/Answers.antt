@@ -1,6 +1,5 @@
 use Rattle.std.proofs.Common.{refl}
 use Rattle.cp_tables.proofs.TableLemmas.{get-listed}
-use Rattle.cp_makers.specs.Numbers.{is_number}
 use Rattle.cp_makers.proofs.owed.Owed.is_of.Goals as goal
 
 pub returns-in-Some : goal.returns-in-Some

@@ -1,10 +1,10 @@
 use Rattle.std.proofs.Common.{refl, sym, ◌∙◌}
-use Rattle.cp_objects.specs.Dropping.{goes, stays}
+use Rattle.cp_objects.specs.Dropping.{goes, is_used}
 use Rattle.cp_objects.proofs.Working.{after_ok}
 use Rattle.cp_objects.proofs.objects.Objects.drop_one.Goals as goal
 
 pub returns-then-uses_object : goal.returns-then-uses_object
-returns-then-uses_object g c = stays (sym c.uses_object.ensures ∙ c.if-uses_object.true) refl refl
+returns-then-uses_object g c = is_used (sym c.uses_object.ensures ∙ c.if-uses_object.true) refl refl
 
 pub returns : goal.returns
 returns g c =

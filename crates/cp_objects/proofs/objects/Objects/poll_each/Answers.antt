@@ -23,20 +23,23 @@ returns-in_default-clause-lives g c = c.loop.invariant.1
 pub returns-then-not-has-clause-lives : goal.returns-then-not-has-clause-lives
 returns-then-not-has-clause-lives g c = c.loop.invariant.1
 
+pub returns-in_err-said-clause-lives : goal.returns-in_err-said-clause-lives
+returns-in_err-said-clause-lives g c = c.loop.invariant.1
+
 pub returns-in_err-settled-clause-lives : goal.returns-in_err-settled-clause-lives
-returns-in_err-settled-clause-lives g c = c.loop.invariant.1
+returns-in_err-settled-clause-lives g c = lives_both c.loop.invariant.1 c.with_pledges_kept.ensures.lives
 
 pub returns-in_err-gave-clause-lives : goal.returns-in_err-gave-clause-lives
-returns-in_err-gave-clause-lives g c = lives_both c.loop.invariant.1 c.settle.ensures.lives
+returns-in_err-gave-clause-lives g c = lives_both (lives_both c.loop.invariant.1 c.with_pledges_kept.ensures.lives) c.settle.ensures.lives
 
 pub returns-in_err-make_calls-clause-lives : goal.returns-in_err-make_calls-clause-lives
-returns-in_err-make_calls-clause-lives g c = lives_both (lives_both c.loop.invariant.1 c.settle.ensures.lives) c.make_calls.ensures.lives
+returns-in_err-make_calls-clause-lives g c = lives_both (lives_both (lives_both c.loop.invariant.1 c.with_pledges_kept.ensures.lives) c.settle.ensures.lives) c.make_calls.ensures.lives
 
 pub returns-in_err-work_off-clause-lives : goal.returns-in_err-work_off-clause-lives
-returns-in_err-work_off-clause-lives g c = lives_both (lives_both (lives_both c.loop.invariant.1 c.settle.ensures.lives) c.make_calls.ensures.lives) c.work_off.ensures.lives
+returns-in_err-work_off-clause-lives g c = lives_both (lives_both (lives_both (lives_both c.loop.invariant.1 c.with_pledges_kept.ensures.lives) c.settle.ensures.lives) c.make_calls.ensures.lives) c.work_off.ensures.lives
 
 pub returns-in_default-checked_add-clause-lives : goal.returns-in_default-checked_add-clause-lives
-returns-in_default-checked_add-clause-lives g c = lives_both (lives_both (lives_both c.loop.invariant.1 c.settle.ensures.lives) c.make_calls.ensures.lives) c.work_off.ensures.lives
+returns-in_default-checked_add-clause-lives g c = lives_both (lives_both (lives_both (lives_both c.loop.invariant.1 c.with_pledges_kept.ensures.lives) c.settle.ensures.lives) c.make_calls.ensures.lives) c.work_off.ensures.lives
 
 pub returns-clause-lives : goal.returns-clause-lives
 returns-clause-lives g c = c.loop.invariant.1
@@ -46,6 +49,6 @@ loop-preserved g c =
     let first = c.in_ok-gave.field-0 in
     let open_yet = not_some _ false c.if-has_ended.ensures refl in (
       λ more last others rest.
-          rw (or_assoc c.loop.gave first more) (c.loop.invariant.0 (first || more) last others (polls c.in-Some.number c.in_ok-settled.settled first more open_yet c.in-Some.ensures c.in_ok-settled.ensures c.in_ok-gave.ensures.done c.in_ok-make_calls.ensures.done c.in_ok-work_off.ensures.done (rw c.in-Some-checked_add.ensures.1 at rest) refl)),
-      lives_both (lives_both (lives_both c.loop.invariant.1 c.in_ok-gave.ensures.lives) c.in_ok-make_calls.ensures.lives) c.in_ok-work_off.ensures.lives,
+          rw (or_assoc c.loop.gave first more) (c.loop.invariant.0 (first || more) last others (polls {link = c.with_pledges_kept.new.connection} c.in-Some.number c.in_ok-said.said first more open_yet c.in-Some.ensures c.in_ok-said.ensures c.in_ok-settled.ensures.done (rw c.in_ok-settled.ensures.same at c.in_ok-gave.ensures.done) c.in_ok-make_calls.ensures.done c.in_ok-work_off.ensures.done (rw c.in-Some-checked_add.ensures.1 at rest) refl)),
+      lives_both (lives_both (lives_both (lives_both c.loop.invariant.1 c.in_ok-settled.ensures.lives) c.in_ok-gave.ensures.lives) c.in_ok-make_calls.ensures.lives) c.in_ok-work_off.ensures.lives,
     )

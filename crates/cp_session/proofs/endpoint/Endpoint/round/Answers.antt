@@ -18,8 +18,8 @@ returns-clause-polls g c =
       rounds = c.in_ok-self.ensures.done;
       seeks = c.in_ok-release_idle.ensures.seeks;
       sweeps = sweeps;
-      lives = rw c.sweep_objects.ensures.same (lives_both c.round.ensures.lives c.release_idle.ensures.lives);
+      lives = lives_both (lives_both c.round.ensures.lives c.release_idle.ensures.lives) c.sweep_objects.ensures.lives;
     })
 
 pub returns-clause-lives : goal.returns-clause-lives
-returns-clause-lives g c = rw c.sweep_objects.ensures.same (lives_both c.round.ensures.lives c.release_idle.ensures.lives)
+returns-clause-lives g c = lives_both (lives_both c.round.ensures.lives c.release_idle.ensures.lives) c.sweep_objects.ensures.lives

@@ -4,7 +4,7 @@ use Rattle.cp_session.proofs.endpoint.Endpoint.sweep_all.Goals as goal
 
 pub returns-clause-sweeps : goal.returns-clause-sweeps
 returns-clause-sweeps g c = record {
-  work = work_of c.drop_idle.new.self c.args.self.now.connection;
-  drops = c.in_ok-drop_idle.ensures;
+  work = work_of c.drop_idle.new.self c.drop_idle.new.connection;
+  drops = c.in_ok-drop_idle.ensures.done;
   is = rw (c.after-self.ensures, c.guests-before.ensures, c.guests.ensures, c.tally-messages.ensures) refl;
 }

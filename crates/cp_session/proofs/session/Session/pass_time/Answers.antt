@@ -15,5 +15,5 @@ returns-in-Ok g c = passes (subst (λ (t : Option ℕ). HasCome c.args.now t) c.
 
 pub returns-in-Err : goal.returns-in-Err
 returns-in-Err g c =
-    runs_out_of_memory (subst (λ (t : Option ℕ). HasCome c.args.now t) c.alarm.ensures (c.if-not-has_come.ensures.0 refl)) c.act_in_time.ensures.link
+    runs_out_of_memory (subst (λ (t : Option ℕ). HasCome c.args.now t) c.alarm.ensures (c.if-not-has_come.ensures.0 refl)) c.act_in_time.ensures.lives
     (ap (λ s. s.limits) c.act_in_time.ensures.same) (c.fail.ensures ∙ ap (λ s. failed s.progress faults.OutOfMemory) c.act_in_time.ensures.same)

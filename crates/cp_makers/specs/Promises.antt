@@ -1,0 +1,83 @@
+-- The promises of objects.
+use Rattle.std.specs.Prelude.{◌≡◌, ℕ, List, [], ◌∷◌, ◌++◌, map, Option, Some, None}
+use Rattle.std.specs.Option.{option_map_or}
+use Rattle.std.specs.FinMap.{get, insert, remove, empty}
+use Rattle.cp_tables.specs.Table.{Table}
+use Rattle.cp_refs.specs.declared.call.Request.{Request}
+use Rattle.cp_refs.specs.declared.cap.Cap.{Cap}
+use Rattle.cp_refs.specs.declared.cap.Cap.TheVariants as caps
+use Rattle.cp_refs.specs.declared.outcome.Outcome.{Outcome}
+use Rattle.cp_refs.specs.declared.outcome.Outcome.TheVariants as outcomes
+use Rattle.cp_servants.specs.declared.servant.Ask.{Ask}
+use Rattle.cp_makers.specs.declared.pledge.Pledge.{Pledge}
+use Rattle.cp_makers.specs.declared.pledge.Pledge.TheVariants as pledges
+use Rattle.cp_makers.specs.declared.promises.Promises.{Promises}
+
+-- Who made each promise that isn't resolved; the vat's promise of each number, and the number of each of these; and what is to be done of promises, in order.
+pub record Promised : Type 0 where
+  pub makers : Table ℕ
+  pub ids : Table ℕ
+  pub names : Table ℕ
+  pub pledges : List Pledge
+
+abbrev pub promised_of : Promises → Promised
+promised_of p = record { makers = p.makers; ids = p.ids; names = p.names; pledges = p.pledges.items }
+
+-- none was made
+abbrev pub none_promised : Promised
+none_promised = record { makers = empty; ids = empty; names = empty; pledges = [] }
+
+-- an object made this promise
+abbrev pub promising : ℕ → ℕ → Promised → Promised
+promising number maker p = record p { makers = insert p.makers number maker; pledges = p.pledges ++ pledges.Make number ∷ [] }
+
+-- this promise is to come to this
+abbrev pub resolving : ℕ → Cap → Promised → Promised
+resolving number value p = record p { makers = remove p.makers number; pledges = p.pledges ++ pledges.Resolve number value ∷ [] }
+
+-- the vat made this promise of its own for this number
+abbrev pub keeping_promise : ℕ → ℕ → Promised → Promised
+keeping_promise number id p = record p { ids = insert p.ids number id; names = insert p.names id number }
+
+-- the vat forgot this promise of its own
+abbrev pub forgetting : ℕ → Promised → Promised
+forgetting id p = record p { ids = option_map_or (λ number. remove p.ids number) (get p.names id) p.ids; names = remove p.names id }
+
+-- What an object's name of a promise means to the vat: its own promise of that number. Any other capability means itself.
+abbrev pub meant_by : ℕ → Option ℕ → Cap
+meant_by number None = caps.Object number
+meant_by number (Some id) = caps.Promise id
+
+abbrev pub meant : Table ℕ → Cap → Cap
+meant ids (caps.Object number) = meant_by number (get ids number)
+meant ids other = other
+
+-- what objects name a promise of the vat's, if it is one of theirs
+abbrev pub named_by : ℕ → Option ℕ → Cap
+named_by id None = caps.Promise id
+named_by id (Some number) = caps.Object number
+
+abbrev pub named : Table ℕ → Cap → Cap
+named names (caps.Promise id) = named_by id (get names id)
+named names other = other
+
+-- each capability of a request, of an outcome, or of a call with what it is made on, is this
+abbrev pub with_request : (Cap → Cap) → Request → Request
+with_request f request = record request { caps = map f request.caps }
+
+abbrev pub with_outcome : (Cap → Cap) → Outcome → Outcome
+with_outcome f (outcomes.Results content table) = outcomes.Results content (map f table)
+with_outcome f other = other
+
+abbrev pub with_ask : (Cap → Cap) → Ask → Ask
+with_ask f ask = record ask { cap = f ask.cap; request = with_request f ask.request }
+
+abbrev pub with_pledge : (Cap → Cap) → Pledge → Pledge
+with_pledge f (pledges.Resolve number value) = pledges.Resolve number (f value)
+with_pledge f other = other
+
+-- What is to be done first is handed out, as the vat is to do it, if there is something.
+abbrev pub HandsPledge : Option Pledge → Promised → Promised → Type 0
+HandsPledge (Some pledge) old new =
+    (first : Pledge) × (old.pledges ≡ first ∷ new.pledges) × (pledge ≡ with_pledge (meant old.ids) first) × (new ≡ record old { pledges = new.pledges })
+HandsPledge None old new = (old.pledges ≡ []) × (new ≡ old)

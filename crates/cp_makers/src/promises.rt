@@ -1,0 +1,231 @@
+//! The promises of the objects of a family.
+
+ghost use Rattle.std.specs.Prelude.{◌≡◌, OnOk, map};
+ghost use Rattle.std.specs.FinMap as maps;
+ghost use Rattle.cp_makers.specs.Numbers.{inserted};
+ghost use Rattle.cp_makers.specs.Promises.{HandsPledge, forgetting, keeping_promise, meant, named, none_promised, promised_of, promising, resolving, with_ask, with_outcome, with_pledge, with_request};
+
+use crate::number_set::NumberSet;
+use crate::pledge::Pledge;
+use cp_refs::{Cap, Caps, Outcome, PromiseId, Request};
+use cp_servants::Ask;
+use cp_tables::Entries;
+use std::alloc::{AllocError, Global};
+use std::collections::VecDeque;
+use std::mem;
+
+/// The promises of the objects of a family, by the numbers that the family gave them. The vat has numbers of its own for them, which it
+/// uses again. Objects never see these: a number in a field could then come to stand for another promise.
+#[derive(Drop)]
+pub(crate) struct Promises {
+    /// Who made each promise that isn't resolved.
+    pub(crate) makers: Entries<u32>,
+    /// The vat's promise of each number.
+    pub(crate) ids: Entries<PromiseId>,
+    /// The number of each of these.
+    pub(crate) names: Entries<u32>,
+    /// What is to be done of promises, in order.
+    pub(crate) pledges: VecDeque<Pledge>,
+}
+
+impl Promises {
+    /// None.
+    pub(crate) fn new(alloc: Global) -> Promises
+        ensures { promised_of result ≡ none_promised }
+    {
+        Promises {
+            makers: Entries::new(alloc),
+            ids: Entries::new(alloc),
+            names: Entries::new(alloc),
+            pledges: VecDeque::new(alloc),
+        }
+    }
+
+    /// An object made a promise.
+    pub(crate) fn make(&mut self, number: u32, maker: u32) -> Result<(), AllocError>
+        ensures { OnOk result (promised_of self.new ≡ promising number maker (promised_of self.old)) }
+    {
+        self.makers.put(number, maker)?;
+        self.pledges.push_back(Pledge::Make(number))?;
+        Ok(())
+    }
+
+    /// A promise is to come to this.
+    pub(crate) fn resolve(&mut self, number: u32, value: Cap) -> Result<(), AllocError>
+        ensures { OnOk result (promised_of self.new ≡ resolving number value (promised_of self.old)) }
+    {
+        let _ = self.makers.remove(number);
+        self.pledges.push_back(Pledge::Resolve { number, value })?;
+        Ok(())
+    }
+
+    /// Hands out what is to be done first.
+    pub(crate) fn next(&mut self) -> Option<Pledge>
+        ensures { HandsPledge result (promised_of self.old) (promised_of self.new) }
+    {
+        let pledge = self.pledges.pop_front()?;
+        Some(self.meant_pledge(pledge))
+    }
+
+    /// The vat made a promise of its own for a number.
+    pub(crate) fn keep(&mut self, number: u32, id: PromiseId) -> Result<(), AllocError>
+        ensures { OnOk result (promised_of self.new ≡ keeping_promise number id (promised_of self.old)) }
+    {
+        self.ids.put(number, id)?;
+        self.names.put(id, number)
+    }
+
+    /// The vat forgot a promise of its own.
+    pub(crate) fn forget(&mut self, id: PromiseId)
+        ensures { promised_of self.new ≡ forgetting id (promised_of self.old) }
+    {
+        if let Some(number) = self.names.remove(id) {
+            let _ = self.ids.remove(number);
+        }
+    }
+
+    /// How many the vat made.
+    pub(crate) fn len(&self) -> usize
+        ensures { result ≡ maps.len self.now.names }
+    {
+        self.names.iter().len()
+    }
+
+    /// Puts the objects that made a promise which isn't resolved into a set.
+    pub(crate) fn insert_makers(&self, known: &mut NumberSet) -> Result<(), AllocError>
+        ensures { OnOk result (known.new ≡ inserted (maps.values self.now.makers) known.old) }
+    {
+        for (_, maker) in self.makers.iter() {
+            known.insert(*maker)?;
+        }
+        Ok(())
+    }
+
+    /// An outcome as the vat is to have it.
+    pub(crate) fn meant_outcome(&self, outcome: Outcome) -> Outcome
+        ensures { result ≡ with_outcome (meant self.now.ids) outcome }
+    {
+        match outcome {
+            Outcome::Results { content, caps } => Outcome::Results {
+                content,
+                caps: self.meant_each(caps),
+            },
+            other => other,
+        }
+    }
+
+    /// A call as the vat is to have it.
+    pub(crate) fn meant_ask(&self, ask: Ask) -> Ask
+        ensures { result ≡ with_ask (meant self.now.ids) ask }
+    {
+        let Ask {
+            mut cap,
+            request,
+            mark,
+        } = ask;
+        let Request {
+            interface,
+            method,
+            content,
+            caps,
+        } = request;
+        self.mean(&mut cap);
+        let request = Request {
+            interface,
+            method,
+            content,
+            caps: self.meant_each(caps),
+        };
+        Ask { cap, request, mark }
+    }
+
+    /// An outcome as objects are to see it.
+    pub(crate) fn named_outcome(&self, outcome: Outcome) -> Outcome
+        ensures { result ≡ with_outcome (named self.now.names) outcome }
+    {
+        match outcome {
+            Outcome::Results { content, caps } => Outcome::Results {
+                content,
+                caps: self.named_each(caps),
+            },
+            other => other,
+        }
+    }
+
+    /// A request as objects are to see it.
+    pub(crate) fn named_request(&self, request: Request) -> Request
+        ensures { result ≡ with_request (named self.now.names) request }
+    {
+        let Request {
+            interface,
+            method,
+            content,
+            caps,
+        } = request;
+        Request {
+            interface,
+            method,
+            content,
+            caps: self.named_each(caps),
+        }
+    }
+
+    /// A table as objects are to see it.
+    pub(crate) fn named_each(&self, caps: Caps) -> Caps
+        ensures { result ≡ map (named self.now.names) caps }
+    {
+        let mut caps = caps.into_caps();
+        for cap in caps.iter_mut() {
+            self.name(cap);
+        }
+        Caps::new(caps)
+    }
+
+    /// What is to be done, as the vat is to do it.
+    fn meant_pledge(&self, pledge: Pledge) -> Pledge
+        ensures { result ≡ with_pledge (meant self.now.ids) pledge }
+    {
+        match pledge {
+            Pledge::Resolve { number, mut value } => {
+                self.mean(&mut value);
+                Pledge::Resolve { number, value }
+            }
+            other => other,
+        }
+    }
+
+    /// A table as the vat is to have it.
+    fn meant_each(&self, caps: Caps) -> Caps
+        ensures { result ≡ map (meant self.now.ids) caps }
+    {
+        let mut caps = caps.into_caps();
+        for cap in caps.iter_mut() {
+            self.mean(cap);
+        }
+        Caps::new(caps)
+    }
+
+    /// An object's name of a promise becomes the vat's.
+    fn mean(&self, cap: &mut Cap)
+        ensures { cap.new ≡ meant self.now.ids cap.old }
+    {
+        let Cap::Object(number) = cap else {
+            return;
+        };
+        if let Some(id) = self.ids.get(*number) {
+            drop(mem::replace(cap, Cap::Promise(*id)));
+        }
+    }
+
+    /// The vat's name of a promise becomes the objects'.
+    fn name(&self, cap: &mut Cap)
+        ensures { cap.new ≡ named self.now.names cap.old }
+    {
+        let Cap::Promise(id) = cap else {
+            return;
+        };
+        if let Some(number) = self.names.get(*id) {
+            drop(mem::replace(cap, Cap::Object(*number)));
+        }
+    }
+}
