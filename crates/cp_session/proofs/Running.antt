@@ -6,7 +6,7 @@ use Rattle.cp_session.specs.State.{State}
 
 -- nothing after it
 pub both_nothing : (deed : Deed) → both deed nothing ≡ deed
-both_nothing deed = rw (append-nil deed.given, append-nil deed.taken, append-nil deed.written, append-nil deed.called, append-nil deed.roused, append-nil deed.refused, append-nil deed.told, append-nil deed.woken) refl
+both_nothing deed = rw (append-nil deed.given, append-nil deed.taken, append-nil deed.written, append-nil deed.called, append-nil deed.roused, append-nil deed.refused, append-nil deed.ticked, append-nil deed.told, append-nil deed.woken, append-nil deed.times) refl
 
 -- nothing before it
 pub nothing_both : (deed : Deed) → both nothing deed ≡ deed
@@ -14,7 +14,7 @@ nothing_both deed = refl
 
 pub both_assoc : (a b c : Deed) → both (both a b) c ≡ both a (both b c)
 both_assoc a b c =
-    rw (append_assoc a.given b.given c.given, append_assoc a.taken b.taken c.taken, append_assoc a.written b.written c.written, append_assoc a.called b.called c.called, append_assoc a.roused b.roused c.roused, append_assoc a.refused b.refused c.refused, append_assoc a.told b.told c.told, append_assoc a.woken b.woken c.woken) refl
+    rw (append_assoc a.given b.given c.given, append_assoc a.taken b.taken c.taken, append_assoc a.written b.written c.written, append_assoc a.called b.called c.called, append_assoc a.roused b.roused c.roused, append_assoc a.refused b.refused c.refused, append_assoc a.ticked b.ticked c.ticked, append_assoc a.told b.told c.told, append_assoc a.woken b.woken c.woken, append_assoc a.times b.times c.times) refl
 
 -- one call alone
 pub runs_one : {H : Type 0} {hall : HallKind H} {old new : State H} (deed : Deed) → Does hall old deed new → Runs hall old deed new

@@ -20,8 +20,8 @@ pub record Call : Type 0 where
   pub result : Result Value ConnectionFault
 
 -- What one call of a session did. It was given these bytes, of which its connection took those, and dropped the others; and it was told that these were written.
--- The program made these calls, woke these objects, and refused the peer at these times. These events were handed out, and so were these objects of other sessions,
--- which are to be woken.
+-- The program made these calls, woke these objects, refused the peer at these times, and said at those that time passed. These events were handed out, and so were
+-- these objects of other sessions, which are to be woken. All the times that it was given are these.
 pub record Deed : Type 0 where
   pub given : List ℕ
   pub taken : List ℕ
@@ -29,12 +29,19 @@ pub record Deed : Type 0 where
   pub called : List Call
   pub roused : List ℕ
   pub refused : List ℕ
+  pub ticked : List ℕ
   pub told : List SessionEvent
   pub woken : List Waker
+  pub times : List ℕ
 
 -- nothing of all this
 abbrev pub nothing : Deed
-nothing = record { given = []; taken = []; written = []; called = []; roused = []; refused = []; told = []; woken = [] }
+nothing =
+    record { given = []; taken = []; written = []; called = []; roused = []; refused = []; ticked = []; told = []; woken = []; times = [] }
+
+-- a call at this time, and nothing else of all this
+abbrev pub called_at : ℕ → Deed
+called_at now = record nothing { times = now ∷ [] }
 
 -- one after the other
 abbrev pub both : Deed → Deed → Deed
@@ -45,13 +52,15 @@ both one other = record {
   called = one.called ++ other.called;
   roused = one.roused ++ other.roused;
   refused = one.refused ++ other.refused;
+  ticked = one.ticked ++ other.ticked;
   told = one.told ++ other.told;
   woken = one.woken ++ other.woken;
+  times = one.times ++ other.times;
 }
 
--- these bytes were given, and what the connection took of them
-abbrev pub giving : List ℕ → List ℕ → Deed
-giving given taken = record nothing { given = given; taken = taken }
+-- these bytes were given at this time, and what the connection took of them
+abbrev pub giving : ℕ → List ℕ → List ℕ → Deed
+giving now given taken = record (called_at now) { given = given; taken = taken }
 
 -- what a connection takes of bytes that are given: none while its peer's close is waited for
 abbrev pub taken_in : Phase → List ℕ → List ℕ
@@ -68,17 +77,17 @@ module _ {H : Type 0} (hall : HallKind H) where
   -- one call of a session
   pub data Does (old : State H) : Deed → State H → Type 0 where
     receives : {deed : Deed} {new : State H} (piece : List ℕ) (now count : ℕ) → Receives hall old piece now count new
-        → deed ≡ giving (take count piece) (taken_in old.progress.phase (take count piece)) → Does old deed new
+        → deed ≡ giving now (take count piece) (taken_in old.progress.phase (take count piece)) → Does old deed new
     fails : {deed : Deed} {new : State H} (piece : List ℕ) (now : ℕ) (fault : ConnectionFault) (cut : IsUntaken hall old piece now fault new)
-        → deed ≡ giving [] (taken_by cut.cut.cut) → Does old deed new
-    ends : {deed : Deed} {new : State H} (now : ℕ) → EndsBytes hall old now new → deed ≡ nothing → Does old deed new
-    ends_inside : {deed : Deed} {new : State H} (now : ℕ) (fault : ConnectionFault) → EndsCut hall old now fault new → deed ≡ nothing → Does old deed new
-    polls : {deed : Deed} {new : State H} (now : ℕ) → PollsOn hall old now new → deed ≡ nothing → Does old deed new
-    runs_out : {deed : Deed} {new : State H} (now : ℕ) → RunsOut hall old now new → deed ≡ nothing → Does old deed new
-    writes : {deed : Deed} {new : State H} (count now : ℕ) → Writes hall old count now new → deed ≡ record nothing { written = take count (link_of old).unwritten }
-        → Does old deed new
-    ticks : {deed : Deed} {new : State H} (now : ℕ) → Ticks hall old now new → deed ≡ nothing → Does old deed new
-    refuses : {deed : Deed} {new : State H} (now : ℕ) → IsRefused hall old now new → deed ≡ record nothing { refused = now ∷ [] } → Does old deed new
+        → deed ≡ giving now [] (taken_by cut.cut.cut) → Does old deed new
+    ends : {deed : Deed} {new : State H} (now : ℕ) → EndsBytes hall old now new → deed ≡ called_at now → Does old deed new
+    ends_inside : {deed : Deed} {new : State H} (now : ℕ) (fault : ConnectionFault) → EndsCut hall old now fault new → deed ≡ called_at now → Does old deed new
+    polls : {deed : Deed} {new : State H} (now : ℕ) → PollsOn hall old now new → deed ≡ called_at now → Does old deed new
+    runs_out : {deed : Deed} {new : State H} (now : ℕ) → RunsOut hall old now new → deed ≡ called_at now → Does old deed new
+    writes : {deed : Deed} {new : State H} (count now : ℕ) → Writes hall old count now new
+        → deed ≡ record (called_at now) { written = take count (link_of old).unwritten } → Does old deed new
+    ticks : {deed : Deed} {new : State H} (now : ℕ) → Ticks hall old now new → deed ≡ record (called_at now) { ticked = now ∷ [] } → Does old deed new
+    refuses : {deed : Deed} {new : State H} (now : ℕ) → IsRefused hall old now new → deed ≡ record (called_at now) { refused = now ∷ [] } → Does old deed new
     tells : {deed : Deed} {new : State H} (event : Option SessionEvent) → Tells old event new → deed ≡ record nothing { told = option_to_list event } → Does old deed new
     wakes : {deed : Deed} {new : State H} (object : ℕ) → Wakes hall object old new → deed ≡ record nothing { roused = object ∷ [] } → Does old deed new
     hands_on : {deed : Deed} {new : State H} (waker : Option Waker) → HandsOn hall waker old new → deed ≡ record nothing { woken = option_to_list waker }

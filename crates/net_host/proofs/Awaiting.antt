@@ -74,7 +74,7 @@ module _ {H : Type 0} (hall : HallKind H) where
   turned : (old new : Floor H) → Turns hall old new → AwaitsAll hall old → AwaitsAll hall new
   turned old new (rests r) all = same_each old.due new.due old.served new.served r.same r.due all
   turned old new (goes_on key now one next woken was stays puts ended note added awaits) all = put_each old.due new.due old.served new.served key next puts awaits all
-  turned old new (ends key one woken end was by puts ended forgets added due) all = out_each old.due new.due old.served new.served key puts due all
+  turned old new (ends key now one woken end was by puts ended forgets added due) all = out_each old.due new.due old.served new.served key puts due all
   turned old new (wakes waker one next first served rouses puts ended budget awaits) all =
       put_each old.due new.due old.served new.served (key_of waker.session) next puts awaits all
   turned old new (wakes_none waker first unserved same ended budget due) all = same_each old.due new.due old.served new.served same due all

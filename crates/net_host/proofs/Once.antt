@@ -105,7 +105,7 @@ module _ {H : Type 0} {hall : HallKind H} where
       once_by old new number (λ key has. subst (λ (slot : Option (Served H)). Has slot number) (r.same key) has) r.ended once
   once_turn old new number (goes_on key now one next woken was stays puts same noted added awaits) once =
       once_by old new number (back_over old.served new.served key one next number was (works_number stays.works) puts) same once
-  once_turn old new number (ends key one woken end was by puts ended forgotten added due) once = once_out old new number key one end was puts ended once
+  once_turn old new number (ends key now one woken end was by puts ended forgotten added due) once = once_out old new number key one end was puts ended once
   once_turn old new number (wakes waker one next first served rouses puts same budget awaits) once =
       once_by old new number (back_over old.served new.served (key_of waker.session) one next number served.there (ap (λ (x : Served H). x.number) rouses.1) puts) same once
   once_turn old new number (wakes_none waker first unserved still same budget due) once =
@@ -120,7 +120,7 @@ module _ {H : Type 0} {hall : HallKind H} where
       gone_by old new number (λ key has. subst (λ (slot : Option (Served H)). Has slot number) (r.same key) has) r.ended gone
   gone_turn old new number (goes_on key now one next woken was stays puts same noted added awaits) gone =
       gone_by old new number (back_over old.served new.served key one next number was (works_number stays.works) puts) same gone
-  gone_turn old new number (ends key one woken end was by puts ended forgotten added due) gone = gone_out old new number key one end was puts ended gone
+  gone_turn old new number (ends key now one woken end was by puts ended forgotten added due) gone = gone_out old new number key one end was puts ended gone
   gone_turn old new number (wakes waker one next first served rouses puts same budget awaits) gone =
       gone_by old new number (back_over old.served new.served (key_of waker.session) one next number served.there (ap (λ (x : Served H). x.number) rouses.1) puts) same gone
   gone_turn old new number (wakes_none waker first unserved still same budget due) gone =

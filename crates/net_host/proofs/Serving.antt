@@ -16,13 +16,13 @@ use Rattle.cp_session.specs.declared.progress.Phase.TheVariants as phases
 use Rattle.cp_session.specs.Doing.{EndsBytes, EndsCut, GoesBy, HandsOn, Leaves, PollsOn, RunsOut, Settles, Tells, Ticks, leaves, refuses, stays, was_over}
 use Rattle.cp_session.specs.Kept.{kept_of}
 use Rattle.cp_session.specs.Progress.{Meets, TicksTo, ended_by, excess_by, kept_excess, meets, meets_none, met, phase_by}
-use Rattle.cp_session.specs.Runs.{Does, begins, both, ends, ends_inside, giving, nothing, polls, runs_out, tells, ticks, writes}
+use Rattle.cp_session.specs.Runs.{Does, begins, both, ends, ends_inside, nothing, polls, runs_out, tells, ticks, writes, called_at}
 use Rattle.cp_session.specs.State.{State}
 use Rattle.cp_session.proofs.Running.{runs_both, runs_one}
 use Rattle.net_host.specs.declared.end.End.{End}
 use Rattle.net_host.specs.declared.end.End.TheVariants as all_ends
 use Rattle.net_host.specs.Feeding.{IsFed}
-use Rattle.net_host.proofs.Fed.{parts}
+use Rattle.net_host.proofs.Fed.{at_both, at_none, at_one, parts}
 use Rattle.net_host.specs.Guests.{Adds, Breaks, Closes, EndsBy, Fails, HandsOver, HandsSome, HasFailed, Hears, IsShort, IsTooMuch, IsWhy, Lasts, Minds, Passes, Proceeds, Sends, Served, Serves, Stops, StopsAfter, Works, breaks_off, end_after, end_of, end_or, ends_broken, ends_short, ends_whole, fails_short, fails_whole, heard, is_short, kept_by, minds_full, minds_none, none, or_before, passes_on, some}
 use Rattle.net_host.specs.Waking.{HandsAll, HandsOut, hands_more, hands_none}
 
@@ -63,13 +63,26 @@ is_limited : (limit : Limit) (p q : Progress) → q ≡ met limit p → IsSome q
 is_limited limit p q is = subst (λ (x : Progress). IsSome x.limit) (sym is) (limited (excess_by limit p.phase) (record p { limit = Some limit }) refl)
 
 module _ {H : Type 0} {hall : HallKind H} where
-  pub serves_none : (s : Served H) → Serves hall s [] s.rest s
-  serves_none s =
-      record { number = refl; peer = refl; deed = nothing; runs = begins; no_call = refl; unroused = refl; unrefused = refl; unwoken = refl; in_order = append-nil s.rest; end = refl }
+  pub serves_none : (now : ℕ) (s : Served H) → Serves hall now s [] s.rest s
+  serves_none now s = record {
+    number = refl;
+    peer = refl;
+    deed = nothing;
+    runs = begins;
+    no_call = refl;
+    unroused = refl;
+    unrefused = refl;
+    unticked = refl;
+    unwoken = refl;
+    at_once = at_none now;
+    in_order = append-nil s.rest;
+    end = refl;
+  }
 
   -- one after the other
-  pub serves_both : {a b c : Served H} {came more left : List ℕ} → Serves hall a came b.rest b → Serves hall b more left c → Serves hall a (came ++ more) left c
-  serves_both {a = a} {b = b} {came = came} {more = more} {left = left} h k = record {
+  pub serves_both : {now : ℕ} {a b c : Served H} {came more left : List ℕ} → Serves hall now a came b.rest b → Serves hall now b more left c
+      → Serves hall now a (came ++ more) left c
+  serves_both {now = now} {a = a} {b = b} {came = came} {more = more} {left = left} h k = record {
     number = k.number ∙ h.number;
     peer = k.peer ∙ h.peer;
     deed = both h.deed k.deed;
@@ -77,7 +90,9 @@ module _ {H : Type 0} {hall : HallKind H} where
     no_call = rw (h.no_call, k.no_call) refl;
     unroused = rw (h.unroused, k.unroused) refl;
     unrefused = rw (h.unrefused, k.unrefused) refl;
+    unticked = rw (h.unticked, k.unticked) refl;
     unwoken = rw (h.unwoken, k.unwoken) refl;
+    at_once = at_both now h.deed.times k.deed.times h.at_once k.at_once;
     in_order =
         sym (append_assoc a.rest came more) ∙ ap (λ (x : List ℕ). x ++ more) h.in_order ∙ append_assoc h.deed.given b.rest more
         ∙ ap (λ (x : List ℕ). h.deed.given ++ x) k.in_order ∙ sym (append_assoc h.deed.given k.deed.given left);
@@ -85,49 +100,51 @@ module _ {H : Type 0} {hall : HallKind H} where
   }
 
   -- a call of its session that gave it nothing
-  pub serves_call : (s : Served H) (t : State H) (written : List ℕ) → Does hall s.session (record nothing { written = written }) t
-      → Serves hall s [] s.rest (record s { session = t })
-  serves_call s t written does = record {
+  pub serves_call : (now : ℕ) (s : Served H) (t : State H) (written : List ℕ) → Does hall s.session (record (called_at now) { written = written }) t
+      → Serves hall now s [] s.rest (record s { session = t })
+  serves_call now s t written does = record {
     number = refl;
     peer = refl;
-    deed = record nothing { written = written };
+    deed = record (called_at now) { written = written };
     runs = runs_one _ does;
     no_call = refl;
     unroused = refl;
     unrefused = refl;
+    unticked = refl;
     unwoken = refl;
+    at_once = at_one now;
     in_order = append-nil s.rest;
     end = refl;
   }
 
-  pub proceeds_none : (s : Served H) → Proceeds hall s s
-  proceeds_none s = ([], serves_none s, refl)
+  pub proceeds_none : (now : ℕ) (s : Served H) → Proceeds hall now s s
+  proceeds_none now s = ([], serves_none now s, refl)
 
-  pub proceeds_both : {a b c : Served H} → Proceeds hall a b → Proceeds hall b c → Proceeds hall a c
+  pub proceeds_both : {now : ℕ} {a b c : Served H} → Proceeds hall now a b → Proceeds hall now b c → Proceeds hall now a c
   proceeds_both h k = (_, serves_both h.1 k.1, k.2 ∙ h.2)
 
   -- it went on, and then for the last time
-  pub stops_then : {a b c : Served H} → Proceeds hall a b → Stops hall b c → Stops hall a c
+  pub stops_then : {now : ℕ} {a b c : Served H} → Proceeds hall now a b → Stops hall now b c → Stops hall now a c
   stops_then h k = (_, (k.1.0, serves_both h.1 k.1.1))
 
   -- it went on for the last time
-  pub stops_after : {a b : Served H} {came left : List ℕ} → Serves hall a came left b → StopsAfter hall a came b
+  pub stops_after : {now : ℕ} {a b : Served H} {came left : List ℕ} → Serves hall now a came left b → StopsAfter hall now a came b
   stops_after h = (_, h)
 
-  pub stops_now : {a b : Served H} {came left : List ℕ} → Serves hall a came left b → Stops hall a b
+  pub stops_now : {now : ℕ} {a b : Served H} {came left : List ℕ} → Serves hall now a came left b → Stops hall now a b
   stops_now h = (_, (_, h))
 
   -- the objects went on, or memory ran out
   pub serves_polled : {E : Type 0} (s : Served H) (t : State H) (r : Result (Unit {0}) E) (now : ℕ) → OnOk r (PollsOn hall s.session now t) → OnErr r (RunsOut hall s.session now t)
-      → Serves hall s [] s.rest (record s { session = t })
-  serves_polled s t (Ok x) now h k = serves_call s t [] (polls now h refl)
-  serves_polled s t (Err e) now h k = serves_call s t [] (runs_out now k refl)
+      → Serves hall now s [] s.rest (record s { session = t })
+  serves_polled s t (Ok x) now h k = serves_call now s t [] (polls now h refl)
+  serves_polled s t (Err e) now h k = serves_call now s t [] (runs_out now k refl)
 
   -- the peer's bytes ended, well or not
   pub serves_ended : (s : Served H) (t : State H) (r : Result (Unit {0}) ConnectionFault) (now : ℕ) → OnOk r (EndsBytes hall s.session now t)
-      → IfErr r (λ fault. EndsCut hall s.session now fault t) → Serves hall s [] s.rest (record s { session = t })
-  serves_ended s t (Ok x) now h k = serves_call s t [] (ends now h refl)
-  serves_ended s t (Err fault) now h k = serves_call s t [] (ends_inside now fault k refl)
+      → IfErr r (λ fault. EndsCut hall s.session now fault t) → Serves hall now s [] s.rest (record s { session = t })
+  serves_ended s t (Ok x) now h k = serves_call now s t [] (ends now h refl)
+  serves_ended s t (Err fault) now h k = serves_call now s t [] (ends_inside now fault k refl)
 
   -- what is over stays so where its peer is refused
   over_minded : {most now : ℕ} (s t : State H) → Minds hall most now s t → s.progress.phase ≡ phases.Over → t.progress.phase ≡ phases.Over
@@ -136,46 +153,50 @@ module _ {H : Type 0} {hall : HallKind H} where
   over_minded s t (minds_full many (refuses mid goes_on told is settles)) over = absurd (goes_on over)
 
   -- its stream took some bytes, or none
-  pub proceeds_sent : (s t : Served H) (count now : ℕ) → Sends hall s count now t → Proceeds hall s t
-  proceeds_sent s t count now (none zero same) = subst (λ (x : Served H). Proceeds hall s x) (sym same) (proceeds_none s)
+  pub proceeds_sent : (s t : Served H) (count now : ℕ) → Sends hall s count now t → Proceeds hall now s t
+  proceeds_sent s t count now (none zero same) = subst (λ (x : Served H). Proceeds hall now s x) (sym same) (proceeds_none now s)
   proceeds_sent s t count now (some sent same) =
-      subst (λ (x : Served H). Proceeds hall s x) (sym same) ([], serves_call s t.session _ (writes count now sent refl), refl)
+      subst (λ (x : Served H). Proceeds hall now s x) (sym same) ([], serves_call now s t.session _ (writes count now sent refl), refl)
 
   -- it had some of what was left
-  pub serves_rest : (s : Served H) (t : State H) (rest left : List ℕ) (count : ℕ) → left ≡ s.rest → IsFed hall s.session (take count left) t
-      → Serves hall s [] (take (length left - count) (drop count left)) (record s { session = t; rest = rest })
+  pub serves_rest : {now : ℕ} (s : Served H) (t : State H) (rest left : List ℕ) (count : ℕ) → left ≡ s.rest → IsFed hall now s.session (take count left) t
+      → Serves hall now s [] (take (length left - count) (drop count left)) (record s { session = t; rest = rest })
   serves_rest s t rest left count is fed = record {
     number = refl;
     peer = refl;
-    deed = giving (take count left) fed.0;
-    runs = fed.1;
+    deed = record nothing { given = take count left; taken = fed.0; times = fed.1 };
+    runs = fed.3;
     no_call = refl;
     unroused = refl;
     unrefused = refl;
+    unticked = refl;
     unwoken = refl;
+    at_once = fed.2;
     in_order = append-nil s.rest ∙ sym is ∙ parts left count;
     end = refl;
   }
 
   -- it had some of what came, where nothing was left
-  pub serves_came : (s : Served H) (t : State H) (rest came given left : List ℕ) → s.rest ≡ [] → came ≡ given ++ left → IsFed hall s.session given t
-      → Serves hall s came left (record s { session = t; rest = rest })
+  pub serves_came : {now : ℕ} (s : Served H) (t : State H) (rest came given left : List ℕ) → s.rest ≡ [] → came ≡ given ++ left → IsFed hall now s.session given t
+      → Serves hall now s came left (record s { session = t; rest = rest })
   serves_came s t rest came given left empty is fed = record {
     number = refl;
     peer = refl;
-    deed = giving given fed.0;
-    runs = fed.1;
+    deed = record nothing { given = given; taken = fed.0; times = fed.1 };
+    runs = fed.3;
     no_call = refl;
     unroused = refl;
     unrefused = refl;
+    unticked = refl;
     unwoken = refl;
+    at_once = fed.2;
     in_order = rw empty is;
     end = refl;
   }
 
   -- the same, where the rest is what was added to nothing
-  pub serves_added : (s : Served H) (t : State H) (rest came given left : List ℕ) → s.rest ≡ [] → rest ≡ s.rest ++ left → came ≡ given ++ left → IsFed hall s.session given t
-      → Serves hall s came rest (record s { session = t; rest = rest })
+  pub serves_added : {now : ℕ} (s : Served H) (t : State H) (rest came given left : List ℕ) → s.rest ≡ [] → rest ≡ s.rest ++ left → came ≡ given ++ left → IsFed hall now s.session given t
+      → Serves hall now s came rest (record s { session = t; rest = rest })
   serves_added s t rest came given left empty added is fed =
       serves_came s t rest came given rest empty (is ∙ ap (λ (x : List ℕ). given ++ x) (sym (added ∙ ap (λ (x : List ℕ). x ++ left) empty))) fed
 
@@ -206,8 +227,8 @@ module _ {H : Type 0} {hall : HallKind H} where
   )
 
   -- events change nothing of what is left
-  pub serves_hears : {a b c : Served H} {came left : List ℕ} → Serves hall a came left b → Hears hall b c → Serves hall a came left c
-  serves_hears {a = a} {b = b} {c = c} {left = left} h k = record {
+  pub serves_hears : {now : ℕ} {a b c : Served H} {came left : List ℕ} → Serves hall now a came left b → Hears hall b c → Serves hall now a came left c
+  serves_hears {now = now} {a = a} {b = b} {c = c} {left = left} h k = record {
     number = ap (λ (x : Served H). x.number) k.3 ∙ h.number;
     peer = ap (λ (x : Served H). x.peer) k.3 ∙ h.peer;
     deed = both h.deed (record nothing { told = k.0 });
@@ -215,7 +236,9 @@ module _ {H : Type 0} {hall : HallKind H} where
     no_call = rw (h.no_call) refl;
     unroused = rw (h.unroused) refl;
     unrefused = rw (h.unrefused) refl;
+    unticked = rw (h.unticked) refl;
     unwoken = rw (h.unwoken) refl;
+    at_once = at_both now h.deed.times [] h.at_once (at_none now);
     in_order = h.in_order ∙ ap (λ (x : List ℕ). x ++ left) (sym (append-nil h.deed.given));
     end = ap (λ (x : Served H). x.end) k.3 ∙ ap (λ known. end_after known k.0) h.end ∙ sym (end_after-both a.end h.deed.told k.0);
   }
@@ -288,7 +311,7 @@ module _ {H : Type 0} {hall : HallKind H} where
   -- ---- its end
 
   -- its stream failed
-  serves_failed : {a b : Served H} {came left : List ℕ} (failure : Option (Option ℤ)) → Serves hall a came left b → Serves hall a came left (record b { failure = failure })
+  serves_failed : {now : ℕ} {a b : Served H} {came left : List ℕ} (failure : Option (Option ℤ)) → Serves hall now a came left b → Serves hall now a came left (record b { failure = failure })
   serves_failed failure h = record {
     number = h.number;
     peer = h.peer;
@@ -297,25 +320,27 @@ module _ {H : Type 0} {hall : HallKind H} where
     no_call = h.no_call;
     unroused = h.unroused;
     unrefused = h.unrefused;
+    unticked = h.unticked;
     unwoken = h.unwoken;
+    at_once = h.at_once;
     in_order = h.in_order;
     end = h.end;
   }
 
-  pub fails_now : {a b c : Served H} (error : Error) → Proceeds hall a b → c ≡ record b { failure = Some (raw_os_error error) } → Breaks hall a error c
-  fails_now {a = a} {b = b} error h e =
-      subst (λ (x : Served H). Breaks hall a error x) (sym e) ((h.0, (b.rest, serves_failed (Some (raw_os_error error)) h.1)), inl refl)
+  pub fails_now : {now : ℕ} {a b c : Served H} (error : Error) → Proceeds hall now a b → c ≡ record b { failure = Some (raw_os_error error) } → Breaks hall now a error c
+  fails_now {now = now} {a = a} {b = b} error h e =
+      subst (λ (x : Served H). Breaks hall now a error x) (sym e) ((h.0, (b.rest, serves_failed (Some (raw_os_error error)) h.1)), inl refl)
 
   -- it went on, and then failed
-  pub fails_then : {a b c : Served H} (error : Error) → Proceeds hall a b → Breaks hall b error c → Breaks hall a error c
+  pub fails_then : {now : ℕ} {a b c : Served H} (error : Error) → Proceeds hall now a b → Breaks hall now b error c → Breaks hall now a error c
   fails_then error h k = (stops_then h k.0, k.1)
 
   -- events say nothing of its stream
-  pub fails_hears : {a b c : Served H} (error : Error) → Breaks hall a error b → Hears hall b c → Breaks hall a error c
+  pub fails_hears : {now : ℕ} {a b c : Served H} (error : Error) → Breaks hall now a error b → Hears hall b c → Breaks hall now a error c
   fails_hears {b = b} {c = c} error h k = ((h.0.0, (h.0.1.0, serves_hears h.0.1.1 k)), failed_still b c error h.1 (ap (λ (x : Served H). x.failure) k.3))
 
   -- it went on through a turn
-  pub passed : {most now : ℕ} {a refused b : Served H} (worked : Served H) (ticked minded : State H) → Proceeds hall a worked → Ticks hall worked.session now ticked
+  pub passed : {most now : ℕ} {a refused b : Served H} (worked : Served H) (ticked minded : State H) → Proceeds hall now a worked → Ticks hall worked.session now ticked
       → Minds hall most now ticked minded → refused ≡ record worked { session = minded } → Hears hall refused b → Passes hall most now a b
   passed worked ticked minded went_on went_by minds same heard = record {
     worked = worked;
@@ -355,38 +380,38 @@ module _ {H : Type 0} {hall : HallKind H} where
       (λ over. goes_on (same_phase h.hands.0 ∙ turn.hears.2 ∙ over_minded turn.ticked turn.minded turn.minds over))
 
   -- its last turn
-  pub broken_off : {a b : Served H} (most : ℕ) (error : Error) → Breaks hall a error b → Lasts hall most a b
+  pub broken_off : {now : ℕ} {a b : Served H} (most : ℕ) (error : Error) → Breaks hall now a error b → Lasts hall most now a b
   broken_off most error h = breaks_off error h
 
-  pub passed_so : {most now : ℕ} {a b : Served H} → Passes hall most now a b → Lasts hall most a b
-  passed_so {now = now} h = passes_on now h
+  pub passed_so : {most now : ℕ} {a b : Served H} → Passes hall most now a b → Lasts hall most now a b
+  passed_so h = passes_on h
 
-  lasts_number : {most : ℕ} {a b : Served H} → Lasts hall most a b → b.number ≡ a.number
+  lasts_number : {most now : ℕ} {a b : Served H} → Lasts hall most now a b → b.number ≡ a.number
   lasts_number (breaks_off error broken) = broken.0.1.1.number
-  lasts_number (passes_on now through) = passes_number through
+  lasts_number (passes_on through) = passes_number through
 
-  lasts_peer : {most : ℕ} {a b : Served H} → Lasts hall most a b → b.peer ≡ a.peer
+  lasts_peer : {most now : ℕ} {a b : Served H} → Lasts hall most now a b → b.peer ≡ a.peer
   lasts_peer (breaks_off error broken) = broken.0.1.1.peer
-  lasts_peer (passes_on now through) = passes_peer through
+  lasts_peer (passes_on through) = passes_peer through
 
   -- it is closed, and keeps its number and peer
-  closed : {most : ℕ} {woken : List Waker} (old last new : Served H) (end : End) → last.number ≡ old.number → last.peer ≡ old.peer → EndsBy hall most old woken end
-      → new ≡ record last { end = None } → Closes hall most old woken end new
+  closed : {most now : ℕ} {woken : List Waker} (old last new : Served H) (end : End) → last.number ≡ old.number → last.peer ≡ old.peer → EndsBy hall most now old woken end
+      → new ≡ record last { end = None } → Closes hall most now old woken end new
   closed old last new end number peer by is = (ap (λ (x : Served H). x.number) is ∙ number, ap (λ (x : Served H). x.peer) is ∙ peer, by)
 
   -- once all are handed out
   pub closes : {most now : ℕ} {woken : List Waker} (old last new : Served H) (end : End) → Works hall most now old woken last → IsWhy hall most last end
-      → new ≡ record last { end = None } → Closes hall most old woken end new
-  closes {now = now} old last new end h why is = closed old last new end (works_number h) (works_peer h) (ends_whole now last h why) is
+      → new ≡ record last { end = None } → Closes hall most now old woken end new
+  closes old last new end h why is = closed old last new end (works_number h) (works_peer h) (ends_whole last h why) is
 
   -- as memory ran out
   pub closes_short : {most now : ℕ} {woken : List Waker} (old last new : Served H) (end : End) → Works hall most now old woken last → IsShort last end
-      → new ≡ record last { end = None } → Closes hall most old woken end new
+      → new ≡ record last { end = None } → Closes hall most now old woken end new
   closes_short old last new end h short is = closes old last new end h (is_short short) is
 
   -- as its stream failed, or memory ran out
-  pub closes_failed : {most : ℕ} {woken : List Waker} (old last new : Served H) (error : Error) (end : End) → Fails hall most old woken error last
-      → end ≡ end_or last.end (all_ends.Failed error) → new ≡ record last { end = None } → Closes hall most old woken end new
+  pub closes_failed : {most now : ℕ} {woken : List Waker} (old last new : Served H) (error : Error) (end : End) → Fails hall most now old woken error last
+      → end ≡ end_or last.end (all_ends.Failed error) → new ≡ record last { end = None } → Closes hall most now old woken end new
   closes_failed old last new error end (fails_whole served breaks hands) why is =
       closed old last new end (ap (λ (x : Served H). x.number) hands.1 ∙ breaks.0.1.1.number) (ap (λ (x : Served H). x.peer) hands.1 ∙ breaks.0.1.1.peer)
       (ends_broken served last error breaks hands why) is

@@ -33,7 +33,7 @@ module _ {H : Type 0} {hall : HallKind H} where
   turned old new (rests r) within = same old.budget new.budget r.budget within
   turned old new (goes_on key now one next woken was stays puts ended note added awaits) within =
       noted old.budget new.budget (number_of key) (kept_by hall next) stays.within note within
-  turned old new (ends key one woken end was by puts ended forgets added due) within = forgotten old.budget new.budget (number_of key) forgets within
+  turned old new (ends key now one woken end was by puts ended forgets added due) within = forgotten old.budget new.budget (number_of key) forgets within
   turned old new (wakes waker one next first served rouses puts ended as_much awaits) within = same old.budget new.budget as_much within
   turned old new (wakes_none waker first unserved still ended as_much due) within = same old.budget new.budget as_much within
   turned old new (wakes_short waker one end first served short puts ended forgets due) within =

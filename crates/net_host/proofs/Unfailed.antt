@@ -38,7 +38,7 @@ module _ {H : Type 0} {hall : HallKind H} where
   turned old new (goes_on key now one next woken was stays puts ended note added awaits) none =
       let had : one.failure ≡ None = subst (λ (s : Option (Served H)). IsUnfailed s) was (none key) in
       unfailed_puts old.served new.served key (Some next) puts none (works_failure stays.works ∙ had)
-  turned old new (ends key one woken end was by puts ended forgets added due) none = unfailed_puts old.served new.served key None puts none tt
+  turned old new (ends key now one woken end was by puts ended forgets added due) none = unfailed_puts old.served new.served key None puts none tt
   turned old new (wakes waker one next first served rouses puts ended budget awaits) none =
       let had : one.failure ≡ None = subst (λ (s : Option (Served H)). IsUnfailed s) served.there (none (key_of waker.session)) in
       unfailed_puts old.served new.served (key_of waker.session) (Some next) puts none (ap (λ (x : Served H). x.failure) rouses.1 ∙ had)

@@ -157,7 +157,7 @@ module _ {H : Type 0} (hall : HallKind H) where
     goes_on : (key now : ℕ) (one next : Served H) (woken : List Waker) → old.served key ≡ Some one → Stays hall (most_for old key) now one woken next
         → Puts old.served key (Some next) new.served → new.ended ≡ old.ended → Notes old key (kept_by hall next) new → new.wakes ≡ old.wakes ++ woken
         → Awaits old next new → Turns old new
-    ends : (key : ℕ) (one : Served H) (woken : List Waker) (end : End) → old.served key ≡ Some one → EndsBy hall (most_for old key) one woken end
+    ends : (key now : ℕ) (one : Served H) (woken : List Waker) (end : End) → old.served key ≡ Some one → EndsBy hall (most_for old key) now one woken end
         → Puts old.served key None new.served → QueuesEnd old one end new → Forgets old key new → new.wakes ≡ old.wakes ++ woken
         → new.due ≡ old.due → Turns old new
     wakes : (waker : Waker) (one next : Served H) → old.wakes ≡ waker ∷ new.wakes → IsServed old waker one → Rouses hall waker.object one next

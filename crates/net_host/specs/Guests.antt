@@ -21,12 +21,14 @@ use Rattle.net_sockets.specs.declared.listener.Peer.{Peer}
 use Rattle.net_sockets.specs.declared.nonblocking_stream.Got.{Got}
 use Rattle.net_sockets.specs.declared.nonblocking_stream.Got.TheVariants as gots
 use Rattle.net_sockets.specs.Reading.{failure_of, may_read, may_write}
+use Rattle.net_host.specs.declared.allowance.Allowance.{Allowance}
 use Rattle.net_host.specs.declared.end.End.{End}
 use Rattle.net_host.specs.declared.end.End.TheVariants as ends
 use Rattle.net_host.specs.declared.guest.Guest.{Guest}
 use Rattle.net_host.specs.declared.pending.PendingConnection.{PendingConnection}
 use Rattle.net_host.specs.declared.guest.Turn.{Turn}
 use Rattle.net_host.specs.declared.guest.Turn.TheVariants as turns
+use Rattle.net_host.specs.Feeding.{AreAt}
 use Rattle.net_host.specs.Timing.{ComesBy}
 use Rattle.net_host.specs.Waking.{HandsAll, HandsOut}
 
@@ -131,9 +133,9 @@ pub data IsWhy {H : Type 0} (hall : HallKind H) (most : ℕ) (last : Served H) (
 
 module _ {H : Type 0} (hall : HallKind H) where
   -- A connection went on. Its session was given what was left of its stream and what came of it, in order and each byte once, but what is left now. Nothing else
-  -- was done with its session: the program made no call and woke no object, its peer wasn't refused, and nobody was handed out who is to be woken. What is known of
-  -- its end is what events said.
-  pub record Serves (old : Served H) (came left : List ℕ) (new : Served H) : Type 0 where
+  -- was done with its session: the program made no call and woke no object, its peer wasn't refused, no time passed, and nobody was handed out who is to be woken.
+  -- All that was done with it was done at this time. What is known of its end is what events said.
+  pub record Serves (now : ℕ) (old : Served H) (came left : List ℕ) (new : Served H) : Type 0 where
     pub number : new.number ≡ old.number
     pub peer : new.peer ≡ old.peer
     pub deed : Deed
@@ -141,29 +143,31 @@ module _ {H : Type 0} (hall : HallKind H) where
     pub no_call : deed.called ≡ []
     pub unroused : deed.roused ≡ []
     pub unrefused : deed.refused ≡ []
+    pub unticked : deed.ticked ≡ []
     pub unwoken : deed.woken ≡ []
+    pub at_once : AreAt now deed.times
     pub in_order : old.rest ++ came ≡ deed.given ++ left
     pub end : new.end ≡ end_after old.end deed.told
 
   -- it went on, keeps what is left, and its stream didn't fail
-  abbrev pub Proceeds : Served H → Served H → Type 0
-  Proceeds old new = (came : List ℕ) × Serves old came new.rest new × (new.failure ≡ old.failure)
+  abbrev pub Proceeds : ℕ → Served H → Served H → Type 0
+  Proceeds now old new = (came : List ℕ) × Serves now old came new.rest new × (new.failure ≡ old.failure)
 
   -- it went on for the last time, with what came of its stream
-  abbrev pub StopsAfter : Served H → List ℕ → Served H → Type 0
-  StopsAfter old came new = (left : List ℕ) × Serves old came left new
+  abbrev pub StopsAfter : ℕ → Served H → List ℕ → Served H → Type 0
+  StopsAfter now old came new = (left : List ℕ) × Serves now old came left new
 
   -- it did, as memory ran out
-  abbrev pub StopsShort : Served H → List ℕ → Error → Served H → Type 0
-  StopsShort old came error new = StopsAfter old came new × (error_kind error ≡ kinds.OutOfMemory)
+  abbrev pub StopsShort : ℕ → Served H → List ℕ → Error → Served H → Type 0
+  StopsShort now old came error new = StopsAfter now old came new × (error_kind error ≡ kinds.OutOfMemory)
 
   -- it went on for the last time
-  abbrev pub Stops : Served H → Served H → Type 0
-  Stops old new = (came : List ℕ) × StopsAfter old came new
+  abbrev pub Stops : ℕ → Served H → Served H → Type 0
+  Stops now old new = (came : List ℕ) × StopsAfter now old came new
 
   -- it went on for the last time, as its stream failed with this error, or memory ran out
-  abbrev pub Breaks : Served H → Error → Served H → Type 0
-  Breaks old error new = Stops old new × HasFailed new error
+  abbrev pub Breaks : ℕ → Served H → Error → Served H → Type 0
+  Breaks now old error new = Stops now old new × HasFailed new error
 
   -- Events of its session were handed out, and nothing else was done. What is known of its end is what they said.
   abbrev pub Hears : Served H → Served H → Type 0
@@ -192,7 +196,7 @@ module _ {H : Type 0} (hall : HallKind H) where
   -- It went on; time passed for its session, up to this time; where more was kept for it than this its peer was refused; and events were handed out.
   pub record Passes (most now : ℕ) (old new : Served H) : Type 0 where
     pub worked : Served H
-    pub proceeds : Proceeds old worked
+    pub proceeds : Proceeds now old worked
     pub ticked : State H
     pub ticks : Ticks hall worked.session now ticked
     pub minded : State H
@@ -206,23 +210,23 @@ module _ {H : Type 0} (hall : HallKind H) where
     pub hands : HandsOver told woken new
 
   -- It went on for the last time, before anybody was handed out who is to be woken: its stream failed, or memory ran out; or nothing failed yet.
-  pub data Lasts (most : ℕ) (old new : Served H) : Type 0 where
-    breaks_off : (error : Error) → Breaks old error new → Lasts most old new
-    passes_on : (now : ℕ) → Passes most now old new → Lasts most old new
+  pub data Lasts (most now : ℕ) (old new : Served H) : Type 0 where
+    breaks_off : (error : Error) → Breaks now old error new → Lasts most now old new
+    passes_on : Passes most now old new → Lasts most now old new
 
   -- It went on for the last time, as its stream failed with this error, or memory ran out. All objects of others that are to be woken were handed out; or memory ran
   -- out for that, once these were.
-  pub data Fails (most : ℕ) (old : Served H) (woken : List Waker) (error : Error) (new : Served H) : Type 0 where
-    fails_whole : (last : Served H) → Breaks old error last → HandsOver last woken new → Fails most old woken error new
-    fails_short : (last : Served H) → Lasts most old last → HandsSome last woken new → error_kind error ≡ kinds.OutOfMemory → Fails most old woken error new
+  pub data Fails (most now : ℕ) (old : Served H) (woken : List Waker) (error : Error) (new : Served H) : Type 0 where
+    fails_whole : (last : Served H) → Breaks now old error last → HandsOver last woken new → Fails most now old woken error new
+    fails_short : (last : Served H) → Lasts most now old last → HandsSome last woken new → error_kind error ≡ kinds.OutOfMemory → Fails most now old woken error new
 
   -- It went on for the last time, and this is how it ended: its stream failed, or memory ran out; or nothing failed, and this is why. All objects of others that are
   -- to be woken were handed out; or memory ran out for that, once these were.
-  pub data EndsBy (most : ℕ) (old : Served H) (woken : List Waker) (end : End) : Type 0 where
-    ends_broken : (served last : Served H) (error : Error) → Breaks old error served → HandsOver served woken last → end ≡ end_or last.end (ends.Failed error)
-        → EndsBy most old woken end
-    ends_whole : (now : ℕ) (last : Served H) → Works most now old woken last → IsWhy hall most last end → EndsBy most old woken end
-    ends_short : (served last : Served H) → Lasts most old served → HandsSome served woken last → IsShort last end → EndsBy most old woken end
+  pub data EndsBy (most now : ℕ) (old : Served H) (woken : List Waker) (end : End) : Type 0 where
+    ends_broken : (served last : Served H) (error : Error) → Breaks now old error served → HandsOver served woken last → end ≡ end_or last.end (ends.Failed error)
+        → EndsBy most now old woken end
+    ends_whole : (last : Served H) → Works most now old woken last → IsWhy hall most last end → EndsBy most now old woken end
+    ends_short : (served last : Served H) → Lasts most now old served → HandsSome served woken last → IsShort last end → EndsBy most now old woken end
 
   -- It went on; by this time its session met no limit, but the one of which its peer is told. No more is kept for it than this.
   pub record Stays (most now : ℕ) (old : Served H) (woken : List Waker) (new : Served H) : Type 0 where
@@ -233,12 +237,12 @@ module _ {H : Type 0} (hall : HallKind H) where
     pub within : kept_by hall new ≤ most
 
   -- it is closed, and has its number and its peer
-  abbrev pub Closes : ℕ → Served H → List Waker → End → Served H → Type 0
-  Closes most old woken end new = (new.number ≡ old.number) × (new.peer ≡ old.peer) × EndsBy most old woken end
+  abbrev pub Closes : ℕ → ℕ → Served H → List Waker → End → Served H → Type 0
+  Closes most now old woken end new = (new.number ≡ old.number) × (new.peer ≡ old.peer) × EndsBy most now old woken end
 
   -- what a turn at this time does with it, where so many bytes may be kept for it
   abbrev pub Visits : ℕ → ℕ → Served H → List Waker → Turn → Served H → Type 0
-  Visits most now old woken (turns.Over end) new = Closes most old woken end new
+  Visits most now old woken (turns.Over end) new = Closes most now old woken end new
   Visits most now old woken turns.More new = Stays most now old woken new
   Visits most now old woken turns.Waits new = Stays most now old woken new
 
@@ -252,20 +256,20 @@ Adds before P after = (woken : List Waker) × (after ≡ before ++ woken) × P w
 
 -- Of a turn and its parts: whom its objects want to be woken comes after those that were to be before.
 module _ {H : Type 0} (hall : HallKind H) where
-  abbrev pub VisitsAdding : ℕ → ℕ → Served H → List Waker → Turn → Served H → List Waker → Type 0
-  VisitsAdding most now old before turn new after = Adds before (λ woken. Visits hall most now old woken turn new) after
+  abbrev pub VisitsAdding : Allowance → Served H → List Waker → Turn → Served H → List Waker → Type 0
+  VisitsAdding allowed old before turn new after = Adds before (λ woken. Visits hall allowed.kept allowed.now old woken turn new) after
 
-  abbrev pub ClosesAdding : ℕ → Served H → List Waker → End → Served H → List Waker → Type 0
-  ClosesAdding most old before end new after = Adds before (λ woken. Closes hall most old woken end new) after
+  abbrev pub ClosesAdding : Allowance → Served H → List Waker → End → Served H → List Waker → Type 0
+  ClosesAdding allowed old before end new after = Adds before (λ woken. Closes hall allowed.kept allowed.now old woken end new) after
 
-  abbrev pub StaysAdding : ℕ → ℕ → Served H → List Waker → Served H → List Waker → Type 0
-  StaysAdding most now old before new after = Adds before (λ woken. Stays hall most now old woken new) after
+  abbrev pub StaysAdding : Allowance → Served H → List Waker → Served H → List Waker → Type 0
+  StaysAdding allowed old before new after = Adds before (λ woken. Stays hall allowed.kept allowed.now old woken new) after
 
-  abbrev pub WorksAdding : ℕ → ℕ → Served H → List Waker → Served H → List Waker → Type 0
-  WorksAdding most now old before new after = Adds before (λ woken. Works hall most now old woken new) after
+  abbrev pub WorksAdding : Allowance → Served H → List Waker → Served H → List Waker → Type 0
+  WorksAdding allowed old before new after = Adds before (λ woken. Works hall allowed.kept allowed.now old woken new) after
 
-  abbrev pub FailsAdding : ℕ → Served H → List Waker → Error → Served H → List Waker → Type 0
-  FailsAdding most old before error new after = Adds before (λ woken. Fails hall most old woken error new) after
+  abbrev pub FailsAdding : Allowance → Served H → List Waker → Error → Served H → List Waker → Type 0
+  FailsAdding allowed old before error new after = Adds before (λ woken. Fails hall allowed.kept allowed.now old woken error new) after
 
 -- a budget notes how much is kept for the connection of this number, or forgets it
 abbrev pub noting : Keeping → ℕ → ℕ → Keeping

@@ -147,7 +147,7 @@ impl<H: Hall> Guest<H> {
         wakes: &mut VecDeque<Waker>,
         allowed: Allowance,
     ) -> Turn
-        ensures visits { VisitsAdding H.hall allowed.kept allowed.now (served_of self.old) wakes.old.items result (served_of self.new) wakes.new.items }
+        ensures visits { VisitsAdding H.hall allowed (served_of self.old) wakes.old.items result (served_of self.new) wakes.new.items }
         ensures accounts { Accounts result allowed.account (kept_by H.hall (served_of self.new)) budget.old budget.new }
     {
         if let Some(end) = self.visit(piece, wakes, allowed) {
@@ -173,8 +173,8 @@ impl<H: Hall> Guest<H> {
         wakes: &mut VecDeque<Waker>,
         allowed: Allowance,
     ) -> Option<End>
-        ensures closes { IfSome result (λ end. ClosesAdding H.hall allowed.kept (served_of self.old) wakes.old.items end (served_of self.new) wakes.new.items) }
-        ensures stays { IfNone result (StaysAdding H.hall allowed.kept allowed.now (served_of self.old) wakes.old.items (served_of self.new) wakes.new.items) }
+        ensures closes { IfSome result (λ end. ClosesAdding H.hall allowed (served_of self.old) wakes.old.items end (served_of self.new) wakes.new.items) }
+        ensures stays { IfNone result (StaysAdding H.hall allowed (served_of self.old) wakes.old.items (served_of self.new) wakes.new.items) }
     {
         if let Err(error) = self.work(piece, wakes, allowed) {
             return Some(self.end_or(End::Failed(error)));
@@ -196,8 +196,8 @@ impl<H: Hall> Guest<H> {
         wakes: &mut VecDeque<Waker>,
         allowed: Allowance,
     ) -> io::Result<()>
-        ensures works { OnOk result (WorksAdding H.hall allowed.kept allowed.now (served_of self.old) wakes.old.items (served_of self.new) wakes.new.items) }
-        ensures fails { IfErr result (λ error. FailsAdding H.hall allowed.kept (served_of self.old) wakes.old.items error (served_of self.new) wakes.new.items) }
+        ensures works { OnOk result (WorksAdding H.hall allowed (served_of self.old) wakes.old.items (served_of self.new) wakes.new.items) }
+        ensures fails { IfErr result (λ error. FailsAdding H.hall allowed (served_of self.old) wakes.old.items error (served_of self.new) wakes.new.items) }
     {
         if let Err(error) = self.move_on(piece, allowed) {
             // What happened before the stream failed counts.
@@ -242,8 +242,8 @@ impl<H: Hall> Guest<H> {
 
     /// Writes what waits to be written, takes one piece or polls the objects once, and writes what that leads to.
     fn move_on(&mut self, piece: &mut [u8], allowed: Allowance) -> io::Result<()>
-        ensures goes_on { OnOk result (Proceeds H.hall (served_of self.old) (served_of self.new)) }
-        ensures fails { IfErr result (λ error. Breaks H.hall (served_of self.old) error (served_of self.new)) }
+        ensures goes_on { OnOk result (Proceeds H.hall allowed.now (served_of self.old) (served_of self.new)) }
+        ensures fails { IfErr result (λ error. Breaks H.hall allowed.now (served_of self.old) error (served_of self.new)) }
     {
         // First what waits, so that more may be taken.
         self.write(allowed.now)?;
@@ -253,8 +253,8 @@ impl<H: Hall> Guest<H> {
 
     /// Takes what is left of a piece, or the next one, or polls the objects.
     fn go_on(&mut self, piece: &mut [u8], allowed: Allowance) -> io::Result<()>
-        ensures goes_on { OnOk result (Proceeds H.hall (served_of self.old) (served_of self.new)) }
-        ensures fails { IfErr result (λ error. Breaks H.hall (served_of self.old) error (served_of self.new)) }
+        ensures goes_on { OnOk result (Proceeds H.hall allowed.now (served_of self.old) (served_of self.new)) }
+        ensures fails { IfErr result (λ error. Breaks H.hall allowed.now (served_of self.old) error (served_of self.new)) }
     {
         if !self.can_take() {
             // Why it failed an event says.
@@ -275,8 +275,8 @@ impl<H: Hall> Guest<H> {
     /// Reads a piece, takes of it what may be taken, and keeps the rest.
     fn read(&mut self, piece: &mut [u8], allowed: Allowance) -> io::Result<()>
         requires { self.old.rest.items ≡ [] }
-        ensures goes_on { OnOk result (Proceeds H.hall (served_of self.old) (served_of self.new)) }
-        ensures fails { IfErr result (λ error. Breaks H.hall (served_of self.old) error (served_of self.new)) }
+        ensures goes_on { OnOk result (Proceeds H.hall allowed.now (served_of self.old) (served_of self.new)) }
+        ensures fails { IfErr result (λ error. Breaks H.hall allowed.now (served_of self.old) error (served_of self.new)) }
     {
         let got = self.stream.read(piece)?;
         self.take(got, piece, allowed)
@@ -286,8 +286,8 @@ impl<H: Hall> Guest<H> {
     fn take(&mut self, got: Got, piece: &[u8], allowed: Allowance) -> io::Result<()>
         requires empty { self.old.rest.items ≡ [] }
         requires fits { Fits got (length piece.now) }
-        ensures goes_on { OnOk result (Serves H.hall (served_of self.old) (came_by got piece.now) self.new.rest.items (served_of self.new)) }
-        ensures stops { IfErr result (λ error. StopsShort H.hall (served_of self.old) (came_by got piece.now) error (served_of self.new)) }
+        ensures goes_on { OnOk result (Serves H.hall allowed.now (served_of self.old) (came_by got piece.now) self.new.rest.items (served_of self.new)) }
+        ensures stops { IfErr result (λ error. StopsShort H.hall allowed.now (served_of self.old) (came_by got piece.now) error (served_of self.new)) }
         ensures same { self.new.stream ≡ self.old.stream }
     {
         match got {
@@ -308,8 +308,8 @@ impl<H: Hall> Guest<H> {
 
     /// Writes as much as the stream takes.
     fn write(&mut self, now: u64) -> io::Result<()>
-        ensures goes_on { OnOk result (Proceeds H.hall (served_of self.old) (served_of self.new)) }
-        ensures fails { IfErr result (λ error. Breaks H.hall (served_of self.old) error (served_of self.new)) }
+        ensures goes_on { OnOk result (Proceeds H.hall now (served_of self.old) (served_of self.new)) }
+        ensures fails { IfErr result (λ error. Breaks H.hall now (served_of self.old) error (served_of self.new)) }
     {
         for _ in 0..u64::MAX {
             if !self.can_write() {
@@ -431,7 +431,7 @@ pub(crate) fn session_number(number: u64, key: usize) -> u64
 /// Gives a session these bytes, within so many messages and until more is kept for it than it is allowed, and says how many were taken.
 fn feed<H: Hall>(session: &mut Session<H>, piece: &[u8], allowed: Allowance) -> usize
     ensures few { result ≤ length piece.now }
-    ensures fed { IsFed H.hall (state_of session.old) (take result piece.now) (state_of session.new) }
+    ensures fed { IsFed H.hall allowed.now (state_of session.old) (take result piece.now) (state_of session.new) }
 {
     let mut left = piece;
     for _ in 0..allowed.messages {
@@ -448,7 +448,7 @@ fn feed<H: Hall>(session: &mut Session<H>, piece: &[u8], allowed: Allowance) -> 
 /// Gives a session these bytes up to the end of a message, and says how many were taken: none at a fault, of which an event tells.
 fn feed_next<H: Hall>(session: &mut Session<H>, piece: &[u8], now: u64) -> usize
     ensures few { result ≤ length piece.now }
-    ensures fed { IsFed H.hall (state_of session.old) (take result piece.now) (state_of session.new) }
+    ensures fed { IsFed H.hall now (state_of session.old) (take result piece.now) (state_of session.new) }
 {
     match session.receive(piece, now) {
         Ok(count) => count,

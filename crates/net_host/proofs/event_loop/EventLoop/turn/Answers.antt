@@ -35,7 +35,7 @@ pub returns-in-Over-clause-turns : goal.returns-in-Over-clause-turns
 returns-in-Over-clause-turns g c =
     let over = rw (c.allowed.ensures, c.number_of-account.ensures) at c.in-Over.ensures.visits in
     let is = ended_as c.ended-ended.result _ _ _ _ c.in-Over.end c.ended-ended.ensures over.2.0 over.2.1 in
-    ends c.in-Some.key (served_of c.in-Some-get_mut.guest.now) over.0 c.in-Over.end (sym (ap (λ o. option_map served_of o) c.in-Some-get_mut.ensures.value)) over.2.2
+    ends c.in-Some.key c.now.result (served_of c.in-Some-get_mut.guest.now) over.0 c.in-Over.end (sym (ap (λ o. option_map served_of o) c.in-Some-get_mut.ensures.value)) over.2.2
     (seen_taken c.args.self.now.guests c.close.new.self.guests _ c.in-Some-get_mut.guest.now c.turn.new.self c.in-Some-get_mut.ensures.value c.close.ensures.updates)
     (rw c.reserve.ensures.items at (c.close.ensures.ended ∙ ap (λ x. c.reserve.new.self.items ++ x ∷ []) is))
     (rw (← c.number_of-account.ensures) (c.close.ensures.budget ∙ c.in-Over.ensures.accounts)) (ap (λ w. w.items) c.close.ensures.wakes ∙ over.1) (ap (λ t. t.sweep_at) c.close.ensures.time)

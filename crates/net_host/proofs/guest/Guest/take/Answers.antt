@@ -16,7 +16,7 @@ returns-in_ok-extend_from_slice-in-Bytes-clause-goes_on g c =
     (serves_added (served_of c.args.self.now) _ _ _ _ _ c.requires.empty c.in_ok-extend_from_slice-in-Bytes.ensures.items (parts _ c.feed-count.result) c.feed-count.ensures.fed)
 
 pub returns-in-Nothing-clause-goes_on : goal.returns-in-Nothing-clause-goes_on
-returns-in-Nothing-clause-goes_on g c = rw c.in-Nothing.is (serves_none (served_of c.args.self.now))
+returns-in-Nothing-clause-goes_on g c = rw c.in-Nothing.is (serves_none c.args.allowed.now (served_of c.args.self.now))
 
 pub returns-in-End-clause-goes_on : goal.returns-in-End-clause-goes_on
 returns-in-End-clause-goes_on g c = rw c.in-End.is (serves_ended (served_of c.args.self.now) _ c.end.result _ c.end.ensures.ends c.end.ensures.cut)
