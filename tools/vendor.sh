@@ -1,7 +1,7 @@
 #!/usr/bin/env bash
-# tools/vendor.sh [--check] FOLDER [CRATE..]    puts what a service needs into FOLDER, a repository of its own: jamdrosek, net_host and net_sockets,
-#                                               or these crates, all crates below them, their lines of crates.txt, HANDLES, and the scripts that
-#                                               compile, prove and run programs.
+# tools/vendor.sh [--check] FOLDER [CRATE..]    puts what a service needs into FOLDER, a repository of its own: jamdrosek, or these crates, all
+#                                               crates below them, their lines of crates.txt, HANDLES, and the scripts that compile, prove
+#                                               and run programs.
 #
 # FOLDER/jamdrosek.version names the commit that they are from, with a checksum. A later run replaces them by newer ones. It stops if one of
 # them was changed in FOLDER. With --check it only says whether they are as they were put there.
@@ -38,7 +38,7 @@ elif [ -n "$checks" ]; then
     fail "$to has no jamdrosek.version"
 fi
 [ -z "$checks" ] || { say "$to has the files of commit $(field commit), unchanged"; exit 0; }
-[ $# -gt 0 ] || set -- jamdrosek net_host net_sockets
+[ $# -gt 0 ] || set -- jamdrosek
 read_crates
 closure "$@"
 [ ! -e "$to/jamdrosek.version" ] || remove

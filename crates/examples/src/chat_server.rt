@@ -4,10 +4,9 @@ use chat::{
     ChatJoinCall, ChatServant, ChatServer, ListenerClient, MemberClient, MemberSayCall,
     MemberServant, MemberServer,
 };
+use jamdrosek::host::{Host, HostPlan, Listener, News};
 use jamdrosek::interfaces::{MethodFault, MethodResult, ServiceObject};
 use jamdrosek::server::{Any2, Ask, Family, Here, Waker};
-use net_host::{Host, HostPlan, News};
-use net_sockets::Listener;
 use std::alloc::Global;
 use std::cell::RefCell;
 use std::collections::BTreeMap;

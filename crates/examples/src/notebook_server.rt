@@ -1,9 +1,8 @@
 //! Serves notes to many clients at once, over TCP. A call makes a page, and watchers are told of each new note.
 
+use jamdrosek::host::{Host, HostPlan, Listener, News};
 use jamdrosek::interfaces::{MethodFault, MethodResult, ServiceObject, failed};
 use jamdrosek::server::{Any2, Ask, Family, Here, Waker};
-use net_host::{Host, HostPlan, News};
-use net_sockets::Listener;
 use notebook::{
     NotebookAddCall, NotebookOpenCall, NotebookServant, NotebookServer, NotebookWatchCall,
     PageClient, PageReadCall, PageServant, PageServer, WatcherClient,

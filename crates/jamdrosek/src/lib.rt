@@ -128,8 +128,7 @@
 //!
 //! # Serve many connections
 //!
-//! A `Host` (crates net_host and net_sockets) serves many connections in one thread, over TCP or a Unix socket. Give each one its objects
-//! when it has come:
+//! A `Host` serves many connections in one thread, over TCP or a Unix socket. Give each one its objects when it has come:
 //!
 //! ```rust crates/examples/src/notebook_server.rt
 //! let mut host = Host::new(rt, HostPlan::standard(), listener)?;
@@ -314,8 +313,8 @@
 //!
 //! ```text
 //! words ── tree ─┬─ reading ── fields ── message ─┬─ vat ────┬─ server, interfaces
-//!                └─ writing ──────────────────────┤          ├─ connection ─┬─ client
-//!                                                 │          │              └─ session
+//!                └─ writing ──────────────────────┤          ├─ connection ── session ─┬─ client
+//!                                                 │          │                         └─ host
 //! packed ── frame ────────────────────────────────┴─ stream ─┴─ relay
 //! ```
 //!
@@ -331,10 +330,11 @@
 //! - `connection`: that end with its frames: bytes come in, bytes go out.
 //! - `session`: that with its objects, limits and time, for an event loop of yours.
 //! - `server`: objects served to the peer of one connection.
+//! - `host`: objects served to many connections, over TCP or a Unix socket.
 //! - `client`: the peer's objects called over one connection.
 //! - `interfaces`: objects and calls by the names of a schema.
 //!
-//! Each module but `vat`, `connection`, `session`, `server`, `client` and `interfaces` is one crate, whole: `words` is cp_words,
+//! Each module but `vat`, `connection`, `session`, `server`, `host`, `client` and `interfaces` is one crate, whole: `words` is cp_words,
 //! `message` is cp_rpc, and any other has its crate's name. The names that most programs need are here too. `docs/PROVED.md` lists
 //! the guarantees of each.
 //!
@@ -346,6 +346,7 @@
 
 pub mod client;
 pub mod connection;
+pub mod host;
 pub mod interfaces;
 pub mod server;
 pub mod session;
