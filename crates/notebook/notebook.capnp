@@ -10,6 +10,9 @@ interface Notebook {
 
   watch @2 (watcher :Watcher) -> ();
   # Tells a watcher of each note that is added from now on.
+
+  next @3 () -> (page :Page);
+  # The page of the note that is added next. Calls of it wait for that note.
 }
 
 interface Page {

@@ -1,9 +1,10 @@
-// Clients of a notebook by the reference library. Usage: client WORD PORT COUNT [..], with the words
-//   pages PORT ROUNDS: adds a note, and opens, reads and drops a page ROUNDS times; then keeps three pages, and goes
-//   hold PORT PAGES: opens so many pages and keeps them all, and then drops one after another
-//   watch PORT NOTES: watches, and then is silent until it was told of NOTES notes
-//   add PORT NOTES MS: adds NOTES notes, one each MS milliseconds; the text of each is the time, in microseconds
-//   many PORT CLIENTS NOTES: CLIENTS connections that each watch and keep a page. One adds NOTES notes, of which all are told, and all go
+// Clients of a notebook by the reference library. Usage: client WORD ADDRESS COUNT [..], with ADDRESS as HOST:PORT or unix:PATH, and the words
+//   pages ADDRESS ROUNDS: adds a note, and opens, reads and drops a page ROUNDS times; then keeps three pages, and goes
+//   next ADDRESS ROUNDS: asks for the page of the next note ROUNDS times, calls it before and after that note is added, and drops it
+//   hold ADDRESS PAGES: opens so many pages and keeps them all, and then drops one after another
+//   watch ADDRESS NOTES: watches, and then is silent until it was told of NOTES notes
+//   add ADDRESS NOTES MS: adds NOTES notes, one each MS milliseconds; the text of each is the time, in microseconds
+//   many ADDRESS CLIENTS NOTES: CLIENTS connections that each watch and keep a page. One adds NOTES notes, of which all are told, and all go
 #include "notebook.capnp.h"
 #include <capnp/ez-rpc.h>
 #include <kj/async-io.h>
@@ -104,6 +105,26 @@ static void pages(capnp::EzRpcClient& client, int rounds) {
   for (auto& each : kept) printf("kept: %s\n", each.readRequest().send().wait(scope).getText().cStr());
 }
 
+// Asks for the page of the next note, reads it, adds that note, and reads it again once it is there. Before the note is added the client
+// waits for the promise of the page in every other round: else all leaves in one go.
+static bool promised(Notebook::Client& notebook, bool waits, kj::StringPtr text, kj::WaitScope& scope) {
+  auto asked = notebook.nextRequest().send();
+  Page::Client page = asked.getPage();
+  if (waits) page = asked.wait(scope).getPage();
+  auto early = page.readRequest().send();
+  add(notebook, text, scope);
+  if (early.wait(scope).getText() != text) return false;
+  page.whenResolved().wait(scope);
+  return page.readRequest().send().wait(scope).getText() == text;
+}
+
+static void next(capnp::EzRpcClient& client, int rounds) {
+  auto notebook = client.getMain<Notebook>();
+  int right = 0;
+  for (int at = 0; at < rounds; at++) right += promised(notebook, at % 2 == 0, kj::str("note ", at), client.getWaitScope());
+  printf("%d promised pages were right\n", right);
+}
+
 // Opens so many pages, keeps them, and drops them; each tenth of them ends with a call that is answered.
 static void hold(capnp::EzRpcClient& client, size_t count) {
   auto& scope = client.getWaitScope();
@@ -141,12 +162,12 @@ struct One {
   kj::Maybe<Page::Client> kept;
 };
 
-static void many(kj::StringPtr address, int port, size_t clients, size_t notes) {
+static void many(kj::StringPtr address, size_t clients, size_t notes) {
   auto told = kj::newPromiseAndFulfiller<void>();
   kj::Vector<One> all;
   Heard heard{{}, clients * notes, kj::mv(told.fulfiller)};
   for (size_t at = 0; at < clients; at++) {
-    auto client = kj::heap<capnp::EzRpcClient>(address, port);
+    auto client = kj::heap<capnp::EzRpcClient>(address);
     auto notebook = client->getMain<Notebook>();
     all.add(One{kj::mv(client), kj::mv(notebook), nullptr});
   }
@@ -169,13 +190,14 @@ int main(int argc, char** argv) {
   if (argc < 4) return 2;
   setvbuf(stdout, nullptr, _IOLBF, 0);
   std::string word = argv[1];
-  int port = atoi(argv[2]), count = atoi(argv[3]), last = argc > 4 ? atoi(argv[4]) : 0;
+  int count = atoi(argv[3]), last = argc > 4 ? atoi(argv[4]) : 0;
   if (word == "many") {
-    many("127.0.0.1", port, count, last);
+    many(argv[2], count, last);
     return 0;
   }
-  capnp::EzRpcClient client("127.0.0.1", port);
+  capnp::EzRpcClient client(argv[2]);
   if (word == "pages") pages(client, count);
+  else if (word == "next") next(client, count);
   else if (word == "hold") hold(client, count);
   else if (word == "watch") watches(client, count);
   else if (word == "add") {

@@ -1,9 +1,10 @@
 #!/usr/bin/env bash
 # run.sh EXAMPLES BUILD [PAGES [CLIENTS]]    the notebook of the program EXAMPLES over TCP: its server and one over the reference library,
 #                                            each with clients over that library and with its own. PAGES pages (10,000) are opened, read
-#                                            and dropped by one client, and held at once; CLIENTS clients (990) watch at once
+#                                            and dropped by one client, and held at once; a tenth of them are promised; CLIENTS clients
+#                                            (990) watch at once
 set -eu
-examples=$1 pages=${3:-10000} clients=${4:-990} port=7001 # (that of the example)
+examples=$1 pages=${3:-10000} clients=${4:-990} port=7001 at=127.0.0.1:7001 # (that of the example)
 mkdir -p "$2"
 build=$(cd "$2" && pwd)
 here=$(cd "$(dirname "${BASH_SOURCE[0]}")" && pwd)
@@ -17,7 +18,7 @@ trap 'kill $pid ${started[@]+"${started[@]}"} 2>/dev/null || true' EXIT
 
 fail() { echo "$*" >&2; exit 1; }
 
-call() { timeout 600 "$build/client" "$1" "$port" "${@:2}" >"$build/said" || fail "$(cat "$build/said")"; } # WORD COUNT..
+call() { timeout 600 "$build/client" "$1" "$at" "${@:2}" >"$build/said" || fail "$(cat "$build/said")"; } # WORD COUNT..
 
 descriptors() { ls "/proc/$serving/fd" | wc -l; }
 
@@ -62,7 +63,7 @@ ticks() { awk '{ print $14 + $15 }' "/proc/$serving/stat"; }
 
 silent() { # a silent client is told of notes that another one adds, and meanwhile the server has nothing to do
     local watching busy late
-    timeout 60 "$build/client" watch "$port" 20 >"$build/watched" & watching=$!
+    timeout 60 "$build/client" watch "$at" 20 >"$build/watched" & watching=$!
     started+=("$watching")
     sleep 0.5
     busy=$(ticks)
@@ -97,7 +98,7 @@ crowd() { # many clients watch at once, and keep a page each
     local most before after turn watching free
     free=$(memory "$serving")
     for turn in 1 2 3; do
-        timeout 300 "$build/client" many "$port" "$clients" 5 >"$build/said" & watching=$!
+        timeout 300 "$build/client" many "$at" "$clients" 5 >"$build/said" & watching=$!
         started+=("$watching")
         until grep -q watch "$build/said"; do sleep 0.02; done
         [ "$turn" != 1 ] || most=$(memory "$serving")
@@ -111,6 +112,14 @@ crowd() { # many clients watch at once, and keep a page each
     echo "$server server: $clients watchers at once, $(tail -n 1 "$build/said"); $(((most - free) * 1000 / clients)) bytes each; $before to $after kB"
 }
 
+promises() { # pages are promised, called before they are there, and dropped
+    local rounds=$((pages / 10))
+    call next "$rounds"
+    [ "$(cat "$build/said")" = "$rounds promised pages were right" ] || fail "$(cat "$build/said")"
+    expect_none
+    echo "$server server: $rounds pages were promised, called early, and resolved"
+}
+
 holds() { # a client keeps many pages, and drops them one after another, at a flat cost
     local first last said=''
     call hold "$pages"
@@ -122,7 +131,7 @@ holds() { # a client keeps many pages, and drops them one after another, at a fl
 }
 
 dies() { # the clients are killed that keep pages
-    "$build/client" many "$port" 50 1000000 >"$build/said" & started+=($!)
+    "$build/client" many "$at" 50 1000000 >"$build/said" & started+=($!)
     until grep -q watch "$build/said"; do sleep 0.05; done
     kill -KILL "${started[-1]}"
     wait "${started[-1]}" 2>/dev/null || true
@@ -131,7 +140,7 @@ dies() { # the clients are killed that keep pages
 }
 
 for server in C++ our; do
-    if [ "$server" = our ]; then words=("$examples" server); else words=("$build/server" "$port"); fi
+    if [ "$server" = our ]; then words=("$examples" server); else words=("$build/server" "$at"); fi
     begin "$port" "${words[@]}" >"$build/served"
     serving=$pid idle=$(descriptors)
     turns
@@ -139,6 +148,7 @@ for server in C++ our; do
     ours
     crowd
     holds
+    promises
     dies
     kill "$serving"
     wait "$serving" 2>/dev/null || true

@@ -1,4 +1,4 @@
-// A notebook by the reference library. Usage: server PORT. At the end of each connection it says how many pages are open.
+// A notebook by the reference library. Usage: server ADDRESS, as HOST:PORT or unix:PATH. At the end of each connection it says how many pages are open.
 #include "notebook.capnp.h"
 #include <capnp/rpc-twoparty.h>
 #include <kj/async-io.h>
@@ -33,8 +33,11 @@ class PageServer final : public Page::Server {
 class NotebookServer final : public Notebook::Server {
   Shelf& shelf;
   kj::Vector<Watcher::Client> watchers;
+  kj::Vector<kj::Own<kj::PromiseFulfiller<Page::Client>>> awaited;
 
   void tell(kj::StringPtr note) {
+    for (auto& each : awaited) each->fulfill(kj::heap<PageServer>(shelf, shelf.notes.size() - 1));
+    awaited.clear();
     for (auto& each : watchers) {
       auto request = each.addedRequest();
       request.setText(note);
@@ -63,6 +66,13 @@ class NotebookServer final : public Notebook::Server {
     watchers.add(context.getParams().getWatcher());
     return kj::READY_NOW;
   }
+
+  kj::Promise<void> next(NextContext context) override {
+    auto page = kj::newPromiseAndFulfiller<Page::Client>();
+    context.getResults().setPage(kj::mv(page.promise));
+    awaited.add(kj::mv(page.fulfiller));
+    return kj::READY_NOW;
+  }
 };
 
 struct Connection {
@@ -79,7 +89,7 @@ int main(int argc, char** argv) {
   if (argc != 2) return 2;
   setvbuf(stdout, nullptr, _IOLBF, 0);
   auto io = kj::setupAsyncIo();
-  auto address = io.provider->getNetwork().parseAddress("127.0.0.1", atoi(argv[1])).wait(io.waitScope);
+  auto address = io.provider->getNetwork().parseAddress(argv[1]).wait(io.waitScope);
   auto listener = address->listen();
   Shelf shelf;
   kj::Vector<kj::Promise<void>> ends;

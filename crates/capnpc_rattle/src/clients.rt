@@ -37,7 +37,7 @@ const AS: &str = "
 
 const REQUEST: &str = "
     /// A call of `$5 @$3`.
-    pub fn $8_request(&self, params: $6Draft) -> Request
+    pub fn $8_request(&self, params: $6$b) -> Request
         ensures { result ≡ request_of $2 $3 params.body [] }
     {
         let content = params.body.into_whole();
@@ -47,7 +47,7 @@ const REQUEST: &str = "
 
 const NAMING: &str = "
     /// A call of `$5 @$3`, with the table of the capabilities that its params name.
-    pub fn $8_request(&self, params: $6Draft, table: Table) -> Request
+    pub fn $8_request(&self, params: $6$b, table: Table) -> Request
         ensures { result ≡ request_of $2 $3 params.body table }
     {
         let content = params.body.into_whole();
@@ -56,7 +56,7 @@ const NAMING: &str = "
 ";
 
 const CALL: &str =
-    "    pub fn $4<C: Caller>(&self, caller: &mut C, params: $6Draft) -> Result<$7Promise, C::Fault>
+    "    pub fn $4<C: Caller>(&self, caller: &mut C, params: $6$b) -> Result<$7Promise, C::Fault>
         ensures { Makes (λ p. p.at) C.asks caller.old self.now.target $2 $3 params.body [] result caller.new }
     {
         let request = self.$8_request(params);
@@ -67,7 +67,7 @@ const CALL: &str =
 const CALL_NAMING: &str = "    pub fn $4<C: Caller>(
         &self,
         caller: &mut C,
-        params: $6Draft,
+        params: $6$b,
         table: Table,
     ) -> Result<$7Promise, C::Fault>
         ensures { Makes (λ p. p.at) C.asks caller.old self.now.target $2 $3 params.body table result caller.new }
@@ -144,5 +144,6 @@ fn way_methods<'b>(book: &Book<'_>, sheet: &mut Sheet<'b>, node: &Node, way: &Wa
             sheet.code.fill(template, &args);
         }
     }
-    way.cite(sheet, "Draft", "Promise");
+    let endings = sheet.code.endings;
+    way.cite(sheet, endings.builder(), "Promise");
 }

@@ -15,38 +15,38 @@ use cp_schema::{Base, FieldKind, Node, Slot, StructField, Structure};
 const TYPE: &str = "
 /// `struct $1`, to be written.
 #[derive(Drop)]
-pub struct $0Draft {
+pub struct $0$b {
     /// The struct, by the places of its fields.
     pub body: StructDraft<$2, $3>,
 }
 
-impl $0Draft {
+impl $0$b {
     /// A struct whose fields are all as by default.
-    pub fn new(alloc: Global) -> Result<$0Draft, AllocError>
+    pub fn new(alloc: Global) -> Result<$0$b, AllocError>
         ensures { IfOk result (λ d. d.body ≡ blank $2 $3) }
     {
-        Ok($0Draft { body: StructDraft::new(alloc)? })
+        Ok($0$b { body: StructDraft::new(alloc)? })
     }
 ";
 
 const LIST: &str = "
 /// A list of `struct $1`, to be written.
 #[derive(Drop)]
-pub struct $0ListDraft {
+pub struct $0List$b {
     /// The list.
     pub items: StructsDraft<$2, $3>,
 }
 
-impl $0ListDraft {
+impl $0List$b {
     /// No struct yet.
-    pub fn new(alloc: Global) -> $0ListDraft
+    pub fn new(alloc: Global) -> $0List$b
         ensures { result.items ≡ blank_list $2 $3 }
     {
-        $0ListDraft { items: StructsDraft::new(alloc) }
+        $0List$b { items: StructsDraft::new(alloc) }
     }
 
     /// Adds a struct at the end.
-    pub fn push(&mut self, item: $0Draft) -> Result<(), DraftFault>
+    pub fn push(&mut self, item: $0$b) -> Result<(), DraftFault>
         ensures pushed { OnOk result (self.new.items ≡ with_last self.old.items item.body) }
         ensures left { OnErr result (self.new ≡ self.old) }
         ensures long { result ≡ Err TooLong → ¬ (HoldsOneMore self.old.items ($2 + $3)) }
@@ -100,7 +100,7 @@ pub fn draft<'b>(
         Arg::Number(of.words as u64),
         Arg::Number(of.pointers as u64),
     ];
-    sheet.export("$0Draft", &args);
+    sheet.export("$0$b", &args);
     sheet.code.fill(TYPE, &args);
     if is_params(node) {
         if let Some(of) = plain(book, node.id) {
@@ -110,7 +110,7 @@ pub fn draft<'b>(
     fields(book, sheet, &Part::new(node, of), Wanted::Setters);
     sheet.code.put("}\n");
     if has_name(node) {
-        sheet.export("$0ListDraft", &args);
+        sheet.export("$0List$b", &args);
         sheet.code.fill(LIST, &args);
     }
 }
@@ -269,9 +269,10 @@ fn cite(book: &Book<'_>, sheet: &mut Sheet<'_>, slot: &Slot) {
     let Some(named) = book.find(id) else {
         return;
     };
+    let endings = sheet.code.endings;
     match slot.of.of {
-        Base::Struct(_) if slot.of.lists == 0 => sheet.cite(named, "Draft"),
-        Base::Struct(_) if slot.of.lists == 1 => sheet.cite(named, "ListDraft"),
+        Base::Struct(_) if slot.of.lists == 0 => sheet.cite(named, endings.builder()),
+        Base::Struct(_) if slot.of.lists == 1 => sheet.cite(named, endings.list_builder()),
         Base::Enum(_) if slot.of.lists == 0 => {
             sheet.cite(named, "");
             sheet.cite_values(named, "_number");

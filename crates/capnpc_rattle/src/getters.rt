@@ -197,17 +197,17 @@ static CAP: Form = Form {
 
 /// A struct.
 static BODY: Form = Form {
-    of: "$3View<'a>",
+    of: "$3$r<'a>",
     value: "struct_field (pointee_of $0 $1)",
-    code: "Ok($3View {\n            body: self.body.structure($1)?,\n        })",
+    code: "Ok($3$r {\n            body: self.body.structure($1)?,\n        })",
     fails: true,
 };
 
 /// A struct with a default.
 static BODY_OR: Form = Form {
-    of: "$3View<'a>",
+    of: "$3$r<'a>",
     value: "struct_field (or_default (pointee_of $0 $1) $2)",
-    code: "Ok($3View {\n            body: self.body.structure_or($1, default)?,\n        })",
+    code: "Ok($3$r {\n            body: self.body.structure_or($1, default)?,\n        })",
     fails: true,
 };
 
@@ -406,7 +406,7 @@ fn list_of(of: Base) -> &'static str {
         Base::Text => "List<'a, $6Result<TextView<'a>, WrongKind>$7>",
         Base::Data => "List<'a, $6Result<DataView<'a>, WrongKind>$7>",
         Base::Enum(_) => "List<'a, $6$3$7>",
-        Base::Struct(_) => "List<'a, $6$3View<'a>$7>",
+        Base::Struct(_) => "List<'a, $6$3$r<'a>$7>",
         Base::Interface(_) => "List<'a, $6Result<Option<u32>, WrongKind>$7>",
         Base::AnyPointer => "List<'a, $6Pointee<'a>$7>",
     }

@@ -6,7 +6,8 @@
 //!
 //! With `--crate=NAME` the crate has this name, and not the file's; with `--only=LIST` views have the methods that are listed, and
 //! no others; with `--drafts` it has drafts too, by which structs are written; with `--interfaces` it has typed clients and objects
-//! of its interfaces besides; with `--services` these objects may make others; with `--print` its files go to standard output.
+//! of its interfaces besides; with `--services` these objects may make others, views are called readers, and drafts builders; with
+//! `--print` its files go to standard output.
 #![tactic(auto)]
 
 mod book;
@@ -64,7 +65,8 @@ Writes a crate of views for each schema file into the current folder.
                 between; no types without one, and no members of unions
   --drafts      Drafts too, by which structs are written
   --interfaces  Typed clients and objects of interfaces, and drafts
-  --services    The same, where objects may make others in their calls
+  --services    The same, where objects may make others in their calls; views
+                are called readers here, and drafts builders
   --print       Print the files, and write none
 ";
 

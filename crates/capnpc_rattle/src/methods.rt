@@ -1,7 +1,7 @@
 //! The methods of interfaces.
 
 use crate::book::{Book, Named};
-use crate::out::Arg;
+use crate::out::{Arg, Endings};
 use crate::sheet::Sheet;
 use cp_schema::{Method, Node};
 use std::alloc::AllocError;
@@ -101,6 +101,10 @@ impl<'b> Way<'b> {
         sheet.cite(self.params, params);
         match self.results {
             Some(named) => sheet.cite(named, results),
+            // The library has this struct under the names of views.
+            None if results == Endings::Readers.builder() => sheet
+                .libraries
+                .put("cp_stubs::StreamResultDraft as StreamResultBuilder\n"),
             None => sheet
                 .libraries
                 .fill("cp_stubs::StreamResult$0\n", &[Arg::Text(results)]),

@@ -66,11 +66,45 @@ pub const LIST: Listing = Listing {
     close: "[])",
 };
 
+/// What the names of types end with.
+#[derive(Clone, Copy)]
+pub enum Endings {
+    Views,
+    Readers,
+}
+
+impl Endings {
+    /// By which a struct is read.
+    pub fn reader(self) -> &'static str {
+        match self {
+            Endings::Views => "View",
+            Endings::Readers => "Reader",
+        }
+    }
+
+    /// By which it is written.
+    pub fn builder(self) -> &'static str {
+        match self {
+            Endings::Views => "Draft",
+            Endings::Readers => "Builder",
+        }
+    }
+
+    /// By which a list of it is written.
+    pub fn list_builder(self) -> &'static str {
+        match self {
+            Endings::Views => "ListDraft",
+            Endings::Readers => "ListBuilder",
+        }
+    }
+}
+
 /// A text that grows. It remembers whether memory ran out, and is then without what was put last.
 pub struct Out {
     pub alloc: Global,
     text: String,
     pub is_full: bool,
+    pub endings: Endings,
 }
 
 // Not derived: who lets one go calls this function, and need not prove the drop of its text.
@@ -80,6 +114,7 @@ impl Drop for Out {
             alloc: _,
             text: _,
             is_full: _,
+            endings: _,
         } = self;
     }
 }
@@ -87,10 +122,16 @@ impl Drop for Out {
 impl Out {
     /// An empty text.
     pub fn new(alloc: Global) -> Out {
+        Out::ending(alloc, Endings::Views)
+    }
+
+    /// An empty text, in which types end so.
+    pub fn ending(alloc: Global, endings: Endings) -> Out {
         Out {
             alloc,
             text: String::new(alloc),
             is_full: false,
+            endings,
         }
     }
 
@@ -116,14 +157,12 @@ impl Out {
         }
     }
 
-    /// Adds a template, in which `$0` to `$9` are places of `args`.
+    /// Adds a template, in which `$0` to `$9` are places of `args`, and `$r` and `$b` the endings of types.
     pub fn fill(&mut self, template: &str, args: &[Arg<'_>]) {
         let mut is_place = false;
         for c in template.chars() {
             if is_place {
-                if let Some(arg) = args.get(place_of(c)) {
-                    self.arg(*arg);
-                }
+                self.place(c, args);
                 is_place = false;
             } else if c == '$' {
                 is_place = true;
@@ -133,7 +172,20 @@ impl Out {
         }
     }
 
-    /// Adds what stands for a place.
+    /// Adds what stands for the place of this character.
+    fn place(&mut self, place: char, args: &[Arg<'_>]) {
+        match place {
+            'r' => self.put(self.endings.reader()),
+            'b' => self.put(self.endings.builder()),
+            digit => {
+                if let Some(arg) = args.get(place_of(digit)) {
+                    self.arg(*arg);
+                }
+            }
+        }
+    }
+
+    /// Adds an argument.
     fn arg(&mut self, arg: Arg<'_>) {
         match arg {
             Arg::Text(text) => self.put(text),

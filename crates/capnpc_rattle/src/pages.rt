@@ -64,7 +64,8 @@ fn push_sheets<'b>(
 
 /// What a module is.
 fn sheet_of<'b>(book: &'b Book<'_>, module: &'b str, krate: &'b str) -> Sheet<'b> {
-    let mut sheet = Sheet::new(book.alloc, module, krate);
+    let endings = book.scope.templates().endings;
+    let mut sheet = Sheet::new(book.alloc, (module, krate), endings);
     for node in &book.schema.nodes {
         if let Some(named) = book.find(node.id) {
             let is_here = named.krate.as_str() == krate && named.module.as_str() == module;

@@ -1,9 +1,10 @@
-//! Methods whose params are numbers and texts: they are called with these, in place of a draft.
+//! Methods whose params are numbers, texts and capabilities: they are called with these, in place of a draft.
 
 use crate::book::{Book, Named};
 use crate::methods::Way;
 use crate::names::has_word;
 use crate::out::{Arg, Out};
+use crate::promises::client_of;
 use crate::setters::{Setter, set_of};
 use crate::sheet::Sheet;
 use crate::structs::has_name;
@@ -13,29 +14,77 @@ use cp_schema::{Base, FieldKind, NodeKind, Slot, StructField, Structure};
 const MOST: usize = 4;
 
 /// What the code around arguments calls its own.
-const OURS: &str = "alloc ask caller d made mark params request";
+const OURS: &str = "alloc ask caller d made mark params request table";
 
-const CONSTRUCTOR: &str = "
+/// What differs between params that name no capability, and those that name some.
+struct Form {
+    names_caps: bool,
+    /// What makes a draft: its head, its clause, the start of its body, and its end.
+    constructor: &'static str,
+    clause: &'static str,
+    body: &'static str,
+    end: &'static str,
+    /// The lines that make a request: what comes before the arguments, and after them.
+    params: &'static str,
+    request: &'static str,
+}
+
+static PLAIN: Form = Form {
+    names_caps: false,
+    constructor: "
     /// A struct of these fields.
-    pub fn of(alloc: Global";
+    pub fn of(alloc: Global",
+    clause: ") -> Result<$0$b, DraftFault>
+        ensures { IfOk result (λ d. d.body ≡ ",
+    body: ") }
+    {
+        let mut made = $0$b::new(alloc)?;
+",
+    end: "        Ok(made)
+    }
+",
+    params: "        let params = $6$b::of(self.target.alloc()",
+    request: ")?;
+        let request = self.$8_request(params);
+",
+};
 
-const CONSTRUCTED: &str = ") -> Result<$0Draft, DraftFault>
-        ensures { IfOk result (λ d. d.body ≡ ";
+static NAMING: Form = Form {
+    names_caps: true,
+    constructor: "
+    /// A struct of these fields, and the table of the capabilities that they name.
+    pub fn of(alloc: Global",
+    clause: ") -> Result<($0$b, Table), DraftFault>
+        ensures made { IfOk result (λ d. d.0.body ≡ ",
+    body: ") }
+    {
+        let mut table = Table::new(alloc);
+        let mut made = $0$b::new(alloc)?;
+",
+    end: "        Ok((made, table))
+    }
+",
+    params: "        let (params, table) = $6$b::of(self.target.alloc()",
+    request: ")?;
+        let request = self.$8_request(params, table);
+",
+};
+
+/// What is said of the table beside the struct.
+const TABLE: &str = ") }
+        ensures named { IfOk result (λ d. d.1 ≡ ";
 
 const EMPTY: &str = ") }
     {
-        Ok($0Draft::new(alloc)?)
+        Ok($0$b::new(alloc)?)
     }
-";
-
-const CONSTRUCTION: &str = ") }
-    {
-        let mut made = $0Draft::new(alloc)?;
 ";
 
 const SET: &str = "        made.set_$0($1);\n";
 
 const SET_TEXT: &str = "        made.set_$0(alloc, $1)?;\n";
+
+const SET_CLIENT: &str = "        made.set_$0_client(&mut table, $1)?;\n";
 
 const CALL: &str = "    pub fn $4<C: Caller>(&self, caller: &mut C";
 
@@ -44,11 +93,9 @@ const CALLED: &str = ") -> Result<$7Promise, C::Fault>
 
 const CALL_BODY: &str = " result caller.new }
     {
-        let params = $6Draft::of(self.target.alloc()";
+";
 
-const CALL_END: &str = ")?;
-        let request = self.$8_request(params);
-        Ok($7Promise { at: self.target.call(caller, request)? })
+const CALL_END: &str = "        Ok($7Promise { at: self.target.call(caller, request)? })
     }
 ";
 
@@ -59,52 +106,56 @@ const ASK: &str = "
 const ASKED: &str = ", mark: u64) -> Result<Ask, DraftFault>
         ensures { IfOk result (λ ask. ask ≡ ask_of self.now.target (request_of $2 $3 ";
 
-const ASK_BODY: &str = " []) mark) }
+const ASK_BODY: &str = ") mark) }
     {
-        let params = $6Draft::of(self.target.alloc()";
+";
 
-const ASK_END: &str = ")?;
-        let request = self.$8_request(params);
-        Ok(self.target.ask(request, mark)?)
+const ASK_END: &str = "        Ok(self.target.ask(request, mark)?)
     }
 ";
 
 /// What this code of a client cites.
 const CITED: &str = "ghost use Rattle.cp_services.specs.Calls.{MakesOf};\n";
 
-/// The struct of params that are numbers and texts, if objects may make others.
+/// The struct of params that are numbers, texts and capabilities, if objects may make others.
 pub fn plain<'b>(book: &'b Book<'_>, id: u64) -> Option<&'b Structure> {
     let node = book.schema.find(id)?;
     match &node.kind {
-        NodeKind::Struct(of) if book.scope.services && !has_name(node) && is_plain(of) => Some(of),
+        NodeKind::Struct(of) if book.scope.services && !has_name(node) && is_plain(book, of) => {
+            Some(of)
+        }
         _ => None,
     }
 }
 
-/// Whether all fields of a struct are numbers and texts, and few.
-fn is_plain(of: &Structure) -> bool {
+/// Whether all fields of a struct are numbers, texts and capabilities, and few.
+fn is_plain(book: &Book<'_>, of: &Structure) -> bool {
     for field in &of.fields {
-        if slot_of(field).is_none() || has_word(OURS, field.name.as_str()) {
+        let is_argument = is_value(field) || client(book, field).is_some();
+        if !is_argument || has_word(OURS, field.name.as_str()) {
             return false;
         }
     }
     of.fields.len() <= MOST
 }
 
-/// The place of a field that is a number or a text.
+/// The place of a field that is no list.
 fn slot_of(field: &StructField) -> Option<&Slot> {
     match &field.kind {
-        FieldKind::Slot(slot) if slot.of.lists == 0 && is_argument(slot.of.of) => Some(slot),
+        FieldKind::Slot(slot) if slot.of.lists == 0 => Some(slot),
         _ => None,
     }
 }
 
-/// Whether an argument is of this type.
-fn is_argument(of: Base) -> bool {
-    matches!(
-        of,
-        Base::Unsigned(_) | Base::Signed(_) | Base::Float(_) | Base::Bool | Base::Text
-    )
+/// Whether a field is a number or a text.
+fn is_value(field: &StructField) -> bool {
+    match slot_of(field) {
+        Some(slot) => matches!(
+            slot.of.of,
+            Base::Unsigned(_) | Base::Signed(_) | Base::Float(_) | Base::Bool | Base::Text
+        ),
+        None => false,
+    }
 }
 
 /// Whether a field is a text.
@@ -115,29 +166,55 @@ fn is_text(field: &StructField) -> bool {
     }
 }
 
+/// The interface of a field that is a capability.
+fn client<'b>(book: &'b Book<'_>, field: &StructField) -> Option<&'b Named> {
+    client_of(book, slot_of(field)?)
+}
+
+/// The templates of these params.
+fn form_of(book: &Book<'_>, of: &Structure) -> &'static Form {
+    for field in &of.fields {
+        if client(book, field).is_some() {
+            return &NAMING;
+        }
+    }
+    &PLAIN
+}
+
 /// Writes what makes a draft of all its fields.
 pub fn constructor(book: &Book<'_>, out: &mut Out, named: &Named, of: &Structure) {
     let args = [Arg::Text(named.name.as_str())];
-    out.put(CONSTRUCTOR);
+    let form = form_of(book, of);
+    out.put(form.constructor);
     parameters(book, out, of);
-    out.fill(CONSTRUCTED, &args);
+    out.fill(form.clause, &args);
     content(book, out, of);
     if of.fields.is_empty() {
         out.fill(EMPTY, &args);
         return;
     }
-    out.fill(CONSTRUCTION, &args);
-    for field in &of.fields {
-        set(out, field);
+    if form.names_caps {
+        out.put(TABLE);
+        table(book, out, of.fields.as_slice());
     }
-    out.put("        Ok(made)\n    }\n");
+    out.fill(form.body, &args);
+    for field in &of.fields {
+        set(book, out, field);
+    }
+    out.put(form.end);
 }
 
 /// Writes the line that sets a field to its argument.
-fn set(out: &mut Out, field: &StructField) {
+fn set(book: &Book<'_>, out: &mut Out, field: &StructField) {
     let name = field.name.as_str();
-    let args = [Arg::Snake(name), Arg::Method(name)];
-    out.fill(if is_text(field) { SET_TEXT } else { SET }, &args);
+    let template = if is_text(field) {
+        SET_TEXT
+    } else if client(book, field).is_some() {
+        SET_CLIENT
+    } else {
+        SET
+    };
+    out.fill(template, &[Arg::Snake(name), Arg::Method(name)]);
 }
 
 /// Writes the methods that call a method with arguments, but the comment of the first.
@@ -147,41 +224,61 @@ pub fn plain_methods<'b>(book: &Book<'_>, sheet: &mut Sheet<'b>, way: &Way<'b>, 
     out.fill(CALL, &args);
     parameters(book, out, of);
     out.fill(CALLED, &args);
-    content(book, out, of);
-    out.fill(CALL_BODY, &args);
-    arguments(out, of);
+    payload(book, out, of);
+    out.put(CALL_BODY);
+    request(book, out, way, of);
     out.fill(CALL_END, &args);
     out.fill(ASK, &args);
     parameters(book, out, of);
     out.fill(ASKED, &args);
-    content(book, out, of);
-    out.fill(ASK_BODY, &args);
-    arguments(out, of);
-    out.fill(ASK_END, &args);
+    payload(book, out, of);
+    out.put(ASK_BODY);
+    request(book, out, way, of);
+    out.put(ASK_END);
     sheet.cited.put(CITED);
+    for field in &of.fields {
+        if let Some(named) = client(book, field) {
+            sheet.cite(named, "Client");
+        }
+    }
 }
 
 /// Writes a parameter for each field, with a comma before.
 fn parameters(book: &Book<'_>, out: &mut Out, of: &Structure) {
     for field in &of.fields {
-        if let Some(setter) = setter_of(book, field) {
-            out.fill(", $0: ", &[Arg::Method(field.name.as_str())]);
+        let name = Arg::Method(field.name.as_str());
+        if let Some(named) = client(book, field) {
+            out.fill(", $0: $1Client", &[name, Arg::Text(named.name.as_str())]);
+        } else if let Some(setter) = setter_of(book, field) {
+            out.fill(", $0: ", &[name]);
             out.fill(setter.form.of, &setter.args());
         }
     }
 }
 
-/// Writes the argument for each field, with a comma before.
-fn arguments(out: &mut Out, of: &Structure) {
+/// Writes the lines that make a request of the arguments.
+fn request(book: &Book<'_>, out: &mut Out, way: &Way<'_>, of: &Structure) {
+    let args = way.args();
+    let form = form_of(book, of);
+    out.fill(form.params, &args);
     for field in &of.fields {
         out.fill(", $0", &[Arg::Method(field.name.as_str())]);
     }
+    out.fill(form.request, &args);
+}
+
+/// Writes the struct of the arguments and the table of their capabilities, as definitions have them.
+fn payload(book: &Book<'_>, out: &mut Out, of: &Structure) {
+    content(book, out, of);
+    out.put(" ");
+    table(book, out, of.fields.as_slice());
 }
 
 /// Writes the struct of the arguments, as definitions have it.
 fn content(book: &Book<'_>, out: &mut Out, of: &Structure) {
     for field in of.fields.iter().rev() {
-        out.put(if is_text(field) {
+        let is_pointer = is_text(field) || client(book, field).is_some();
+        out.put(if is_pointer {
             "(with_pointer "
         } else {
             "(with_uint "
@@ -192,23 +289,50 @@ fn content(book: &Book<'_>, out: &mut Out, of: &Structure) {
         Arg::Number(of.pointers as u64),
     ];
     out.fill("(blank $0 $1)", &sizes);
-    for field in &of.fields {
+    for (i, field) in of.fields.iter().enumerate() {
         if let Some(setter) = setter_of(book, field) {
-            value(out, field, &setter);
+            let before = of.fields.as_slice().get(..i).unwrap_or(&[]);
+            value(book, out, before, field, &setter);
         }
     }
 }
 
-/// Writes where the argument of a field stands, and what it is there.
-fn value<'b>(out: &mut Out, field: &StructField, setter: &Setter<'b>) {
+/// Writes where the argument of a field stands, and what it is there. These fields are set before it.
+fn value<'b>(
+    book: &Book<'_>,
+    out: &mut Out,
+    before: &[StructField],
+    field: &StructField,
+    setter: &Setter<'b>,
+) {
     let args = setter.args();
+    let name = Arg::Method(field.name.as_str());
     out.fill(setter.shape().place, &args);
-    if let Some((before, after)) = setter.form.value.split_once("value") {
-        out.fill(before, &args);
-        out.fill("$0", &[Arg::Method(field.name.as_str())]);
-        out.fill(after, &args);
+    if client(book, field).is_some() {
+        out.put("(pointer_naming ");
+        table(book, out, before);
+        out.fill(" $0.target)", &[name]);
+    } else if let Some((first, rest)) = setter.form.value.split_once("value") {
+        out.fill(first, &args);
+        out.fill("$0", &[name]);
+        out.fill(rest, &args);
     }
     out.put(")");
+}
+
+/// Writes the table of the capabilities that these fields name, as definitions have it.
+fn table(book: &Book<'_>, out: &mut Out, fields: &[StructField]) {
+    for field in fields {
+        if client(book, field).is_some() {
+            out.put("(with_named ");
+        }
+    }
+    out.put("[]");
+    for field in fields {
+        if client(book, field).is_some() {
+            out.fill(" $0.target)", &[Arg::Method(field.name.as_str())]);
+        }
+    }
 }
 
 /// How a field is set.

@@ -7,7 +7,7 @@ use crate::sheet::Sheet;
 use cp_schema::{Base, FieldKind, Node, Slot, StructField, Structure};
 
 const RESULTS: &str = "
-impl Results for $0Draft {
+impl Results for $0$b {
     ghost content = { λ d. d.body };
 
     fn into_whole(self) -> Whole {
@@ -31,10 +31,10 @@ impl $0Promise {
     }
 
     /// The results that came.
-    pub fn results<'a>(&self, came: &'a ResultPayload) -> Result<$0View<'a>, WrongKind>
+    pub fn results<'a>(&self, came: &'a ResultPayload) -> Result<$0$r<'a>, WrongKind>
         ensures { Reads result (λ x. x.body) (struct_field came.now.content) }
     {
-        Ok($0View { body: came.results()? })
+        Ok($0$r { body: came.results()? })
     }
 ";
 

@@ -42,6 +42,9 @@ pub fn server<'b>(
     sheet.cited.put(templates.words);
     sheet.export("$0Server", &args);
     sheet.export("$0Servant", &args);
+    if book.scope.services {
+        sheet.export("$0Resolver", &args);
+    }
 }
 
 /// Writes the traits that an object of an interface has too: this one, where the interface extends none.
@@ -79,5 +82,9 @@ fn method<'b>(book: &Book<'_>, sheet: &mut Sheet<'b>, node: &Node, way: &Way<'b>
     sheet.code.fill(templates.method, &args);
     sheet.libraries.put(templates.method_cited);
     sheet.cited.put(templates.method_words);
-    way.cite(sheet, "View", "Draft");
+    way.cite(
+        sheet,
+        templates.endings.reader(),
+        templates.endings.builder(),
+    );
 }

@@ -205,7 +205,7 @@ static CAP: Form = Form {
 /// A struct.
 static BODY: Form = Form {
     kind: Kind::Pointer,
-    of: "$2Draft",
+    of: "$2$b",
     value: "value.body",
     code: "value.body.into_whole()",
 };
@@ -221,7 +221,7 @@ static WHOLE: Form = Form {
 /// A list of structs.
 static BODIES: Form = Form {
     kind: Kind::Pointer,
-    of: "$2ListDraft",
+    of: "$2List$b",
     value: "value.items",
     code: "value.items.into_whole()",
 };

@@ -1,7 +1,7 @@
 //! What is written of a module: its code, its definitions, and what they import.
 
 use crate::book::Named;
-use crate::out::{Arg, Out};
+use crate::out::{Arg, Endings, Out};
 use std::alloc::Global;
 use std::mem;
 
@@ -68,17 +68,17 @@ impl Drop for Sheet<'_> {
 }
 
 impl<'b> Sheet<'b> {
-    /// An empty module.
-    pub fn new(alloc: Global, module: &'b str, krate: &'b str) -> Sheet<'b> {
+    /// An empty module, whose types end so.
+    pub fn new(alloc: Global, (module, krate): (&'b str, &'b str), endings: Endings) -> Sheet<'b> {
         Sheet {
             alloc,
             module,
             krate,
-            code: Out::new(alloc),
+            code: Out::ending(alloc, endings),
             helpers: Out::new(alloc),
             specs: Out::new(alloc),
             heading: HEADING,
-            exports: Out::new(alloc),
+            exports: Out::ending(alloc, endings),
             words: Out::new(alloc),
             imports: Out::new(alloc),
             cited: Out::new(alloc),

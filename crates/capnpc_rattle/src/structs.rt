@@ -14,14 +14,14 @@ use cp_schema::{Base, FieldKind, Node, Slot, StructField, Structure};
 /// A newtype with one public field: `StructView` has the `Model`, so each getter is proved by itself.
 const VIEW: &str = "\
 #[derive(Drop)]
-pub struct $0View<'a> {
+pub struct $0$r<'a> {
     /// The struct, by the places of its fields.
     pub body: StructView<'a>,
 }
 ";
 
 const ITEM: &str = "
-impl<'a> Item<'a> for $0View<'a> {
+impl<'a> Item<'a> for $0$r<'a> {
     ghost SIZE = { sizes.Composite };
 
     ghost read = { λ t. record { body = t } };
@@ -32,18 +32,18 @@ impl<'a> Item<'a> for $0View<'a> {
         cp_words::ElementSize::Composite
     }
 
-    fn of_item(item: StructView<'a>) -> $0View<'a> {
-        $0View { body: item }
+    fn of_item(item: StructView<'a>) -> $0$r<'a> {
+        $0$r { body: item }
     }
 }
 ";
 
 const CONSTRUCTOR: &str = "
     /// The struct that a pointer stands for; null is the struct whose fields are all as by default.
-    pub fn of(at: Pointee<'a>) -> Result<$0View<'a>, WrongKind>
+    pub fn of(at: Pointee<'a>) -> Result<$0$r<'a>, WrongKind>
         ensures { Reads result (λ x. x.body) (struct_field at.entry) }
     {
-        Ok($0View { body: StructView::of(at)? })
+        Ok($0$r { body: StructView::of(at)? })
     }
 ";
 
@@ -56,10 +56,10 @@ const WHICH: &str = "
     }
 ";
 
-const GROUP: &str = "    pub fn $1(&self) -> $0View<'a>
+const GROUP: &str = "    pub fn $1(&self) -> $0$r<'a>
         ensures { result.body ≡ self.now.body }
     {
-        $0View { body: self.body.again() }
+        $0$r { body: self.body.again() }
     }
 ";
 
@@ -74,7 +74,7 @@ pub fn structure<'b>(
     declaration(book, sheet, node, named, of.is_group);
     if has_methods(of) {
         let args = [Arg::Text(named.name.as_str())];
-        sheet.code.fill("\nimpl<'a> $0View<'a> {", &args);
+        sheet.code.fill("\nimpl<'a> $0$r<'a> {", &args);
         methods(book, sheet, node, named, of);
         sheet.code.put("}\n");
     }
@@ -117,7 +117,7 @@ fn declaration<'n>(
     ];
     about(&mut sheet.code, book.about(node.id), "`$1 $2`.", &args);
     sheet.code.fill(VIEW, &args);
-    sheet.export("$0View", &args);
+    sheet.export("$0$r", &args);
     if !is_group && has_name(node) {
         sheet.code.fill(ITEM, &args);
     }
@@ -265,7 +265,8 @@ fn cite_type(book: &Book<'_>, sheet: &mut Sheet<'_>, slot: &Slot) {
         return;
     };
     if matches!(slot.of.of, Base::Struct(_)) {
-        sheet.cite(named, "View");
+        let endings = sheet.code.endings;
+        sheet.cite(named, endings.reader());
         return;
     }
     sheet.cite(named, "");

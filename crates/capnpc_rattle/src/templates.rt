@@ -1,8 +1,11 @@
 //! How objects of interfaces are written: those of a list that is fixed, and those that may make others.
 
+use crate::out::Endings;
+
 /// The templates of what objects of interfaces are, and of what passes calls on to their methods.
 #[derive(Clone, Copy)]
 pub struct Templates {
+    pub endings: Endings,
     /// What a trait extends, where its interface extends none.
     pub base: &'static str,
     pub kind: &'static str,
@@ -32,6 +35,7 @@ pub struct Templates {
 
 /// Objects of a list that is fixed.
 pub const SERVERS: Templates = Templates {
+    endings: Endings::Views,
     base: "ServerObject",
     kind: " {
     /// What calls of its methods lead to. Of an object that doesn't say it nothing is known.
@@ -41,8 +45,8 @@ pub const SERVERS: Templates = Templates {
     method: "    fn $4(
         &mut self,
         call: &MethodCall,
-        params: &$6View<'_>,
-    ) -> Result<Answer<$7Draft>, MethodFault>
+        params: &$6$r<'_>,
+    ) -> Result<Answer<$7$b>, MethodFault>
         ensures { Gives (λ d. d.body) $1_kind.on_$8 self.old call.now params.now.body result self.new };
 ",
     method_cited: "cp_stubs::Answer\ncp_stubs::MethodFault\n",
@@ -140,7 +144,7 @@ fn pass_$8<T: $0Server>(
 {
     match call.params() {
         Ok(body) => {
-            let params = $6View { body };
+            let params = $6$r { body };
             let answered = $0Server::$4(object, call, &params);
             reply(alloc, call, answered)
         }
@@ -153,6 +157,7 @@ fn pass_$8<T: $0Server>(
 
 /// Objects that may make others: each is given a `Here` while it does something.
 pub const SERVICES: Templates = Templates {
+    endings: Endings::Readers,
     base: "ServiceObject",
     kind: " {
     /// What calls of its methods lead to. Of an object that doesn't say it nothing is known.
@@ -160,7 +165,7 @@ pub const SERVICES: Templates = Templates {
 ",
     call: "
 /// A call of `$5`.
-pub type $0$9Call<'c> = ServiceCall<'c, $6View<'c>, $7Draft>;
+pub type $0$9Call<'c> = ServiceCall<'c, $6$r<'c>, $7$b>;
 ",
     method: "    fn $4(&mut self, call: &mut $0$9Call<'_>, here: &mut Here<Self::Makes>) -> MethodResult
         ensures { Answers (λ p. p.body) (λ d. d.body) $1_kind.on_$8 (at self.old here.old) call.old call.new result (at self.new here.new) };
@@ -212,20 +217,63 @@ impl<T: $0Server> Maker for $0Servant<T> {
         Ok(ServiceObject::told(&mut self.object, mark, outcome, here)?)
     }
 }
+
+/// Resolves a promise of an object of `interface $1`: one that is named before it is there.
+#[derive(Drop)]
+pub struct $0Resolver {
+    pub resolver: Resolver,
+}
+
+impl $0Resolver {
+    /// Makes the promise.
+    pub fn new<M: Drop>(here: &mut Here<M>) -> Result<$0Resolver, AllocError>
+        ensures promised { IfOk result (λ r. Promises r.resolver (place_of here.old) (place_of here.new)) }
+        ensures left { OnErr result (place_of here.new ≡ place_of here.old) }
+    {
+        Ok($0Resolver { resolver: here.promise()? })
+    }
+
+    /// What is promised, to be named at once. Calls of it wait.
+    pub fn client(&self, alloc: Global) -> $0Client
+        ensures { result.target ≡ promised_by self.now.resolver }
+    {
+        $0Client::new(alloc, self.resolver.cap())
+    }
+
+    /// What was promised comes to this object.
+    pub fn resolve<M: Drop>(self, here: &mut Here<M>, client: $0Client) -> Result<(), AllocError>
+        ensures resolved { OnOk result (place_of here.new ≡ resolved self.resolver client.target (place_of here.old)) }
+        ensures left { OnErr result (place_of here.new ≡ place_of here.old) }
+    {
+        here.resolve(self.resolver, client.target.into_cap())
+    }
+
+    /// Calls of what was promised fail with this.
+    pub fn fail<M: Drop>(self, here: &mut Here<M>, fault: MethodFault) -> Result<(), AllocError>
+        ensures fails { OnOk result (Fails self.resolver fault (place_of here.old) (place_of here.new)) }
+        ensures left { OnErr result (place_of here.new ≡ place_of here.old) }
+    {
+        fail(self.resolver, here, fault)
+    }
+}
 ",
     cited: "\
 cp_makers::Here
 cp_makers::Maker
+cp_makers::Resolver
 cp_refs::Outcome
 cp_refs::Request
 cp_servants::Ask
 cp_servants::Reply
 cp_servants::Settled
 cp_services::ServiceObject
+cp_services::fail
 cp_stubs::MethodCall
 std::alloc::AllocError
 ",
     words: "\
+ghost use Rattle.cp_makers.specs.Here.{place_of};
+ghost use Rattle.cp_services.specs.Promises.{Fails, Promises, promised_by, resolved};
 ghost use Rattle.cp_services.specs.Services.{At, at, seen_as, taking};
 ",
     dispatch: "
@@ -270,8 +318,8 @@ fn pass_$8<T: $0Server>(
 {
     match call.params() {
         Ok(body) => {
-            let results = $7Draft::new(here.alloc())?;
-            let params = $6View { body };
+            let results = $7$b::new(here.alloc())?;
+            let params = $6$r { body };
             let mut passed = ServiceCall::new(here.alloc(), call, params, results);
             let done = $0Server::$4(object, &mut passed, here);
             passed.reply(call, done)

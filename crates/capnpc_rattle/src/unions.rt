@@ -70,7 +70,7 @@ impl Held<'_> {
     fn put_type(&self, code: &mut Out) {
         match self {
             Held::Nothing => {}
-            Held::Group(group) => code.fill("($0View<'a>)", &[Arg::Text(group)]),
+            Held::Group(group) => code.fill("($0$r<'a>)", &[Arg::Text(group)]),
             Held::Slot(getter) => {
                 code.put("(");
                 code.fill(getter.of, &getter.args("t"));

@@ -1,18 +1,25 @@
 //! `chat` of chat.capnp.
 
-ghost use Rattle.std.specs.Prelude.{◌≡◌, IfOk};
-ghost use Rattle.cp_stubs.specs.Calls.{Makes, request_of};
+ghost use Rattle.std.specs.Prelude.{◌≡◌, IfOk, OnOk, OnErr, []};
+ghost use Rattle.cp_builder.specs.Drafts.{blank, text_tree, with_pointer};
+ghost use Rattle.cp_servants.specs.Naming.{pointer_naming, with_named};
+ghost use Rattle.cp_stubs.specs.Calls.{ask_of, request_of};
 ghost use Rattle.cp_stubs.specs.Dispatch.{Passes};
+ghost use Rattle.cp_makers.specs.Here.{place_of};
 ghost use Rattle.cp_services.specs.Calls.{Answers};
+ghost use Rattle.cp_services.specs.Calls.{MakesOf};
+ghost use Rattle.cp_services.specs.Promises.{Fails, Promises, promised_by, resolved};
 ghost use Rattle.cp_services.specs.Services.{At, at, seen_as, taking};
 ghost use Rattle.chat.specs.Chat.{ChatKind, ChatMethodTakes, ChatTakes, any_chat};
 
-use crate::chat_join_params::{ChatJoinParamsDraft, ChatJoinParamsView};
-use crate::chat_join_results::{ChatJoinResultsDraft, ChatJoinResultsPromise};
-use cp_makers::{Here, Maker};
+use crate::chat_join_params::{ChatJoinParamsBuilder, ChatJoinParamsReader};
+use crate::chat_join_results::{ChatJoinResultsBuilder, ChatJoinResultsPromise};
+use crate::listener::ListenerClient;
+use cp_builder::DraftFault;
+use cp_makers::{Here, Maker, Resolver};
 use cp_refs::{Cap, Outcome, Request};
 use cp_servants::{Ask, Reply, Settled};
-use cp_services::{MethodResult, ServiceCall, ServiceObject};
+use cp_services::{MethodResult, ServiceCall, ServiceObject, fail};
 use cp_stubs::{CallTarget, Caller, MethodCall, MethodFault, Table, refuse};
 use std::alloc::{AllocError, Global};
 
@@ -37,7 +44,7 @@ impl ChatClient {
     }
 
     /// A call of `join @0`, with the table of the capabilities that its params name.
-    pub fn join_request(&self, params: ChatJoinParamsDraft, table: Table) -> Request
+    pub fn join_request(&self, params: ChatJoinParamsBuilder, table: Table) -> Request
         ensures { result ≡ request_of 0x9be749cc343d65aa 0 params.body table }
     {
         let content = params.body.into_whole();
@@ -49,20 +56,35 @@ impl ChatClient {
     pub fn join<C: Caller>(
         &self,
         caller: &mut C,
-        params: ChatJoinParamsDraft,
-        table: Table,
+        name: &str,
+        listener: ListenerClient,
     ) -> Result<ChatJoinResultsPromise, C::Fault>
-        ensures { Makes (λ p. p.at) C.asks caller.old self.now.target 0x9be749cc343d65aa 0 params.body table result caller.new }
+        ensures { MakesOf (λ p. p.at) C.asks caller.old self.now.target 0x9be749cc343d65aa 0 (with_pointer (with_pointer (blank 0 2) 0 (text_tree name.now)) 1 (pointer_naming [] listener.target)) (with_named [] listener.target) result caller.new }
     {
+        let (params, table) = ChatJoinParamsBuilder::of(self.target.alloc(), name, listener)?;
         let request = self.join_request(params, table);
         Ok(ChatJoinResultsPromise {
             at: self.target.call(caller, request)?,
         })
     }
+
+    /// A call of `join` that an object makes. With the mark the object is told what it came to.
+    pub fn join_ask(
+        &self,
+        name: &str,
+        listener: ListenerClient,
+        mark: u64,
+    ) -> Result<Ask, DraftFault>
+        ensures { IfOk result (λ ask. ask ≡ ask_of self.now.target (request_of 0x9be749cc343d65aa 0 (with_pointer (with_pointer (blank 0 2) 0 (text_tree name.now)) 1 (pointer_naming [] listener.target)) (with_named [] listener.target)) mark) }
+    {
+        let (params, table) = ChatJoinParamsBuilder::of(self.target.alloc(), name, listener)?;
+        let request = self.join_request(params, table);
+        Ok(self.target.ask(request, mark)?)
+    }
 }
 
 /// A call of `join`.
-pub type ChatJoinCall<'c> = ServiceCall<'c, ChatJoinParamsView<'c>, ChatJoinResultsDraft>;
+pub type ChatJoinCall<'c> = ServiceCall<'c, ChatJoinParamsReader<'c>, ChatJoinResultsBuilder>;
 
 /// An object of `interface Chat`.
 pub trait ChatServer: ServiceObject {
@@ -117,6 +139,47 @@ impl<T: ChatServer> Maker for ChatServant<T> {
     }
 }
 
+/// Resolves a promise of an object of `interface Chat`: one that is named before it is there.
+#[derive(Drop)]
+pub struct ChatResolver {
+    pub resolver: Resolver,
+}
+
+impl ChatResolver {
+    /// Makes the promise.
+    pub fn new<M: Drop>(here: &mut Here<M>) -> Result<ChatResolver, AllocError>
+        ensures promised { IfOk result (λ r. Promises r.resolver (place_of here.old) (place_of here.new)) }
+        ensures left { OnErr result (place_of here.new ≡ place_of here.old) }
+    {
+        Ok(ChatResolver {
+            resolver: here.promise()?,
+        })
+    }
+
+    /// What is promised, to be named at once. Calls of it wait.
+    pub fn client(&self, alloc: Global) -> ChatClient
+        ensures { result.target ≡ promised_by self.now.resolver }
+    {
+        ChatClient::new(alloc, self.resolver.cap())
+    }
+
+    /// What was promised comes to this object.
+    pub fn resolve<M: Drop>(self, here: &mut Here<M>, client: ChatClient) -> Result<(), AllocError>
+        ensures resolved { OnOk result (place_of here.new ≡ resolved self.resolver client.target (place_of here.old)) }
+        ensures left { OnErr result (place_of here.new ≡ place_of here.old) }
+    {
+        here.resolve(self.resolver, client.target.into_cap())
+    }
+
+    /// Calls of what was promised fail with this.
+    pub fn fail<M: Drop>(self, here: &mut Here<M>, fault: MethodFault) -> Result<(), AllocError>
+        ensures fails { OnOk result (Fails self.resolver fault (place_of here.old) (place_of here.new)) }
+        ensures left { OnErr result (place_of here.new ≡ place_of here.old) }
+    {
+        fail(self.resolver, here, fault)
+    }
+}
+
 /// Passes a call on to the method of an object that its interface and its number name.
 pub fn dispatch_chat<T: ChatServer>(
     object: &mut T,
@@ -155,8 +218,8 @@ fn pass_join<T: ChatServer>(
 {
     match call.params() {
         Ok(body) => {
-            let results = ChatJoinResultsDraft::new(here.alloc())?;
-            let params = ChatJoinParamsView { body };
+            let results = ChatJoinResultsBuilder::new(here.alloc())?;
+            let params = ChatJoinParamsReader { body };
             let mut passed = ServiceCall::new(here.alloc(), call, params, results);
             let done = ChatServer::join(object, &mut passed, here);
             passed.reply(call, done)

@@ -17,17 +17,17 @@ use std::alloc::{AllocError, Global};
 
 /// `struct Chat.join$Params`.
 #[derive(Drop)]
-pub struct ChatJoinParamsView<'a> {
+pub struct ChatJoinParamsReader<'a> {
     /// The struct, by the places of its fields.
     pub body: StructView<'a>,
 }
 
-impl<'a> ChatJoinParamsView<'a> {
+impl<'a> ChatJoinParamsReader<'a> {
     /// The struct that a pointer stands for; null is the struct whose fields are all as by default.
-    pub fn of(at: Pointee<'a>) -> Result<ChatJoinParamsView<'a>, WrongKind>
+    pub fn of(at: Pointee<'a>) -> Result<ChatJoinParamsReader<'a>, WrongKind>
         ensures { Reads result (λ x. x.body) (struct_field at.entry) }
     {
-        Ok(ChatJoinParamsView {
+        Ok(ChatJoinParamsReader {
             body: StructView::of(at)?,
         })
     }
@@ -59,19 +59,35 @@ impl<'a> ChatJoinParamsView<'a> {
 
 /// `struct Chat.join$Params`, to be written.
 #[derive(Drop)]
-pub struct ChatJoinParamsDraft {
+pub struct ChatJoinParamsBuilder {
     /// The struct, by the places of its fields.
     pub body: StructDraft<0, 2>,
 }
 
-impl ChatJoinParamsDraft {
+impl ChatJoinParamsBuilder {
     /// A struct whose fields are all as by default.
-    pub fn new(alloc: Global) -> Result<ChatJoinParamsDraft, AllocError>
+    pub fn new(alloc: Global) -> Result<ChatJoinParamsBuilder, AllocError>
         ensures { IfOk result (λ d. d.body ≡ blank 0 2) }
     {
-        Ok(ChatJoinParamsDraft {
+        Ok(ChatJoinParamsBuilder {
             body: StructDraft::new(alloc)?,
         })
+    }
+
+    /// A struct of these fields, and the table of the capabilities that they name.
+    pub fn of(
+        alloc: Global,
+        name: &str,
+        listener: ListenerClient,
+    ) -> Result<(ChatJoinParamsBuilder, Table), DraftFault>
+        ensures made { IfOk result (λ d. d.0.body ≡ (with_pointer (with_pointer (blank 0 2) 0 (text_tree name.now)) 1 (pointer_naming [] listener.target))) }
+        ensures named { IfOk result (λ d. d.1 ≡ (with_named [] listener.target)) }
+    {
+        let mut table = Table::new(alloc);
+        let mut made = ChatJoinParamsBuilder::new(alloc)?;
+        made.set_name(alloc, name)?;
+        made.set_listener_client(&mut table, listener)?;
+        Ok((made, table))
     }
 
     /// Sets `name`.

@@ -18,17 +18,17 @@ use std::alloc::{AllocError, Global};
 
 /// `struct Chat.join$Results`.
 #[derive(Drop)]
-pub struct ChatJoinResultsView<'a> {
+pub struct ChatJoinResultsReader<'a> {
     /// The struct, by the places of its fields.
     pub body: StructView<'a>,
 }
 
-impl<'a> ChatJoinResultsView<'a> {
+impl<'a> ChatJoinResultsReader<'a> {
     /// The struct that a pointer stands for; null is the struct whose fields are all as by default.
-    pub fn of(at: Pointee<'a>) -> Result<ChatJoinResultsView<'a>, WrongKind>
+    pub fn of(at: Pointee<'a>) -> Result<ChatJoinResultsReader<'a>, WrongKind>
         ensures { Reads result (λ x. x.body) (struct_field at.entry) }
     {
-        Ok(ChatJoinResultsView {
+        Ok(ChatJoinResultsReader {
             body: StructView::of(at)?,
         })
     }
@@ -53,17 +53,17 @@ impl<'a> ChatJoinResultsView<'a> {
 
 /// `struct Chat.join$Results`, to be written.
 #[derive(Drop)]
-pub struct ChatJoinResultsDraft {
+pub struct ChatJoinResultsBuilder {
     /// The struct, by the places of its fields.
     pub body: StructDraft<0, 1>,
 }
 
-impl ChatJoinResultsDraft {
+impl ChatJoinResultsBuilder {
     /// A struct whose fields are all as by default.
-    pub fn new(alloc: Global) -> Result<ChatJoinResultsDraft, AllocError>
+    pub fn new(alloc: Global) -> Result<ChatJoinResultsBuilder, AllocError>
         ensures { IfOk result (λ d. d.body ≡ blank 0 1) }
     {
-        Ok(ChatJoinResultsDraft {
+        Ok(ChatJoinResultsBuilder {
             body: StructDraft::new(alloc)?,
         })
     }
@@ -92,7 +92,7 @@ impl ChatJoinResultsDraft {
     }
 }
 
-impl Results for ChatJoinResultsDraft {
+impl Results for ChatJoinResultsBuilder {
     ghost content = { λ d. d.body };
 
     fn into_whole(self) -> Whole {
@@ -116,10 +116,13 @@ impl ChatJoinResultsPromise {
     }
 
     /// The results that came.
-    pub fn results<'a>(&self, came: &'a ResultPayload) -> Result<ChatJoinResultsView<'a>, WrongKind>
+    pub fn results<'a>(
+        &self,
+        came: &'a ResultPayload,
+    ) -> Result<ChatJoinResultsReader<'a>, WrongKind>
         ensures { Reads result (λ x. x.body) (struct_field came.now.content) }
     {
-        Ok(ChatJoinResultsView {
+        Ok(ChatJoinResultsReader {
             body: came.results()?,
         })
     }

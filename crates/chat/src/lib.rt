@@ -12,23 +12,26 @@ mod member_say_params;
 mod member_say_results;
 
 pub use chat::{
-    ChatClient, ChatJoinCall, ChatServant, ChatServer, dispatch_chat, dispatch_chat_method,
+    ChatClient, ChatJoinCall, ChatResolver, ChatServant, ChatServer, dispatch_chat,
+    dispatch_chat_method,
 };
-pub use chat_join_params::{ChatJoinParamsDraft, ChatJoinParamsView};
-pub use chat_join_results::{ChatJoinResultsDraft, ChatJoinResultsPromise, ChatJoinResultsView};
+pub use chat_join_params::{ChatJoinParamsBuilder, ChatJoinParamsReader};
+pub use chat_join_results::{
+    ChatJoinResultsBuilder, ChatJoinResultsPromise, ChatJoinResultsReader,
+};
 pub use listener::{
-    ListenerClient, ListenerHeardCall, ListenerServant, ListenerServer, dispatch_listener,
-    dispatch_listener_method,
+    ListenerClient, ListenerHeardCall, ListenerResolver, ListenerServant, ListenerServer,
+    dispatch_listener, dispatch_listener_method,
 };
-pub use listener_heard_params::{ListenerHeardParamsDraft, ListenerHeardParamsView};
+pub use listener_heard_params::{ListenerHeardParamsBuilder, ListenerHeardParamsReader};
 pub use listener_heard_results::{
-    ListenerHeardResultsDraft, ListenerHeardResultsPromise, ListenerHeardResultsView,
+    ListenerHeardResultsBuilder, ListenerHeardResultsPromise, ListenerHeardResultsReader,
 };
 pub use member_::{
-    MemberClient, MemberSayCall, MemberServant, MemberServer, dispatch_member,
+    MemberClient, MemberResolver, MemberSayCall, MemberServant, MemberServer, dispatch_member,
     dispatch_member_method,
 };
-pub use member_say_params::{MemberSayParamsDraft, MemberSayParamsView};
+pub use member_say_params::{MemberSayParamsBuilder, MemberSayParamsReader};
 pub use member_say_results::{
-    MemberSayResultsDraft, MemberSayResultsPromise, MemberSayResultsView,
+    MemberSayResultsBuilder, MemberSayResultsPromise, MemberSayResultsReader,
 };

@@ -1,21 +1,23 @@
 //! `listener` of chat.capnp.
 
-ghost use Rattle.std.specs.Prelude.{◌≡◌, IfOk, []};
+ghost use Rattle.std.specs.Prelude.{◌≡◌, IfOk, OnOk, OnErr, []};
 ghost use Rattle.cp_builder.specs.Drafts.{blank, text_tree, with_pointer};
 ghost use Rattle.cp_stubs.specs.Calls.{ask_of, request_of};
 ghost use Rattle.cp_stubs.specs.Dispatch.{Passes};
+ghost use Rattle.cp_makers.specs.Here.{place_of};
 ghost use Rattle.cp_services.specs.Calls.{Answers};
 ghost use Rattle.cp_services.specs.Calls.{MakesOf};
+ghost use Rattle.cp_services.specs.Promises.{Fails, Promises, promised_by, resolved};
 ghost use Rattle.cp_services.specs.Services.{At, at, seen_as, taking};
 ghost use Rattle.chat.specs.Listener.{ListenerKind, ListenerMethodTakes, ListenerTakes, any_listener};
 
-use crate::listener_heard_params::{ListenerHeardParamsDraft, ListenerHeardParamsView};
-use crate::listener_heard_results::{ListenerHeardResultsDraft, ListenerHeardResultsPromise};
+use crate::listener_heard_params::{ListenerHeardParamsBuilder, ListenerHeardParamsReader};
+use crate::listener_heard_results::{ListenerHeardResultsBuilder, ListenerHeardResultsPromise};
 use cp_builder::DraftFault;
-use cp_makers::{Here, Maker};
+use cp_makers::{Here, Maker, Resolver};
 use cp_refs::{Cap, Outcome, Request};
 use cp_servants::{Ask, Reply, Settled};
-use cp_services::{MethodResult, ServiceCall, ServiceObject};
+use cp_services::{MethodResult, ServiceCall, ServiceObject, fail};
 use cp_stubs::{CallTarget, Caller, MethodCall, MethodFault, refuse};
 use std::alloc::{AllocError, Global};
 
@@ -40,7 +42,7 @@ impl ListenerClient {
     }
 
     /// A call of `heard @0`.
-    pub fn heard_request(&self, params: ListenerHeardParamsDraft) -> Request
+    pub fn heard_request(&self, params: ListenerHeardParamsBuilder) -> Request
         ensures { result ≡ request_of 0xba75a021af22dd5e 0 params.body [] }
     {
         let content = params.body.into_whole();
@@ -54,9 +56,9 @@ impl ListenerClient {
         name: &str,
         text: &str,
     ) -> Result<ListenerHeardResultsPromise, C::Fault>
-        ensures { MakesOf (λ p. p.at) C.asks caller.old self.now.target 0xba75a021af22dd5e 0 (with_pointer (with_pointer (blank 0 2) 0 (text_tree name.now)) 1 (text_tree text.now)) result caller.new }
+        ensures { MakesOf (λ p. p.at) C.asks caller.old self.now.target 0xba75a021af22dd5e 0 (with_pointer (with_pointer (blank 0 2) 0 (text_tree name.now)) 1 (text_tree text.now)) [] result caller.new }
     {
-        let params = ListenerHeardParamsDraft::of(self.target.alloc(), name, text)?;
+        let params = ListenerHeardParamsBuilder::of(self.target.alloc(), name, text)?;
         let request = self.heard_request(params);
         Ok(ListenerHeardResultsPromise {
             at: self.target.call(caller, request)?,
@@ -67,7 +69,7 @@ impl ListenerClient {
     pub fn heard_ask(&self, name: &str, text: &str, mark: u64) -> Result<Ask, DraftFault>
         ensures { IfOk result (λ ask. ask ≡ ask_of self.now.target (request_of 0xba75a021af22dd5e 0 (with_pointer (with_pointer (blank 0 2) 0 (text_tree name.now)) 1 (text_tree text.now)) []) mark) }
     {
-        let params = ListenerHeardParamsDraft::of(self.target.alloc(), name, text)?;
+        let params = ListenerHeardParamsBuilder::of(self.target.alloc(), name, text)?;
         let request = self.heard_request(params);
         Ok(self.target.ask(request, mark)?)
     }
@@ -76,8 +78,8 @@ impl ListenerClient {
 /// A call of `heard`.
 pub type ListenerHeardCall<'c> = ServiceCall<
     'c,
-    ListenerHeardParamsView<'c>,
-    ListenerHeardResultsDraft,
+    ListenerHeardParamsReader<'c>,
+    ListenerHeardResultsBuilder,
 >;
 
 /// An object of `interface Listener`.
@@ -137,6 +139,51 @@ impl<T: ListenerServer> Maker for ListenerServant<T> {
     }
 }
 
+/// Resolves a promise of an object of `interface Listener`: one that is named before it is there.
+#[derive(Drop)]
+pub struct ListenerResolver {
+    pub resolver: Resolver,
+}
+
+impl ListenerResolver {
+    /// Makes the promise.
+    pub fn new<M: Drop>(here: &mut Here<M>) -> Result<ListenerResolver, AllocError>
+        ensures promised { IfOk result (λ r. Promises r.resolver (place_of here.old) (place_of here.new)) }
+        ensures left { OnErr result (place_of here.new ≡ place_of here.old) }
+    {
+        Ok(ListenerResolver {
+            resolver: here.promise()?,
+        })
+    }
+
+    /// What is promised, to be named at once. Calls of it wait.
+    pub fn client(&self, alloc: Global) -> ListenerClient
+        ensures { result.target ≡ promised_by self.now.resolver }
+    {
+        ListenerClient::new(alloc, self.resolver.cap())
+    }
+
+    /// What was promised comes to this object.
+    pub fn resolve<M: Drop>(
+        self,
+        here: &mut Here<M>,
+        client: ListenerClient,
+    ) -> Result<(), AllocError>
+        ensures resolved { OnOk result (place_of here.new ≡ resolved self.resolver client.target (place_of here.old)) }
+        ensures left { OnErr result (place_of here.new ≡ place_of here.old) }
+    {
+        here.resolve(self.resolver, client.target.into_cap())
+    }
+
+    /// Calls of what was promised fail with this.
+    pub fn fail<M: Drop>(self, here: &mut Here<M>, fault: MethodFault) -> Result<(), AllocError>
+        ensures fails { OnOk result (Fails self.resolver fault (place_of here.old) (place_of here.new)) }
+        ensures left { OnErr result (place_of here.new ≡ place_of here.old) }
+    {
+        fail(self.resolver, here, fault)
+    }
+}
+
 /// Passes a call on to the method of an object that its interface and its number name.
 pub fn dispatch_listener<T: ListenerServer>(
     object: &mut T,
@@ -175,8 +222,8 @@ fn pass_heard<T: ListenerServer>(
 {
     match call.params() {
         Ok(body) => {
-            let results = ListenerHeardResultsDraft::new(here.alloc())?;
-            let params = ListenerHeardParamsView { body };
+            let results = ListenerHeardResultsBuilder::new(here.alloc())?;
+            let params = ListenerHeardParamsReader { body };
             let mut passed = ServiceCall::new(here.alloc(), call, params, results);
             let done = ListenerServer::heard(object, &mut passed, here);
             passed.reply(call, done)

@@ -12,17 +12,17 @@ use std::alloc::{AllocError, Global};
 
 /// `struct Listener.heard$Params`.
 #[derive(Drop)]
-pub struct ListenerHeardParamsView<'a> {
+pub struct ListenerHeardParamsReader<'a> {
     /// The struct, by the places of its fields.
     pub body: StructView<'a>,
 }
 
-impl<'a> ListenerHeardParamsView<'a> {
+impl<'a> ListenerHeardParamsReader<'a> {
     /// The struct that a pointer stands for; null is the struct whose fields are all as by default.
-    pub fn of(at: Pointee<'a>) -> Result<ListenerHeardParamsView<'a>, WrongKind>
+    pub fn of(at: Pointee<'a>) -> Result<ListenerHeardParamsReader<'a>, WrongKind>
         ensures { Reads result (λ x. x.body) (struct_field at.entry) }
     {
-        Ok(ListenerHeardParamsView {
+        Ok(ListenerHeardParamsReader {
             body: StructView::of(at)?,
         })
     }
@@ -44,26 +44,30 @@ impl<'a> ListenerHeardParamsView<'a> {
 
 /// `struct Listener.heard$Params`, to be written.
 #[derive(Drop)]
-pub struct ListenerHeardParamsDraft {
+pub struct ListenerHeardParamsBuilder {
     /// The struct, by the places of its fields.
     pub body: StructDraft<0, 2>,
 }
 
-impl ListenerHeardParamsDraft {
+impl ListenerHeardParamsBuilder {
     /// A struct whose fields are all as by default.
-    pub fn new(alloc: Global) -> Result<ListenerHeardParamsDraft, AllocError>
+    pub fn new(alloc: Global) -> Result<ListenerHeardParamsBuilder, AllocError>
         ensures { IfOk result (λ d. d.body ≡ blank 0 2) }
     {
-        Ok(ListenerHeardParamsDraft {
+        Ok(ListenerHeardParamsBuilder {
             body: StructDraft::new(alloc)?,
         })
     }
 
     /// A struct of these fields.
-    pub fn of(alloc: Global, name: &str, text: &str) -> Result<ListenerHeardParamsDraft, DraftFault>
+    pub fn of(
+        alloc: Global,
+        name: &str,
+        text: &str,
+    ) -> Result<ListenerHeardParamsBuilder, DraftFault>
         ensures { IfOk result (λ d. d.body ≡ (with_pointer (with_pointer (blank 0 2) 0 (text_tree name.now)) 1 (text_tree text.now))) }
     {
-        let mut made = ListenerHeardParamsDraft::new(alloc)?;
+        let mut made = ListenerHeardParamsBuilder::new(alloc)?;
         made.set_name(alloc, name)?;
         made.set_text(alloc, text)?;
         Ok(made)

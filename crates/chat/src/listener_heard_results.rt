@@ -12,17 +12,17 @@ use std::alloc::{AllocError, Global};
 
 /// `struct Listener.heard$Results`.
 #[derive(Drop)]
-pub struct ListenerHeardResultsView<'a> {
+pub struct ListenerHeardResultsReader<'a> {
     /// The struct, by the places of its fields.
     pub body: StructView<'a>,
 }
 
-impl<'a> ListenerHeardResultsView<'a> {
+impl<'a> ListenerHeardResultsReader<'a> {
     /// The struct that a pointer stands for; null is the struct whose fields are all as by default.
-    pub fn of(at: Pointee<'a>) -> Result<ListenerHeardResultsView<'a>, WrongKind>
+    pub fn of(at: Pointee<'a>) -> Result<ListenerHeardResultsReader<'a>, WrongKind>
         ensures { Reads result (λ x. x.body) (struct_field at.entry) }
     {
-        Ok(ListenerHeardResultsView {
+        Ok(ListenerHeardResultsReader {
             body: StructView::of(at)?,
         })
     }
@@ -30,23 +30,23 @@ impl<'a> ListenerHeardResultsView<'a> {
 
 /// `struct Listener.heard$Results`, to be written.
 #[derive(Drop)]
-pub struct ListenerHeardResultsDraft {
+pub struct ListenerHeardResultsBuilder {
     /// The struct, by the places of its fields.
     pub body: StructDraft<0, 0>,
 }
 
-impl ListenerHeardResultsDraft {
+impl ListenerHeardResultsBuilder {
     /// A struct whose fields are all as by default.
-    pub fn new(alloc: Global) -> Result<ListenerHeardResultsDraft, AllocError>
+    pub fn new(alloc: Global) -> Result<ListenerHeardResultsBuilder, AllocError>
         ensures { IfOk result (λ d. d.body ≡ blank 0 0) }
     {
-        Ok(ListenerHeardResultsDraft {
+        Ok(ListenerHeardResultsBuilder {
             body: StructDraft::new(alloc)?,
         })
     }
 }
 
-impl Results for ListenerHeardResultsDraft {
+impl Results for ListenerHeardResultsBuilder {
     ghost content = { λ d. d.body };
 
     fn into_whole(self) -> Whole {
@@ -73,10 +73,10 @@ impl ListenerHeardResultsPromise {
     pub fn results<'a>(
         &self,
         came: &'a ResultPayload,
-    ) -> Result<ListenerHeardResultsView<'a>, WrongKind>
+    ) -> Result<ListenerHeardResultsReader<'a>, WrongKind>
         ensures { Reads result (λ x. x.body) (struct_field came.now.content) }
     {
-        Ok(ListenerHeardResultsView {
+        Ok(ListenerHeardResultsReader {
             body: came.results()?,
         })
     }

@@ -1,21 +1,23 @@
 //! `member_` of chat.capnp.
 
-ghost use Rattle.std.specs.Prelude.{◌≡◌, IfOk, []};
+ghost use Rattle.std.specs.Prelude.{◌≡◌, IfOk, OnOk, OnErr, []};
 ghost use Rattle.cp_builder.specs.Drafts.{blank, text_tree, with_pointer};
 ghost use Rattle.cp_stubs.specs.Calls.{ask_of, request_of};
 ghost use Rattle.cp_stubs.specs.Dispatch.{Passes};
+ghost use Rattle.cp_makers.specs.Here.{place_of};
 ghost use Rattle.cp_services.specs.Calls.{Answers};
 ghost use Rattle.cp_services.specs.Calls.{MakesOf};
+ghost use Rattle.cp_services.specs.Promises.{Fails, Promises, promised_by, resolved};
 ghost use Rattle.cp_services.specs.Services.{At, at, seen_as, taking};
 ghost use Rattle.chat.specs.Member_.{MemberKind, MemberMethodTakes, MemberTakes, any_member};
 
-use crate::member_say_params::{MemberSayParamsDraft, MemberSayParamsView};
-use crate::member_say_results::{MemberSayResultsDraft, MemberSayResultsPromise};
+use crate::member_say_params::{MemberSayParamsBuilder, MemberSayParamsReader};
+use crate::member_say_results::{MemberSayResultsBuilder, MemberSayResultsPromise};
 use cp_builder::DraftFault;
-use cp_makers::{Here, Maker};
+use cp_makers::{Here, Maker, Resolver};
 use cp_refs::{Cap, Outcome, Request};
 use cp_servants::{Ask, Reply, Settled};
-use cp_services::{MethodResult, ServiceCall, ServiceObject};
+use cp_services::{MethodResult, ServiceCall, ServiceObject, fail};
 use cp_stubs::{CallTarget, Caller, MethodCall, MethodFault, refuse};
 use std::alloc::{AllocError, Global};
 
@@ -40,7 +42,7 @@ impl MemberClient {
     }
 
     /// A call of `say @0`.
-    pub fn say_request(&self, params: MemberSayParamsDraft) -> Request
+    pub fn say_request(&self, params: MemberSayParamsBuilder) -> Request
         ensures { result ≡ request_of 0xe5edd802c7f5c6ea 0 params.body [] }
     {
         let content = params.body.into_whole();
@@ -53,9 +55,9 @@ impl MemberClient {
         caller: &mut C,
         text: &str,
     ) -> Result<MemberSayResultsPromise, C::Fault>
-        ensures { MakesOf (λ p. p.at) C.asks caller.old self.now.target 0xe5edd802c7f5c6ea 0 (with_pointer (blank 0 1) 0 (text_tree text.now)) result caller.new }
+        ensures { MakesOf (λ p. p.at) C.asks caller.old self.now.target 0xe5edd802c7f5c6ea 0 (with_pointer (blank 0 1) 0 (text_tree text.now)) [] result caller.new }
     {
-        let params = MemberSayParamsDraft::of(self.target.alloc(), text)?;
+        let params = MemberSayParamsBuilder::of(self.target.alloc(), text)?;
         let request = self.say_request(params);
         Ok(MemberSayResultsPromise {
             at: self.target.call(caller, request)?,
@@ -66,14 +68,14 @@ impl MemberClient {
     pub fn say_ask(&self, text: &str, mark: u64) -> Result<Ask, DraftFault>
         ensures { IfOk result (λ ask. ask ≡ ask_of self.now.target (request_of 0xe5edd802c7f5c6ea 0 (with_pointer (blank 0 1) 0 (text_tree text.now)) []) mark) }
     {
-        let params = MemberSayParamsDraft::of(self.target.alloc(), text)?;
+        let params = MemberSayParamsBuilder::of(self.target.alloc(), text)?;
         let request = self.say_request(params);
         Ok(self.target.ask(request, mark)?)
     }
 }
 
 /// A call of `say`.
-pub type MemberSayCall<'c> = ServiceCall<'c, MemberSayParamsView<'c>, MemberSayResultsDraft>;
+pub type MemberSayCall<'c> = ServiceCall<'c, MemberSayParamsReader<'c>, MemberSayResultsBuilder>;
 
 /// An object of `interface Member`.
 pub trait MemberServer: ServiceObject {
@@ -128,6 +130,51 @@ impl<T: MemberServer> Maker for MemberServant<T> {
     }
 }
 
+/// Resolves a promise of an object of `interface Member`: one that is named before it is there.
+#[derive(Drop)]
+pub struct MemberResolver {
+    pub resolver: Resolver,
+}
+
+impl MemberResolver {
+    /// Makes the promise.
+    pub fn new<M: Drop>(here: &mut Here<M>) -> Result<MemberResolver, AllocError>
+        ensures promised { IfOk result (λ r. Promises r.resolver (place_of here.old) (place_of here.new)) }
+        ensures left { OnErr result (place_of here.new ≡ place_of here.old) }
+    {
+        Ok(MemberResolver {
+            resolver: here.promise()?,
+        })
+    }
+
+    /// What is promised, to be named at once. Calls of it wait.
+    pub fn client(&self, alloc: Global) -> MemberClient
+        ensures { result.target ≡ promised_by self.now.resolver }
+    {
+        MemberClient::new(alloc, self.resolver.cap())
+    }
+
+    /// What was promised comes to this object.
+    pub fn resolve<M: Drop>(
+        self,
+        here: &mut Here<M>,
+        client: MemberClient,
+    ) -> Result<(), AllocError>
+        ensures resolved { OnOk result (place_of here.new ≡ resolved self.resolver client.target (place_of here.old)) }
+        ensures left { OnErr result (place_of here.new ≡ place_of here.old) }
+    {
+        here.resolve(self.resolver, client.target.into_cap())
+    }
+
+    /// Calls of what was promised fail with this.
+    pub fn fail<M: Drop>(self, here: &mut Here<M>, fault: MethodFault) -> Result<(), AllocError>
+        ensures fails { OnOk result (Fails self.resolver fault (place_of here.old) (place_of here.new)) }
+        ensures left { OnErr result (place_of here.new ≡ place_of here.old) }
+    {
+        fail(self.resolver, here, fault)
+    }
+}
+
 /// Passes a call on to the method of an object that its interface and its number name.
 pub fn dispatch_member<T: MemberServer>(
     object: &mut T,
@@ -166,8 +213,8 @@ fn pass_say<T: MemberServer>(
 {
     match call.params() {
         Ok(body) => {
-            let results = MemberSayResultsDraft::new(here.alloc())?;
-            let params = MemberSayParamsView { body };
+            let results = MemberSayResultsBuilder::new(here.alloc())?;
+            let params = MemberSayParamsReader { body };
             let mut passed = ServiceCall::new(here.alloc(), call, params, results);
             let done = MemberServer::say(object, &mut passed, here);
             passed.reply(call, done)

@@ -12,17 +12,17 @@ use std::alloc::{AllocError, Global};
 
 /// `struct Member.say$Params`.
 #[derive(Drop)]
-pub struct MemberSayParamsView<'a> {
+pub struct MemberSayParamsReader<'a> {
     /// The struct, by the places of its fields.
     pub body: StructView<'a>,
 }
 
-impl<'a> MemberSayParamsView<'a> {
+impl<'a> MemberSayParamsReader<'a> {
     /// The struct that a pointer stands for; null is the struct whose fields are all as by default.
-    pub fn of(at: Pointee<'a>) -> Result<MemberSayParamsView<'a>, WrongKind>
+    pub fn of(at: Pointee<'a>) -> Result<MemberSayParamsReader<'a>, WrongKind>
         ensures { Reads result (λ x. x.body) (struct_field at.entry) }
     {
-        Ok(MemberSayParamsView {
+        Ok(MemberSayParamsReader {
             body: StructView::of(at)?,
         })
     }
@@ -37,26 +37,26 @@ impl<'a> MemberSayParamsView<'a> {
 
 /// `struct Member.say$Params`, to be written.
 #[derive(Drop)]
-pub struct MemberSayParamsDraft {
+pub struct MemberSayParamsBuilder {
     /// The struct, by the places of its fields.
     pub body: StructDraft<0, 1>,
 }
 
-impl MemberSayParamsDraft {
+impl MemberSayParamsBuilder {
     /// A struct whose fields are all as by default.
-    pub fn new(alloc: Global) -> Result<MemberSayParamsDraft, AllocError>
+    pub fn new(alloc: Global) -> Result<MemberSayParamsBuilder, AllocError>
         ensures { IfOk result (λ d. d.body ≡ blank 0 1) }
     {
-        Ok(MemberSayParamsDraft {
+        Ok(MemberSayParamsBuilder {
             body: StructDraft::new(alloc)?,
         })
     }
 
     /// A struct of these fields.
-    pub fn of(alloc: Global, text: &str) -> Result<MemberSayParamsDraft, DraftFault>
+    pub fn of(alloc: Global, text: &str) -> Result<MemberSayParamsBuilder, DraftFault>
         ensures { IfOk result (λ d. d.body ≡ (with_pointer (blank 0 1) 0 (text_tree text.now))) }
     {
-        let mut made = MemberSayParamsDraft::new(alloc)?;
+        let mut made = MemberSayParamsBuilder::new(alloc)?;
         made.set_text(alloc, text)?;
         Ok(made)
     }

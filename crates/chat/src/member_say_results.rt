@@ -12,17 +12,17 @@ use std::alloc::{AllocError, Global};
 
 /// `struct Member.say$Results`.
 #[derive(Drop)]
-pub struct MemberSayResultsView<'a> {
+pub struct MemberSayResultsReader<'a> {
     /// The struct, by the places of its fields.
     pub body: StructView<'a>,
 }
 
-impl<'a> MemberSayResultsView<'a> {
+impl<'a> MemberSayResultsReader<'a> {
     /// The struct that a pointer stands for; null is the struct whose fields are all as by default.
-    pub fn of(at: Pointee<'a>) -> Result<MemberSayResultsView<'a>, WrongKind>
+    pub fn of(at: Pointee<'a>) -> Result<MemberSayResultsReader<'a>, WrongKind>
         ensures { Reads result (λ x. x.body) (struct_field at.entry) }
     {
-        Ok(MemberSayResultsView {
+        Ok(MemberSayResultsReader {
             body: StructView::of(at)?,
         })
     }
@@ -30,23 +30,23 @@ impl<'a> MemberSayResultsView<'a> {
 
 /// `struct Member.say$Results`, to be written.
 #[derive(Drop)]
-pub struct MemberSayResultsDraft {
+pub struct MemberSayResultsBuilder {
     /// The struct, by the places of its fields.
     pub body: StructDraft<0, 0>,
 }
 
-impl MemberSayResultsDraft {
+impl MemberSayResultsBuilder {
     /// A struct whose fields are all as by default.
-    pub fn new(alloc: Global) -> Result<MemberSayResultsDraft, AllocError>
+    pub fn new(alloc: Global) -> Result<MemberSayResultsBuilder, AllocError>
         ensures { IfOk result (λ d. d.body ≡ blank 0 0) }
     {
-        Ok(MemberSayResultsDraft {
+        Ok(MemberSayResultsBuilder {
             body: StructDraft::new(alloc)?,
         })
     }
 }
 
-impl Results for MemberSayResultsDraft {
+impl Results for MemberSayResultsBuilder {
     ghost content = { λ d. d.body };
 
     fn into_whole(self) -> Whole {
@@ -73,10 +73,10 @@ impl MemberSayResultsPromise {
     pub fn results<'a>(
         &self,
         came: &'a ResultPayload,
-    ) -> Result<MemberSayResultsView<'a>, WrongKind>
+    ) -> Result<MemberSayResultsReader<'a>, WrongKind>
         ensures { Reads result (λ x. x.body) (struct_field came.now.content) }
     {
-        Ok(MemberSayResultsView {
+        Ok(MemberSayResultsReader {
             body: came.results()?,
         })
     }

@@ -1,5 +1,5 @@
 -- What goes to a peer for what a method did of a call.
-use Rattle.std.specs.Prelude.{◌≡◌, ◌⊎◌, ℕ, List, [], if◌then◌else◌, Option, Some, None, Result, Ok, Err, IfSome}
+use Rattle.std.specs.Prelude.{◌≡◌, ◌⊎◌, ℕ, List, if◌then◌else◌, Option, Some, None, Result, Ok, Err, IfSome}
 use Rattle.cp_tree.specs.Node.{Node}
 use Rattle.cp_messages.specs.declared.exception.Exception.{Exception}
 use Rattle.cp_refs.specs.declared.call.Request.{Request}
@@ -27,11 +27,11 @@ abbrev pub Answers : {S P R : Type 0} → (P → Node) → (R → Node) → Meth
 Answers params content method old before after done new =
     IfSome (reply_for content before.of.now.request.caps after done) (λ reply. method old before.of.now (params before.params) reply new)
 
--- A method was called, with these params, which name no capability. Or it wasn't; or its params couldn't be written, and nothing was done.
-abbrev pub MakesOf : {C A F : Type 0} → (A → Promise) → (C → Cap → Request → Result ℕ F → C → Type 0) → C → Cap → ℕ → ℕ → Node → Result A F → C → Type 0
-MakesOf at asks old cap interface method content (Ok p) new = Makes at asks old cap interface method content [] (Ok p) new
-MakesOf at asks old cap interface method content (Err fault) new =
-    Makes at asks old cap interface method content [] (Err fault) new ⊎ (new ≡ old)
+-- A method was called, with these params and the capabilities that they name. Or it wasn't; or its params couldn't be written, and nothing was done.
+abbrev pub MakesOf : {C A F : Type 0} → (A → Promise) → (C → Cap → Request → Result ℕ F → C → Type 0) → C → Cap → ℕ → ℕ → Node → List Cap → Result A F → C → Type 0
+MakesOf at asks old cap interface method content named (Ok p) new = Makes at asks old cap interface method content named (Ok p) new
+MakesOf at asks old cap interface method content named (Err fault) new =
+    Makes at asks old cap interface method content named (Err fault) new ⊎ (new ≡ old)
 
 -- what a call came to that failed later, by its ticket and the imports that aren't kept; nothing where memory ran out
 abbrev pub failed_with : ℕ → List ℕ → Option Exception → Option Settled

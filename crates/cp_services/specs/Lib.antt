@@ -1,2 +1,3 @@
 pub mod Services
+pub mod Promises
 pub mod Calls

@@ -4,7 +4,9 @@
 mod call;
 mod later;
 mod object;
+mod resolving;
 
 pub use call::{MethodResult, ServiceCall};
 pub use later::LaterCall;
 pub use object::ServiceObject;
+pub use resolving::fail;

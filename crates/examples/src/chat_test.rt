@@ -1,12 +1,9 @@
 //! Tests `chat_server` in memory: a client that says nothing hears what another one says.
 
 use crate::chat_server::{Room, Served, new_objects, new_room};
-use chat::{
-    ChatClient, ChatJoinParamsDraft, ListenerClient, ListenerHeardCall, ListenerServant,
-    ListenerServer,
-};
+use chat::{ChatClient, ListenerClient, ListenerHeardCall, ListenerServant, ListenerServer};
 use jamdrosek::client::Client;
-use jamdrosek::interfaces::{MethodResult, ServiceObject, Table};
+use jamdrosek::interfaces::{MethodResult, ServiceObject};
 use jamdrosek::server::{Family, Hall, Here, Waker};
 use jamdrosek::session::{Session, SessionLimits, SessionOptions};
 use jamdrosek::{Limits, Mode};
@@ -113,11 +110,7 @@ fn join(
     text: Option<&str>,
 ) -> anyhow::Result<()> {
     let chat = ChatClient::new(alloc, client.bootstrap()?.cap(alloc));
-    let mut table = Table::new(alloc);
-    let mut params = ChatJoinParamsDraft::new(alloc)?;
-    params.set_name(alloc, name)?;
-    params.set_listener_client(&mut table, listener)?;
-    let member = chat.join(client, params, table)?.member_()?;
+    let member = chat.join(client, name, listener)?.member_()?;
     if let Some(text) = text {
         member.say(client, text)?;
     }

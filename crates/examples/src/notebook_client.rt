@@ -1,13 +1,10 @@
-//! Adds a note to the notebook of the example `notebook_server`, reads it as a page, and is told of it.
+//! Adds a note to the notebook of the example `notebook_server`, reads it as a page that was promised, and is told of it.
 
 use jamdrosek::client::{Client, Question};
-use jamdrosek::interfaces::{MethodResult, ServiceObject, Table};
+use jamdrosek::interfaces::{MethodResult, ServiceObject};
 use jamdrosek::server::{Family, Here};
 use jamdrosek::{Limits, Mode};
-use notebook::{
-    NotebookClient, NotebookOpenResultsPromise, NotebookWatchParamsDraft, WatcherAddedCall,
-    WatcherClient, WatcherServant, WatcherServer,
-};
+use notebook::{NotebookClient, WatcherAddedCall, WatcherClient, WatcherServant, WatcherServer};
 use std::alloc::Global;
 use std::cell::RefCell;
 use std::io::{Read, Write};
@@ -38,58 +35,32 @@ pub fn talk<R: Read + Drop, W: Write + Drop>(
     let watcher = WatcherClient::new(alloc, objects.add(WatcherServant { object })?);
     let limits = Limits::standard();
     let mut client = Client::with_family(alloc, from, to, Mode::Plain, limits, objects);
-    let text = add_and_read(alloc, &mut client, watcher);
+    let said = add_and_read(alloc, &mut client, watcher, &heard);
     // This consumes the client, so that the prover needn't check its drop here.
     let (_, to) = client.into_devices();
-    Ok((to, said(alloc, text, &heard)))
+    Ok((to, said))
 }
 
-/// What was read, and what was heard.
-fn said(
-    alloc: Global,
-    text: anyhow::Result<String>,
-    heard: &Rc<RefCell<String>>,
-) -> anyhow::Result<String> {
-    let text = text?;
-    let heard = heard.try_borrow()?;
-    Ok(format!(in alloc; "the page says {}{}", text.as_str(), heard.as_str())?)
-}
-
-/// Watches, adds a note and reads it, in one round trip. Then drops the page.
+/// Watches, reads the page of the next note, adds that note, and gives the page up, in one round trip.
 fn add_and_read<R: Read + Drop, W: Write + Drop>(
     alloc: Global,
     client: &mut Client<R, W, Family<Served>>,
     watcher: WatcherClient,
+    heard: &Rc<RefCell<String>>,
 ) -> anyhow::Result<String> {
     let notebook = NotebookClient::new(alloc, client.bootstrap()?.cap(alloc));
-    let mut table = Table::new(alloc);
-    let mut params = NotebookWatchParamsDraft::new(alloc)?;
-    params.set_watcher_client(&mut table, watcher)?;
-    notebook.watch(client, params, table)?;
+    notebook.watch(client, watcher)?;
+    let next = notebook.next(client)?;
+    let read = next.page()?.read(client)?;
     notebook.add(client, "hello")?;
-    let opened = notebook.open_(client, 0)?;
-    let page = opened.page()?;
-    let read = page.read(client)?;
+    // The results haven't come yet, so the page goes with the question.
+    client.finish(Question {
+        number: next.question(),
+    })?;
     let came = client.results(read.question())?;
     let text = read.results(&came)?.text()?.text(alloc)?;
-    close(alloc, client, &opened)?;
-    Ok(text)
-}
-
-/// Drops a page.
-fn close<R: Read + Drop, W: Write + Drop>(
-    alloc: Global,
-    client: &mut Client<R, W, Family<Served>>,
-    opened: &NotebookOpenResultsPromise,
-) -> anyhow::Result<()> {
-    let number = opened.question();
-    let came = client.results(number)?;
-    let page = opened.results(&came)?.page_client(alloc, &came.caps)?;
-    client.finish(Question { number })?;
-    if let Some(import) = page.target.import() {
-        client.release(import)?;
-    }
-    Ok(client.flush()?)
+    let heard = heard.try_borrow()?;
+    Ok(format!(in alloc; "the page says {}{}", text.as_str(), heard.as_str())?)
 }
 
 /// Hears of notes.

@@ -4,12 +4,14 @@ use jamdrosek::host::{Host, HostPlan, Listener, News};
 use jamdrosek::interfaces::{MethodFault, MethodResult, ServiceObject, failed};
 use jamdrosek::server::{Any2, Ask, Family, Here, Waker};
 use notebook::{
-    NotebookAddCall, NotebookOpenCall, NotebookServant, NotebookServer, NotebookWatchCall,
-    PageClient, PageReadCall, PageServant, PageServer, WatcherClient,
+    NotebookAddCall, NotebookNextCall, NotebookOpenCall, NotebookServant, NotebookServer,
+    NotebookWatchCall, PageClient, PageReadCall, PageResolver, PageServant, PageServer,
+    WatcherClient,
 };
 use std::alloc::Global;
 use std::cell::RefCell;
-use std::collections::{BTreeMap, VecDeque};
+use std::collections::BTreeMap;
+use std::mem;
 use std::net::{Ipv4Addr, SocketAddr};
 use std::rc::Rc;
 
@@ -20,7 +22,7 @@ pub type Served = Any2<NotebookServant<Notebook>, PageServant<Page>>;
 #[derive(Drop)]
 pub struct Shelf {
     notes: Vec<String>,
-    /// What wakes the notebooks that have watchers, by the numbers of their connections.
+    /// What wakes the notebooks, by the numbers of their connections.
     wakers: BTreeMap<u64, Waker>,
 }
 
@@ -60,8 +62,7 @@ pub fn new_objects(
         shelf: shelf.clone()?,
         number,
         watchers: Vec::new(alloc),
-        told: 0,
-        calls: VecDeque::new(alloc),
+        awaited: Vec::new(alloc),
     };
     let mut objects = Family::new(alloc);
     objects.add(Served::First(NotebookServant { object }))?;
@@ -73,25 +74,39 @@ pub fn new_objects(
 pub struct Notebook {
     shelf: Rc<RefCell<Shelf>>,
     number: u64,
-    watchers: Vec<WatcherClient>,
-    /// How many notes the watchers were told of.
+    watchers: Vec<Watching>,
+    /// The pages that are promised, by the numbers of their notes.
+    awaited: Vec<(usize, PageResolver)>,
+}
+
+/// A watcher, and how many notes it was told of.
+#[derive(Drop)]
+struct Watching {
+    watcher: WatcherClient,
     told: usize,
-    /// Calls of watchers that are still to be made.
-    calls: VecDeque<Ask>,
 }
 
 impl ServiceObject for Notebook {
     type Makes = Served;
 
-    fn ask(&mut self, _here: &mut Here<Served>) -> Result<Option<Ask>, MethodFault> {
-        let shelf = self.shelf.try_borrow()?;
-        for note in shelf.notes.iter().skip(self.told) {
-            for watcher in &self.watchers {
-                self.calls.push_back(watcher.added_ask(note.as_str(), 0)?)?;
+    fn ask(&mut self, here: &mut Here<Served>) -> Result<Option<Ask>, MethodFault> {
+        let mut shelf = self.shelf.try_borrow_mut()?;
+        shelf.wakers.insert(self.number, here.waker())?;
+        for (id, resolver) in mem::replace(&mut self.awaited, Vec::new(here.alloc())) {
+            if id < shelf.notes.len() {
+                let page = new_page(&self.shelf, id, here)?;
+                resolver.resolve(here, page)?;
+            } else {
+                self.awaited.push((id, resolver))?;
             }
         }
-        self.told = shelf.notes.len();
-        Ok(self.calls.pop_front())
+        for watching in &mut self.watchers {
+            if let Some(note) = shelf.notes.get(watching.told) {
+                watching.told = watching.told.saturating_add(1);
+                return Ok(Some(watching.watcher.added_ask(note.as_str(), 0)?));
+            }
+        }
+        Ok(None)
     }
 }
 
@@ -108,12 +123,7 @@ impl NotebookServer for Notebook {
     }
 
     fn open_(&mut self, call: &mut NotebookOpenCall<'_>, here: &mut Here<Served>) -> MethodResult {
-        let object = Page {
-            shelf: self.shelf.clone()?,
-            id: call.params.id(),
-        };
-        let page = here.make(Served::Second(PageServant { object }))?;
-        let page = PageClient::new(here.alloc(), page);
+        let page = new_page(&self.shelf, call.params.id() as usize, here)?;
         call.results.set_page_client(&mut call.table, page)?;
         Ok(())
     }
@@ -121,19 +131,40 @@ impl NotebookServer for Notebook {
     fn watch(&mut self, call: &mut NotebookWatchCall<'_>, here: &mut Here<Served>) -> MethodResult {
         let watcher = call.params.watcher_client(here.alloc(), call.caps())?;
         call.keep(&watcher.target)?;
-        self.watchers.push(watcher)?;
-        let mut shelf = self.shelf.try_borrow_mut()?;
-        self.told = shelf.notes.len();
-        shelf.wakers.insert(self.number, here.waker())?;
+        let told = self.shelf.try_borrow()?.notes.len();
+        self.watchers.push(Watching { watcher, told })?;
         Ok(())
     }
+
+    fn next(&mut self, call: &mut NotebookNextCall<'_>, here: &mut Here<Served>) -> MethodResult {
+        let resolver = PageResolver::new(here)?;
+        let page = resolver.client(here.alloc());
+        call.results.set_page_client(&mut call.table, page)?;
+        let id = self.shelf.try_borrow()?.notes.len();
+        self.awaited.push((id, resolver))?;
+        Ok(())
+    }
+}
+
+/// Makes an object for a note.
+fn new_page(
+    shelf: &Rc<RefCell<Shelf>>,
+    id: usize,
+    here: &mut Here<Served>,
+) -> Result<PageClient, MethodFault> {
+    let object = Page {
+        shelf: shelf.clone()?,
+        id,
+    };
+    let page = here.make(Served::Second(PageServant { object }))?;
+    Ok(PageClient::new(here.alloc(), page))
 }
 
 /// A note, as an object.
 #[derive(Drop)]
 pub struct Page {
     shelf: Rc<RefCell<Shelf>>,
-    id: u32,
+    id: usize,
 }
 
 impl ServiceObject for Page {
@@ -143,7 +174,7 @@ impl ServiceObject for Page {
 impl PageServer for Page {
     fn read(&mut self, call: &mut PageReadCall<'_>, here: &mut Here<Served>) -> MethodResult {
         let shelf = self.shelf.try_borrow()?;
-        let Some(note) = shelf.notes.get(self.id as usize) else {
+        let Some(note) = shelf.notes.get(self.id) else {
             return Err(MethodFault::from(failed(here.alloc(), "there is no such note")?));
         };
         call.results.set_text(here.alloc(), note.as_str())?;

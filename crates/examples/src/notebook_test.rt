@@ -10,11 +10,11 @@ pub fn run(rt: &HostRuntime) -> anyhow::Result<()> {
     let alloc = rt.alloc();
     // The second time the client goes on, as the answers are there.
     let (calls, _) = exchange(alloc, &[])?;
-    let (answers, opened) = answers_to(alloc, &calls)?;
+    let (answers, _, _) = answers_to(alloc, &calls)?;
     let (calls, said) = exchange(alloc, &answers)?;
-    let (_, left) = answers_to(alloc, &calls)?;
+    let (_, most, left) = answers_to(alloc, &calls)?;
     println!(rt; "{}", said?.as_str())?;
-    println!(rt; "{opened} objects, and {left} once the page is dropped")?;
+    println!(rt; "{most} objects, and {left} once the page is dropped")?;
     Ok(())
 }
 
@@ -23,8 +23,8 @@ fn exchange(alloc: Global, from: &[u8]) -> anyhow::Result<(Vec<u8>, anyhow::Resu
     talk(alloc, from, Vec::new(alloc))
 }
 
-/// What a notebook sends for these bytes, and how many objects there are once it had time to drop what nobody has.
-fn answers_to(alloc: Global, bytes: &[u8]) -> anyhow::Result<(Vec<u8>, usize)> {
+/// What a notebook sends for these bytes, how many objects there are at most, and how many once it had time to drop what nobody has.
+fn answers_to(alloc: Global, bytes: &[u8]) -> anyhow::Result<(Vec<u8>, usize, usize)> {
     let options = SessionOptions {
         mode: Mode::Plain,
         messages: Limits::standard(),
@@ -35,12 +35,14 @@ fn answers_to(alloc: Global, bytes: &[u8]) -> anyhow::Result<(Vec<u8>, usize)> {
     };
     let objects = new_objects(alloc, &new_shelf(alloc)?, 1)?;
     let mut server = Session::new(alloc, &options, objects, 0);
+    let mut most = 0;
     for byte in bytes {
         server.receive(&[*byte], 0)?;
+        most = most.max(server.hall().len());
     }
     server.tick(1_000);
     let sent = Vec::from_slice(alloc, server.outgoing());
     let left = server.hall().len();
     drop(server);
-    Ok((sent?, left))
+    Ok((sent?, most, left))
 }

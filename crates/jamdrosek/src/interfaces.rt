@@ -20,7 +20,7 @@
 
 pub use cp_builder::DraftFault;
 pub use cp_refs::failed;
-pub use cp_services::{LaterCall, MethodResult, ServiceCall, ServiceObject};
+pub use cp_services::{LaterCall, MethodResult, ServiceCall, ServiceObject, fail};
 pub use cp_stubs::{
     Answer, CallTarget, Caller, CapFault, MethodCall, MethodFault, NoResults, Promised,
     ResultPayload, Results, ServerObject, StreamResultDraft, StreamResultPromise, Table,

@@ -222,8 +222,7 @@
 //! ..
 //! let mut client = Client::with_family(alloc, from, to, Mode::Plain, limits, objects);
 //! ..
-//! params.set_watcher_client(&mut table, watcher)?;
-//! notebook.watch(client, params, table)?;
+//! notebook.watch(client, watcher)?;
 //! ```
 //!
 //! With objects that make none (`--interfaces`, or `Box<dyn Servant>`) it is `Client::with_objects`, and `export` adds an object.
@@ -240,18 +239,21 @@
 //! objects.add(Served::First(NotebookServant { object }))?;
 //! ..
 //! fn open_(&mut self, call: &mut NotebookOpenCall<'_>, here: &mut Here<Served>) -> MethodResult {
-//!     let object = Page {
-//!         shelf: self.shelf.clone()?,
-//!         id: call.params.id(),
-//!     };
-//!     let page = here.make(Served::Second(PageServant { object }))?;
-//!     let page = PageClient::new(here.alloc(), page);
+//!     let page = new_page(&self.shelf, call.params.id() as usize, here)?;
 //!     call.results.set_page_client(&mut call.table, page)?;
 //!     Ok(())
 //! }
 //! ```
 //!
-//! Where the params of a method are numbers and texts, a client's method takes these: `notebook.add(client, "hello")?`.
+//! Where the params of a method are numbers, texts and capabilities, a client's method takes these: `notebook.add(client, "hello")?`.
+//!
+//! An object can promise another one, and say later which it is. Calls of it wait, in order:
+//!
+//! ```rust crates/examples/src/notebook_server.rt
+//! let resolver = PageResolver::new(here)?;
+//! let page = resolver.client(here.alloc());
+//! call.results.set_page_client(&mut call.table, page)?;
+//! ```
 //!
 //! # Without a schema
 //!

@@ -9,6 +9,7 @@ pub record NotebookKind (S : Type 0) : Type 1 where
   pub on_add : Method S
   pub on_open : Method S
   pub on_watch : Method S
+  pub on_next : Method S
 
 -- Of objects that don't say it nothing is known.
 abbrev pub any_notebook : {S : Type 0} → NotebookKind S
@@ -16,6 +17,7 @@ any_notebook = record {
   on_add = Anything;
   on_open = Anything;
   on_watch = Anything;
+  on_next = Anything;
 }
 
 -- A call of one of these methods does this to an object, by its number.
@@ -23,7 +25,8 @@ pub record NotebookMethodTakes {S : Type 0} (kind : NotebookKind S) (old : S) (c
   pub on_add : call.request.method ≡ 0 → Passes kind.on_add old call reply new
   pub on_open : call.request.method ≡ 1 → Passes kind.on_open old call reply new
   pub on_watch : call.request.method ≡ 2 → Passes kind.on_watch old call reply new
-  pub past : 3 ≤ call.request.method → Refuses old call reply new
+  pub on_next : call.request.method ≡ 3 → Passes kind.on_next old call reply new
+  pub past : 4 ≤ call.request.method → Refuses old call reply new
 
 -- A call does this to an object, by its interface.
 pub record NotebookTakes {S : Type 0}

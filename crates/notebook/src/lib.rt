@@ -4,6 +4,8 @@
 mod notebook;
 mod notebook_add_params;
 mod notebook_add_results;
+mod notebook_next_params;
+mod notebook_next_results;
 mod notebook_open_params;
 mod notebook_open_results;
 mod notebook_watch_params;
@@ -16,31 +18,39 @@ mod watcher_added_params;
 mod watcher_added_results;
 
 pub use notebook::{
-    NotebookAddCall, NotebookClient, NotebookOpenCall, NotebookServant, NotebookServer,
-    NotebookWatchCall, dispatch_notebook, dispatch_notebook_method,
+    NotebookAddCall, NotebookClient, NotebookNextCall, NotebookOpenCall, NotebookResolver,
+    NotebookServant, NotebookServer, NotebookWatchCall, dispatch_notebook,
+    dispatch_notebook_method,
 };
-pub use notebook_add_params::{NotebookAddParamsDraft, NotebookAddParamsView};
+pub use notebook_add_params::{NotebookAddParamsBuilder, NotebookAddParamsReader};
 pub use notebook_add_results::{
-    NotebookAddResultsDraft, NotebookAddResultsPromise, NotebookAddResultsView,
+    NotebookAddResultsBuilder, NotebookAddResultsPromise, NotebookAddResultsReader,
 };
-pub use notebook_open_params::{NotebookOpenParamsDraft, NotebookOpenParamsView};
+pub use notebook_next_params::{NotebookNextParamsBuilder, NotebookNextParamsReader};
+pub use notebook_next_results::{
+    NotebookNextResultsBuilder, NotebookNextResultsPromise, NotebookNextResultsReader,
+};
+pub use notebook_open_params::{NotebookOpenParamsBuilder, NotebookOpenParamsReader};
 pub use notebook_open_results::{
-    NotebookOpenResultsDraft, NotebookOpenResultsPromise, NotebookOpenResultsView,
+    NotebookOpenResultsBuilder, NotebookOpenResultsPromise, NotebookOpenResultsReader,
 };
-pub use notebook_watch_params::{NotebookWatchParamsDraft, NotebookWatchParamsView};
+pub use notebook_watch_params::{NotebookWatchParamsBuilder, NotebookWatchParamsReader};
 pub use notebook_watch_results::{
-    NotebookWatchResultsDraft, NotebookWatchResultsPromise, NotebookWatchResultsView,
+    NotebookWatchResultsBuilder, NotebookWatchResultsPromise, NotebookWatchResultsReader,
 };
 pub use page::{
-    PageClient, PageReadCall, PageServant, PageServer, dispatch_page, dispatch_page_method,
+    PageClient, PageReadCall, PageResolver, PageServant, PageServer, dispatch_page,
+    dispatch_page_method,
 };
-pub use page_read_params::{PageReadParamsDraft, PageReadParamsView};
-pub use page_read_results::{PageReadResultsDraft, PageReadResultsPromise, PageReadResultsView};
+pub use page_read_params::{PageReadParamsBuilder, PageReadParamsReader};
+pub use page_read_results::{
+    PageReadResultsBuilder, PageReadResultsPromise, PageReadResultsReader,
+};
 pub use watcher::{
-    WatcherAddedCall, WatcherClient, WatcherServant, WatcherServer, dispatch_watcher,
-    dispatch_watcher_method,
+    WatcherAddedCall, WatcherClient, WatcherResolver, WatcherServant, WatcherServer,
+    dispatch_watcher, dispatch_watcher_method,
 };
-pub use watcher_added_params::{WatcherAddedParamsDraft, WatcherAddedParamsView};
+pub use watcher_added_params::{WatcherAddedParamsBuilder, WatcherAddedParamsReader};
 pub use watcher_added_results::{
-    WatcherAddedResultsDraft, WatcherAddedResultsPromise, WatcherAddedResultsView,
+    WatcherAddedResultsBuilder, WatcherAddedResultsPromise, WatcherAddedResultsReader,
 };

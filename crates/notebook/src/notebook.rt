@@ -1,25 +1,31 @@
 //! `notebook` of notebook.capnp.
 
-ghost use Rattle.std.specs.Prelude.{◌≡◌, IfOk, []};
+ghost use Rattle.std.specs.Prelude.{◌≡◌, IfOk, OnOk, OnErr, []};
 ghost use Rattle.cp_builder.specs.Drafts.{blank, text_tree, with_pointer, with_uint};
-ghost use Rattle.cp_stubs.specs.Calls.{Makes, ask_of, request_of};
+ghost use Rattle.cp_servants.specs.Naming.{pointer_naming, with_named};
+ghost use Rattle.cp_stubs.specs.Calls.{ask_of, request_of};
 ghost use Rattle.cp_stubs.specs.Dispatch.{Passes};
+ghost use Rattle.cp_makers.specs.Here.{place_of};
 ghost use Rattle.cp_services.specs.Calls.{Answers};
 ghost use Rattle.cp_services.specs.Calls.{MakesOf};
+ghost use Rattle.cp_services.specs.Promises.{Fails, Promises, promised_by, resolved};
 ghost use Rattle.cp_services.specs.Services.{At, at, seen_as, taking};
 ghost use Rattle.notebook.specs.Notebook.{NotebookKind, NotebookMethodTakes, NotebookTakes, any_notebook};
 
-use crate::notebook_add_params::{NotebookAddParamsDraft, NotebookAddParamsView};
-use crate::notebook_add_results::{NotebookAddResultsDraft, NotebookAddResultsPromise};
-use crate::notebook_open_params::{NotebookOpenParamsDraft, NotebookOpenParamsView};
-use crate::notebook_open_results::{NotebookOpenResultsDraft, NotebookOpenResultsPromise};
-use crate::notebook_watch_params::{NotebookWatchParamsDraft, NotebookWatchParamsView};
-use crate::notebook_watch_results::{NotebookWatchResultsDraft, NotebookWatchResultsPromise};
+use crate::notebook_add_params::{NotebookAddParamsBuilder, NotebookAddParamsReader};
+use crate::notebook_add_results::{NotebookAddResultsBuilder, NotebookAddResultsPromise};
+use crate::notebook_next_params::{NotebookNextParamsBuilder, NotebookNextParamsReader};
+use crate::notebook_next_results::{NotebookNextResultsBuilder, NotebookNextResultsPromise};
+use crate::notebook_open_params::{NotebookOpenParamsBuilder, NotebookOpenParamsReader};
+use crate::notebook_open_results::{NotebookOpenResultsBuilder, NotebookOpenResultsPromise};
+use crate::notebook_watch_params::{NotebookWatchParamsBuilder, NotebookWatchParamsReader};
+use crate::notebook_watch_results::{NotebookWatchResultsBuilder, NotebookWatchResultsPromise};
+use crate::watcher::WatcherClient;
 use cp_builder::DraftFault;
-use cp_makers::{Here, Maker};
+use cp_makers::{Here, Maker, Resolver};
 use cp_refs::{Cap, Outcome, Request};
 use cp_servants::{Ask, Reply, Settled};
-use cp_services::{MethodResult, ServiceCall, ServiceObject};
+use cp_services::{MethodResult, ServiceCall, ServiceObject, fail};
 use cp_stubs::{CallTarget, Caller, MethodCall, MethodFault, Table, refuse};
 use std::alloc::{AllocError, Global};
 
@@ -44,7 +50,7 @@ impl NotebookClient {
     }
 
     /// A call of `add @0`.
-    pub fn add_request(&self, params: NotebookAddParamsDraft) -> Request
+    pub fn add_request(&self, params: NotebookAddParamsBuilder) -> Request
         ensures { result ≡ request_of 0x845bdbd96c36d051 0 params.body [] }
     {
         let content = params.body.into_whole();
@@ -57,9 +63,9 @@ impl NotebookClient {
         caller: &mut C,
         text: &str,
     ) -> Result<NotebookAddResultsPromise, C::Fault>
-        ensures { MakesOf (λ p. p.at) C.asks caller.old self.now.target 0x845bdbd96c36d051 0 (with_pointer (blank 0 1) 0 (text_tree text.now)) result caller.new }
+        ensures { MakesOf (λ p. p.at) C.asks caller.old self.now.target 0x845bdbd96c36d051 0 (with_pointer (blank 0 1) 0 (text_tree text.now)) [] result caller.new }
     {
-        let params = NotebookAddParamsDraft::of(self.target.alloc(), text)?;
+        let params = NotebookAddParamsBuilder::of(self.target.alloc(), text)?;
         let request = self.add_request(params);
         Ok(NotebookAddResultsPromise {
             at: self.target.call(caller, request)?,
@@ -70,13 +76,13 @@ impl NotebookClient {
     pub fn add_ask(&self, text: &str, mark: u64) -> Result<Ask, DraftFault>
         ensures { IfOk result (λ ask. ask ≡ ask_of self.now.target (request_of 0x845bdbd96c36d051 0 (with_pointer (blank 0 1) 0 (text_tree text.now)) []) mark) }
     {
-        let params = NotebookAddParamsDraft::of(self.target.alloc(), text)?;
+        let params = NotebookAddParamsBuilder::of(self.target.alloc(), text)?;
         let request = self.add_request(params);
         Ok(self.target.ask(request, mark)?)
     }
 
     /// A call of `open @1`.
-    pub fn open_request(&self, params: NotebookOpenParamsDraft) -> Request
+    pub fn open_request(&self, params: NotebookOpenParamsBuilder) -> Request
         ensures { result ≡ request_of 0x845bdbd96c36d051 1 params.body [] }
     {
         let content = params.body.into_whole();
@@ -89,9 +95,9 @@ impl NotebookClient {
         caller: &mut C,
         id: u32,
     ) -> Result<NotebookOpenResultsPromise, C::Fault>
-        ensures { MakesOf (λ p. p.at) C.asks caller.old self.now.target 0x845bdbd96c36d051 1 (with_uint (blank 1 0) 32 0 id) result caller.new }
+        ensures { MakesOf (λ p. p.at) C.asks caller.old self.now.target 0x845bdbd96c36d051 1 (with_uint (blank 1 0) 32 0 id) [] result caller.new }
     {
-        let params = NotebookOpenParamsDraft::of(self.target.alloc(), id)?;
+        let params = NotebookOpenParamsBuilder::of(self.target.alloc(), id)?;
         let request = self.open_request(params);
         Ok(NotebookOpenResultsPromise {
             at: self.target.call(caller, request)?,
@@ -102,13 +108,13 @@ impl NotebookClient {
     pub fn open_ask(&self, id: u32, mark: u64) -> Result<Ask, DraftFault>
         ensures { IfOk result (λ ask. ask ≡ ask_of self.now.target (request_of 0x845bdbd96c36d051 1 (with_uint (blank 1 0) 32 0 id) []) mark) }
     {
-        let params = NotebookOpenParamsDraft::of(self.target.alloc(), id)?;
+        let params = NotebookOpenParamsBuilder::of(self.target.alloc(), id)?;
         let request = self.open_request(params);
         Ok(self.target.ask(request, mark)?)
     }
 
     /// A call of `watch @2`, with the table of the capabilities that its params name.
-    pub fn watch_request(&self, params: NotebookWatchParamsDraft, table: Table) -> Request
+    pub fn watch_request(&self, params: NotebookWatchParamsBuilder, table: Table) -> Request
         ensures { result ≡ request_of 0x845bdbd96c36d051 2 params.body table }
     {
         let content = params.body.into_whole();
@@ -120,33 +126,81 @@ impl NotebookClient {
     pub fn watch<C: Caller>(
         &self,
         caller: &mut C,
-        params: NotebookWatchParamsDraft,
-        table: Table,
+        watcher: WatcherClient,
     ) -> Result<NotebookWatchResultsPromise, C::Fault>
-        ensures { Makes (λ p. p.at) C.asks caller.old self.now.target 0x845bdbd96c36d051 2 params.body table result caller.new }
+        ensures { MakesOf (λ p. p.at) C.asks caller.old self.now.target 0x845bdbd96c36d051 2 (with_pointer (blank 0 1) 0 (pointer_naming [] watcher.target)) (with_named [] watcher.target) result caller.new }
     {
+        let (params, table) = NotebookWatchParamsBuilder::of(self.target.alloc(), watcher)?;
         let request = self.watch_request(params, table);
         Ok(NotebookWatchResultsPromise {
             at: self.target.call(caller, request)?,
         })
     }
+
+    /// A call of `watch` that an object makes. With the mark the object is told what it came to.
+    pub fn watch_ask(&self, watcher: WatcherClient, mark: u64) -> Result<Ask, DraftFault>
+        ensures { IfOk result (λ ask. ask ≡ ask_of self.now.target (request_of 0x845bdbd96c36d051 2 (with_pointer (blank 0 1) 0 (pointer_naming [] watcher.target)) (with_named [] watcher.target)) mark) }
+    {
+        let (params, table) = NotebookWatchParamsBuilder::of(self.target.alloc(), watcher)?;
+        let request = self.watch_request(params, table);
+        Ok(self.target.ask(request, mark)?)
+    }
+
+    /// A call of `next @3`.
+    pub fn next_request(&self, params: NotebookNextParamsBuilder) -> Request
+        ensures { result ≡ request_of 0x845bdbd96c36d051 3 params.body [] }
+    {
+        let content = params.body.into_whole();
+        self.target.request(0x845bdbd96c36d051, 3, content)
+    }
+
+    /// The page of the note that is added next. Calls of it wait for that note.
+    pub fn next<C: Caller>(&self, caller: &mut C) -> Result<NotebookNextResultsPromise, C::Fault>
+        ensures { MakesOf (λ p. p.at) C.asks caller.old self.now.target 0x845bdbd96c36d051 3 (blank 0 0) [] result caller.new }
+    {
+        let params = NotebookNextParamsBuilder::of(self.target.alloc())?;
+        let request = self.next_request(params);
+        Ok(NotebookNextResultsPromise {
+            at: self.target.call(caller, request)?,
+        })
+    }
+
+    /// A call of `next` that an object makes. With the mark the object is told what it came to.
+    pub fn next_ask(&self, mark: u64) -> Result<Ask, DraftFault>
+        ensures { IfOk result (λ ask. ask ≡ ask_of self.now.target (request_of 0x845bdbd96c36d051 3 (blank 0 0) []) mark) }
+    {
+        let params = NotebookNextParamsBuilder::of(self.target.alloc())?;
+        let request = self.next_request(params);
+        Ok(self.target.ask(request, mark)?)
+    }
 }
 
 /// A call of `add`.
-pub type NotebookAddCall<'c> = ServiceCall<'c, NotebookAddParamsView<'c>, NotebookAddResultsDraft>;
+pub type NotebookAddCall<'c> = ServiceCall<
+    'c,
+    NotebookAddParamsReader<'c>,
+    NotebookAddResultsBuilder,
+>;
 
 /// A call of `open`.
 pub type NotebookOpenCall<'c> = ServiceCall<
     'c,
-    NotebookOpenParamsView<'c>,
-    NotebookOpenResultsDraft,
+    NotebookOpenParamsReader<'c>,
+    NotebookOpenResultsBuilder,
 >;
 
 /// A call of `watch`.
 pub type NotebookWatchCall<'c> = ServiceCall<
     'c,
-    NotebookWatchParamsView<'c>,
-    NotebookWatchResultsDraft,
+    NotebookWatchParamsReader<'c>,
+    NotebookWatchResultsBuilder,
+>;
+
+/// A call of `next`.
+pub type NotebookNextCall<'c> = ServiceCall<
+    'c,
+    NotebookNextParamsReader<'c>,
+    NotebookNextResultsBuilder,
 >;
 
 /// An object of `interface Notebook`.
@@ -173,6 +227,14 @@ pub trait NotebookServer: ServiceObject {
         here: &mut Here<Self::Makes>,
     ) -> MethodResult
         ensures { Answers (λ p. p.body) (λ d. d.body) notebook_kind.on_watch (at self.old here.old) call.old call.new result (at self.new here.new) };
+
+    /// The page of the note that is added next. Calls of it wait for that note.
+    fn next(
+        &mut self,
+        call: &mut NotebookNextCall<'_>,
+        here: &mut Here<Self::Makes>,
+    ) -> MethodResult
+        ensures { Answers (λ p. p.body) (λ d. d.body) notebook_kind.on_next (at self.old here.old) call.old call.new result (at self.new here.new) };
 }
 
 /// An object of `interface Notebook`, as a connection serves it.
@@ -218,6 +280,51 @@ impl<T: NotebookServer> Maker for NotebookServant<T> {
     }
 }
 
+/// Resolves a promise of an object of `interface Notebook`: one that is named before it is there.
+#[derive(Drop)]
+pub struct NotebookResolver {
+    pub resolver: Resolver,
+}
+
+impl NotebookResolver {
+    /// Makes the promise.
+    pub fn new<M: Drop>(here: &mut Here<M>) -> Result<NotebookResolver, AllocError>
+        ensures promised { IfOk result (λ r. Promises r.resolver (place_of here.old) (place_of here.new)) }
+        ensures left { OnErr result (place_of here.new ≡ place_of here.old) }
+    {
+        Ok(NotebookResolver {
+            resolver: here.promise()?,
+        })
+    }
+
+    /// What is promised, to be named at once. Calls of it wait.
+    pub fn client(&self, alloc: Global) -> NotebookClient
+        ensures { result.target ≡ promised_by self.now.resolver }
+    {
+        NotebookClient::new(alloc, self.resolver.cap())
+    }
+
+    /// What was promised comes to this object.
+    pub fn resolve<M: Drop>(
+        self,
+        here: &mut Here<M>,
+        client: NotebookClient,
+    ) -> Result<(), AllocError>
+        ensures resolved { OnOk result (place_of here.new ≡ resolved self.resolver client.target (place_of here.old)) }
+        ensures left { OnErr result (place_of here.new ≡ place_of here.old) }
+    {
+        here.resolve(self.resolver, client.target.into_cap())
+    }
+
+    /// Calls of what was promised fail with this.
+    pub fn fail<M: Drop>(self, here: &mut Here<M>, fault: MethodFault) -> Result<(), AllocError>
+        ensures fails { OnOk result (Fails self.resolver fault (place_of here.old) (place_of here.new)) }
+        ensures left { OnErr result (place_of here.new ≡ place_of here.old) }
+    {
+        fail(self.resolver, here, fault)
+    }
+}
+
 /// Passes a call on to the method of an object that its interface and its number name.
 pub fn dispatch_notebook<T: NotebookServer>(
     object: &mut T,
@@ -244,6 +351,7 @@ pub fn dispatch_notebook_method<T: NotebookServer>(
         0 => pass_add(object, call, here),
         1 => pass_open(object, call, here),
         2 => pass_watch(object, call, here),
+        3 => pass_next(object, call, here),
         _ => refuse(here.alloc(), call, MethodFault::Unimplemented),
     }
 }
@@ -258,8 +366,8 @@ fn pass_add<T: NotebookServer>(
 {
     match call.params() {
         Ok(body) => {
-            let results = NotebookAddResultsDraft::new(here.alloc())?;
-            let params = NotebookAddParamsView { body };
+            let results = NotebookAddResultsBuilder::new(here.alloc())?;
+            let params = NotebookAddParamsReader { body };
             let mut passed = ServiceCall::new(here.alloc(), call, params, results);
             let done = NotebookServer::add(object, &mut passed, here);
             passed.reply(call, done)
@@ -278,8 +386,8 @@ fn pass_open<T: NotebookServer>(
 {
     match call.params() {
         Ok(body) => {
-            let results = NotebookOpenResultsDraft::new(here.alloc())?;
-            let params = NotebookOpenParamsView { body };
+            let results = NotebookOpenResultsBuilder::new(here.alloc())?;
+            let params = NotebookOpenParamsReader { body };
             let mut passed = ServiceCall::new(here.alloc(), call, params, results);
             let done = NotebookServer::open_(object, &mut passed, here);
             passed.reply(call, done)
@@ -298,10 +406,30 @@ fn pass_watch<T: NotebookServer>(
 {
     match call.params() {
         Ok(body) => {
-            let results = NotebookWatchResultsDraft::new(here.alloc())?;
-            let params = NotebookWatchParamsView { body };
+            let results = NotebookWatchResultsBuilder::new(here.alloc())?;
+            let params = NotebookWatchParamsReader { body };
             let mut passed = ServiceCall::new(here.alloc(), call, params, results);
             let done = NotebookServer::watch(object, &mut passed, here);
+            passed.reply(call, done)
+        }
+        Err(fault) => refuse(here.alloc(), call, MethodFault::WrongKind(fault)),
+    }
+}
+
+/// Passes a call of `next` on.
+fn pass_next<T: NotebookServer>(
+    object: &mut T,
+    call: &MethodCall,
+    here: &mut Here<T::Makes>,
+) -> Result<Reply, AllocError>
+    ensures { IfOk result (λ reply. Passes T.notebook_kind.on_next (at object.old here.old) call.now reply (at object.new here.new)) }
+{
+    match call.params() {
+        Ok(body) => {
+            let results = NotebookNextResultsBuilder::new(here.alloc())?;
+            let params = NotebookNextParamsReader { body };
+            let mut passed = ServiceCall::new(here.alloc(), call, params, results);
+            let done = NotebookServer::next(object, &mut passed, here);
             passed.reply(call, done)
         }
         Err(fault) => refuse(here.alloc(), call, MethodFault::WrongKind(fault)),

@@ -12,17 +12,17 @@ use std::alloc::{AllocError, Global};
 
 /// `struct Notebook.add$Params`.
 #[derive(Drop)]
-pub struct NotebookAddParamsView<'a> {
+pub struct NotebookAddParamsReader<'a> {
     /// The struct, by the places of its fields.
     pub body: StructView<'a>,
 }
 
-impl<'a> NotebookAddParamsView<'a> {
+impl<'a> NotebookAddParamsReader<'a> {
     /// The struct that a pointer stands for; null is the struct whose fields are all as by default.
-    pub fn of(at: Pointee<'a>) -> Result<NotebookAddParamsView<'a>, WrongKind>
+    pub fn of(at: Pointee<'a>) -> Result<NotebookAddParamsReader<'a>, WrongKind>
         ensures { Reads result (λ x. x.body) (struct_field at.entry) }
     {
-        Ok(NotebookAddParamsView {
+        Ok(NotebookAddParamsReader {
             body: StructView::of(at)?,
         })
     }
@@ -37,26 +37,26 @@ impl<'a> NotebookAddParamsView<'a> {
 
 /// `struct Notebook.add$Params`, to be written.
 #[derive(Drop)]
-pub struct NotebookAddParamsDraft {
+pub struct NotebookAddParamsBuilder {
     /// The struct, by the places of its fields.
     pub body: StructDraft<0, 1>,
 }
 
-impl NotebookAddParamsDraft {
+impl NotebookAddParamsBuilder {
     /// A struct whose fields are all as by default.
-    pub fn new(alloc: Global) -> Result<NotebookAddParamsDraft, AllocError>
+    pub fn new(alloc: Global) -> Result<NotebookAddParamsBuilder, AllocError>
         ensures { IfOk result (λ d. d.body ≡ blank 0 1) }
     {
-        Ok(NotebookAddParamsDraft {
+        Ok(NotebookAddParamsBuilder {
             body: StructDraft::new(alloc)?,
         })
     }
 
     /// A struct of these fields.
-    pub fn of(alloc: Global, text: &str) -> Result<NotebookAddParamsDraft, DraftFault>
+    pub fn of(alloc: Global, text: &str) -> Result<NotebookAddParamsBuilder, DraftFault>
         ensures { IfOk result (λ d. d.body ≡ (with_pointer (blank 0 1) 0 (text_tree text.now))) }
     {
-        let mut made = NotebookAddParamsDraft::new(alloc)?;
+        let mut made = NotebookAddParamsBuilder::new(alloc)?;
         made.set_text(alloc, text)?;
         Ok(made)
     }

@@ -13,17 +13,17 @@ use std::alloc::{AllocError, Global};
 
 /// `struct Notebook.add$Results`.
 #[derive(Drop)]
-pub struct NotebookAddResultsView<'a> {
+pub struct NotebookAddResultsReader<'a> {
     /// The struct, by the places of its fields.
     pub body: StructView<'a>,
 }
 
-impl<'a> NotebookAddResultsView<'a> {
+impl<'a> NotebookAddResultsReader<'a> {
     /// The struct that a pointer stands for; null is the struct whose fields are all as by default.
-    pub fn of(at: Pointee<'a>) -> Result<NotebookAddResultsView<'a>, WrongKind>
+    pub fn of(at: Pointee<'a>) -> Result<NotebookAddResultsReader<'a>, WrongKind>
         ensures { Reads result (λ x. x.body) (struct_field at.entry) }
     {
-        Ok(NotebookAddResultsView {
+        Ok(NotebookAddResultsReader {
             body: StructView::of(at)?,
         })
     }
@@ -38,17 +38,17 @@ impl<'a> NotebookAddResultsView<'a> {
 
 /// `struct Notebook.add$Results`, to be written.
 #[derive(Drop)]
-pub struct NotebookAddResultsDraft {
+pub struct NotebookAddResultsBuilder {
     /// The struct, by the places of its fields.
     pub body: StructDraft<1, 0>,
 }
 
-impl NotebookAddResultsDraft {
+impl NotebookAddResultsBuilder {
     /// A struct whose fields are all as by default.
-    pub fn new(alloc: Global) -> Result<NotebookAddResultsDraft, AllocError>
+    pub fn new(alloc: Global) -> Result<NotebookAddResultsBuilder, AllocError>
         ensures { IfOk result (λ d. d.body ≡ blank 1 0) }
     {
-        Ok(NotebookAddResultsDraft {
+        Ok(NotebookAddResultsBuilder {
             body: StructDraft::new(alloc)?,
         })
     }
@@ -61,7 +61,7 @@ impl NotebookAddResultsDraft {
     }
 }
 
-impl Results for NotebookAddResultsDraft {
+impl Results for NotebookAddResultsBuilder {
     ghost content = { λ d. d.body };
 
     fn into_whole(self) -> Whole {
@@ -88,10 +88,10 @@ impl NotebookAddResultsPromise {
     pub fn results<'a>(
         &self,
         came: &'a ResultPayload,
-    ) -> Result<NotebookAddResultsView<'a>, WrongKind>
+    ) -> Result<NotebookAddResultsReader<'a>, WrongKind>
         ensures { Reads result (λ x. x.body) (struct_field came.now.content) }
     {
-        Ok(NotebookAddResultsView {
+        Ok(NotebookAddResultsReader {
             body: came.results()?,
         })
     }

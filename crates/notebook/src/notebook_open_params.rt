@@ -11,17 +11,17 @@ use std::alloc::{AllocError, Global};
 
 /// `struct Notebook.open$Params`.
 #[derive(Drop)]
-pub struct NotebookOpenParamsView<'a> {
+pub struct NotebookOpenParamsReader<'a> {
     /// The struct, by the places of its fields.
     pub body: StructView<'a>,
 }
 
-impl<'a> NotebookOpenParamsView<'a> {
+impl<'a> NotebookOpenParamsReader<'a> {
     /// The struct that a pointer stands for; null is the struct whose fields are all as by default.
-    pub fn of(at: Pointee<'a>) -> Result<NotebookOpenParamsView<'a>, WrongKind>
+    pub fn of(at: Pointee<'a>) -> Result<NotebookOpenParamsReader<'a>, WrongKind>
         ensures { Reads result (λ x. x.body) (struct_field at.entry) }
     {
-        Ok(NotebookOpenParamsView {
+        Ok(NotebookOpenParamsReader {
             body: StructView::of(at)?,
         })
     }
@@ -36,26 +36,26 @@ impl<'a> NotebookOpenParamsView<'a> {
 
 /// `struct Notebook.open$Params`, to be written.
 #[derive(Drop)]
-pub struct NotebookOpenParamsDraft {
+pub struct NotebookOpenParamsBuilder {
     /// The struct, by the places of its fields.
     pub body: StructDraft<1, 0>,
 }
 
-impl NotebookOpenParamsDraft {
+impl NotebookOpenParamsBuilder {
     /// A struct whose fields are all as by default.
-    pub fn new(alloc: Global) -> Result<NotebookOpenParamsDraft, AllocError>
+    pub fn new(alloc: Global) -> Result<NotebookOpenParamsBuilder, AllocError>
         ensures { IfOk result (λ d. d.body ≡ blank 1 0) }
     {
-        Ok(NotebookOpenParamsDraft {
+        Ok(NotebookOpenParamsBuilder {
             body: StructDraft::new(alloc)?,
         })
     }
 
     /// A struct of these fields.
-    pub fn of(alloc: Global, id: u32) -> Result<NotebookOpenParamsDraft, DraftFault>
+    pub fn of(alloc: Global, id: u32) -> Result<NotebookOpenParamsBuilder, DraftFault>
         ensures { IfOk result (λ d. d.body ≡ (with_uint (blank 1 0) 32 0 id)) }
     {
-        let mut made = NotebookOpenParamsDraft::new(alloc)?;
+        let mut made = NotebookOpenParamsBuilder::new(alloc)?;
         made.set_id(id);
         Ok(made)
     }

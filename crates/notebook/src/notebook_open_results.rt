@@ -18,17 +18,17 @@ use std::alloc::{AllocError, Global};
 
 /// `struct Notebook.open$Results`.
 #[derive(Drop)]
-pub struct NotebookOpenResultsView<'a> {
+pub struct NotebookOpenResultsReader<'a> {
     /// The struct, by the places of its fields.
     pub body: StructView<'a>,
 }
 
-impl<'a> NotebookOpenResultsView<'a> {
+impl<'a> NotebookOpenResultsReader<'a> {
     /// The struct that a pointer stands for; null is the struct whose fields are all as by default.
-    pub fn of(at: Pointee<'a>) -> Result<NotebookOpenResultsView<'a>, WrongKind>
+    pub fn of(at: Pointee<'a>) -> Result<NotebookOpenResultsReader<'a>, WrongKind>
         ensures { Reads result (λ x. x.body) (struct_field at.entry) }
     {
-        Ok(NotebookOpenResultsView {
+        Ok(NotebookOpenResultsReader {
             body: StructView::of(at)?,
         })
     }
@@ -53,17 +53,17 @@ impl<'a> NotebookOpenResultsView<'a> {
 
 /// `struct Notebook.open$Results`, to be written.
 #[derive(Drop)]
-pub struct NotebookOpenResultsDraft {
+pub struct NotebookOpenResultsBuilder {
     /// The struct, by the places of its fields.
     pub body: StructDraft<0, 1>,
 }
 
-impl NotebookOpenResultsDraft {
+impl NotebookOpenResultsBuilder {
     /// A struct whose fields are all as by default.
-    pub fn new(alloc: Global) -> Result<NotebookOpenResultsDraft, AllocError>
+    pub fn new(alloc: Global) -> Result<NotebookOpenResultsBuilder, AllocError>
         ensures { IfOk result (λ d. d.body ≡ blank 0 1) }
     {
-        Ok(NotebookOpenResultsDraft {
+        Ok(NotebookOpenResultsBuilder {
             body: StructDraft::new(alloc)?,
         })
     }
@@ -92,7 +92,7 @@ impl NotebookOpenResultsDraft {
     }
 }
 
-impl Results for NotebookOpenResultsDraft {
+impl Results for NotebookOpenResultsBuilder {
     ghost content = { λ d. d.body };
 
     fn into_whole(self) -> Whole {
@@ -119,10 +119,10 @@ impl NotebookOpenResultsPromise {
     pub fn results<'a>(
         &self,
         came: &'a ResultPayload,
-    ) -> Result<NotebookOpenResultsView<'a>, WrongKind>
+    ) -> Result<NotebookOpenResultsReader<'a>, WrongKind>
         ensures { Reads result (λ x. x.body) (struct_field came.now.content) }
     {
-        Ok(NotebookOpenResultsView {
+        Ok(NotebookOpenResultsReader {
             body: came.results()?,
         })
     }

@@ -1,6 +1,6 @@
 //! `notebook_watch_params` of notebook.capnp.
 
-ghost use Rattle.std.specs.Prelude.{◌≡◌, IfOk, OnOk, OnErr, Err, ◌↔◌, ◌≤◌, ◌^◌, length, ◌+◌};
+ghost use Rattle.std.specs.Prelude.{◌≡◌, IfOk, OnOk, OnErr, Err, ◌↔◌, ◌≤◌, ◌^◌, length, ◌+◌, []};
 ghost use Rattle.cp_tree.specs.Seen.{pointee_of};
 ghost use Rattle.cp_fields.specs.Pointers.{Reads, cap_field, struct_field};
 ghost use Rattle.cp_builder.specs.declared.fault.DraftFault.TheVariants.{TooLong};
@@ -17,17 +17,17 @@ use std::alloc::{AllocError, Global};
 
 /// `struct Notebook.watch$Params`.
 #[derive(Drop)]
-pub struct NotebookWatchParamsView<'a> {
+pub struct NotebookWatchParamsReader<'a> {
     /// The struct, by the places of its fields.
     pub body: StructView<'a>,
 }
 
-impl<'a> NotebookWatchParamsView<'a> {
+impl<'a> NotebookWatchParamsReader<'a> {
     /// The struct that a pointer stands for; null is the struct whose fields are all as by default.
-    pub fn of(at: Pointee<'a>) -> Result<NotebookWatchParamsView<'a>, WrongKind>
+    pub fn of(at: Pointee<'a>) -> Result<NotebookWatchParamsReader<'a>, WrongKind>
         ensures { Reads result (λ x. x.body) (struct_field at.entry) }
     {
-        Ok(NotebookWatchParamsView {
+        Ok(NotebookWatchParamsReader {
             body: StructView::of(at)?,
         })
     }
@@ -52,19 +52,33 @@ impl<'a> NotebookWatchParamsView<'a> {
 
 /// `struct Notebook.watch$Params`, to be written.
 #[derive(Drop)]
-pub struct NotebookWatchParamsDraft {
+pub struct NotebookWatchParamsBuilder {
     /// The struct, by the places of its fields.
     pub body: StructDraft<0, 1>,
 }
 
-impl NotebookWatchParamsDraft {
+impl NotebookWatchParamsBuilder {
     /// A struct whose fields are all as by default.
-    pub fn new(alloc: Global) -> Result<NotebookWatchParamsDraft, AllocError>
+    pub fn new(alloc: Global) -> Result<NotebookWatchParamsBuilder, AllocError>
         ensures { IfOk result (λ d. d.body ≡ blank 0 1) }
     {
-        Ok(NotebookWatchParamsDraft {
+        Ok(NotebookWatchParamsBuilder {
             body: StructDraft::new(alloc)?,
         })
+    }
+
+    /// A struct of these fields, and the table of the capabilities that they name.
+    pub fn of(
+        alloc: Global,
+        watcher: WatcherClient,
+    ) -> Result<(NotebookWatchParamsBuilder, Table), DraftFault>
+        ensures made { IfOk result (λ d. d.0.body ≡ (with_pointer (blank 0 1) 0 (pointer_naming [] watcher.target))) }
+        ensures named { IfOk result (λ d. d.1 ≡ (with_named [] watcher.target)) }
+    {
+        let mut table = Table::new(alloc);
+        let mut made = NotebookWatchParamsBuilder::new(alloc)?;
+        made.set_watcher_client(&mut table, watcher)?;
+        Ok((made, table))
     }
 
     /// Sets `watcher`.

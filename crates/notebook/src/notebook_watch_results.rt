@@ -12,17 +12,17 @@ use std::alloc::{AllocError, Global};
 
 /// `struct Notebook.watch$Results`.
 #[derive(Drop)]
-pub struct NotebookWatchResultsView<'a> {
+pub struct NotebookWatchResultsReader<'a> {
     /// The struct, by the places of its fields.
     pub body: StructView<'a>,
 }
 
-impl<'a> NotebookWatchResultsView<'a> {
+impl<'a> NotebookWatchResultsReader<'a> {
     /// The struct that a pointer stands for; null is the struct whose fields are all as by default.
-    pub fn of(at: Pointee<'a>) -> Result<NotebookWatchResultsView<'a>, WrongKind>
+    pub fn of(at: Pointee<'a>) -> Result<NotebookWatchResultsReader<'a>, WrongKind>
         ensures { Reads result (λ x. x.body) (struct_field at.entry) }
     {
-        Ok(NotebookWatchResultsView {
+        Ok(NotebookWatchResultsReader {
             body: StructView::of(at)?,
         })
     }
@@ -30,23 +30,23 @@ impl<'a> NotebookWatchResultsView<'a> {
 
 /// `struct Notebook.watch$Results`, to be written.
 #[derive(Drop)]
-pub struct NotebookWatchResultsDraft {
+pub struct NotebookWatchResultsBuilder {
     /// The struct, by the places of its fields.
     pub body: StructDraft<0, 0>,
 }
 
-impl NotebookWatchResultsDraft {
+impl NotebookWatchResultsBuilder {
     /// A struct whose fields are all as by default.
-    pub fn new(alloc: Global) -> Result<NotebookWatchResultsDraft, AllocError>
+    pub fn new(alloc: Global) -> Result<NotebookWatchResultsBuilder, AllocError>
         ensures { IfOk result (λ d. d.body ≡ blank 0 0) }
     {
-        Ok(NotebookWatchResultsDraft {
+        Ok(NotebookWatchResultsBuilder {
             body: StructDraft::new(alloc)?,
         })
     }
 }
 
-impl Results for NotebookWatchResultsDraft {
+impl Results for NotebookWatchResultsBuilder {
     ghost content = { λ d. d.body };
 
     fn into_whole(self) -> Whole {
@@ -73,10 +73,10 @@ impl NotebookWatchResultsPromise {
     pub fn results<'a>(
         &self,
         came: &'a ResultPayload,
-    ) -> Result<NotebookWatchResultsView<'a>, WrongKind>
+    ) -> Result<NotebookWatchResultsReader<'a>, WrongKind>
         ensures { Reads result (λ x. x.body) (struct_field came.now.content) }
     {
-        Ok(NotebookWatchResultsView {
+        Ok(NotebookWatchResultsReader {
             body: came.results()?,
         })
     }

@@ -1,21 +1,23 @@
 //! `page` of notebook.capnp.
 
-ghost use Rattle.std.specs.Prelude.{◌≡◌, IfOk, []};
+ghost use Rattle.std.specs.Prelude.{◌≡◌, IfOk, OnOk, OnErr, []};
 ghost use Rattle.cp_builder.specs.Drafts.{blank};
 ghost use Rattle.cp_stubs.specs.Calls.{ask_of, request_of};
 ghost use Rattle.cp_stubs.specs.Dispatch.{Passes};
+ghost use Rattle.cp_makers.specs.Here.{place_of};
 ghost use Rattle.cp_services.specs.Calls.{Answers};
 ghost use Rattle.cp_services.specs.Calls.{MakesOf};
+ghost use Rattle.cp_services.specs.Promises.{Fails, Promises, promised_by, resolved};
 ghost use Rattle.cp_services.specs.Services.{At, at, seen_as, taking};
 ghost use Rattle.notebook.specs.Page.{PageKind, PageMethodTakes, PageTakes, any_page};
 
-use crate::page_read_params::{PageReadParamsDraft, PageReadParamsView};
-use crate::page_read_results::{PageReadResultsDraft, PageReadResultsPromise};
+use crate::page_read_params::{PageReadParamsBuilder, PageReadParamsReader};
+use crate::page_read_results::{PageReadResultsBuilder, PageReadResultsPromise};
 use cp_builder::DraftFault;
-use cp_makers::{Here, Maker};
+use cp_makers::{Here, Maker, Resolver};
 use cp_refs::{Cap, Outcome, Request};
 use cp_servants::{Ask, Reply, Settled};
-use cp_services::{MethodResult, ServiceCall, ServiceObject};
+use cp_services::{MethodResult, ServiceCall, ServiceObject, fail};
 use cp_stubs::{CallTarget, Caller, MethodCall, MethodFault, refuse};
 use std::alloc::{AllocError, Global};
 
@@ -40,7 +42,7 @@ impl PageClient {
     }
 
     /// A call of `read @0`.
-    pub fn read_request(&self, params: PageReadParamsDraft) -> Request
+    pub fn read_request(&self, params: PageReadParamsBuilder) -> Request
         ensures { result ≡ request_of 0xd22af05f2861ac0c 0 params.body [] }
     {
         let content = params.body.into_whole();
@@ -49,9 +51,9 @@ impl PageClient {
 
     /// The text of the note.
     pub fn read<C: Caller>(&self, caller: &mut C) -> Result<PageReadResultsPromise, C::Fault>
-        ensures { MakesOf (λ p. p.at) C.asks caller.old self.now.target 0xd22af05f2861ac0c 0 (blank 0 0) result caller.new }
+        ensures { MakesOf (λ p. p.at) C.asks caller.old self.now.target 0xd22af05f2861ac0c 0 (blank 0 0) [] result caller.new }
     {
-        let params = PageReadParamsDraft::of(self.target.alloc())?;
+        let params = PageReadParamsBuilder::of(self.target.alloc())?;
         let request = self.read_request(params);
         Ok(PageReadResultsPromise {
             at: self.target.call(caller, request)?,
@@ -62,14 +64,14 @@ impl PageClient {
     pub fn read_ask(&self, mark: u64) -> Result<Ask, DraftFault>
         ensures { IfOk result (λ ask. ask ≡ ask_of self.now.target (request_of 0xd22af05f2861ac0c 0 (blank 0 0) []) mark) }
     {
-        let params = PageReadParamsDraft::of(self.target.alloc())?;
+        let params = PageReadParamsBuilder::of(self.target.alloc())?;
         let request = self.read_request(params);
         Ok(self.target.ask(request, mark)?)
     }
 }
 
 /// A call of `read`.
-pub type PageReadCall<'c> = ServiceCall<'c, PageReadParamsView<'c>, PageReadResultsDraft>;
+pub type PageReadCall<'c> = ServiceCall<'c, PageReadParamsReader<'c>, PageReadResultsBuilder>;
 
 /// An object of `interface Page`.
 pub trait PageServer: ServiceObject {
@@ -124,6 +126,47 @@ impl<T: PageServer> Maker for PageServant<T> {
     }
 }
 
+/// Resolves a promise of an object of `interface Page`: one that is named before it is there.
+#[derive(Drop)]
+pub struct PageResolver {
+    pub resolver: Resolver,
+}
+
+impl PageResolver {
+    /// Makes the promise.
+    pub fn new<M: Drop>(here: &mut Here<M>) -> Result<PageResolver, AllocError>
+        ensures promised { IfOk result (λ r. Promises r.resolver (place_of here.old) (place_of here.new)) }
+        ensures left { OnErr result (place_of here.new ≡ place_of here.old) }
+    {
+        Ok(PageResolver {
+            resolver: here.promise()?,
+        })
+    }
+
+    /// What is promised, to be named at once. Calls of it wait.
+    pub fn client(&self, alloc: Global) -> PageClient
+        ensures { result.target ≡ promised_by self.now.resolver }
+    {
+        PageClient::new(alloc, self.resolver.cap())
+    }
+
+    /// What was promised comes to this object.
+    pub fn resolve<M: Drop>(self, here: &mut Here<M>, client: PageClient) -> Result<(), AllocError>
+        ensures resolved { OnOk result (place_of here.new ≡ resolved self.resolver client.target (place_of here.old)) }
+        ensures left { OnErr result (place_of here.new ≡ place_of here.old) }
+    {
+        here.resolve(self.resolver, client.target.into_cap())
+    }
+
+    /// Calls of what was promised fail with this.
+    pub fn fail<M: Drop>(self, here: &mut Here<M>, fault: MethodFault) -> Result<(), AllocError>
+        ensures fails { OnOk result (Fails self.resolver fault (place_of here.old) (place_of here.new)) }
+        ensures left { OnErr result (place_of here.new ≡ place_of here.old) }
+    {
+        fail(self.resolver, here, fault)
+    }
+}
+
 /// Passes a call on to the method of an object that its interface and its number name.
 pub fn dispatch_page<T: PageServer>(
     object: &mut T,
@@ -162,8 +205,8 @@ fn pass_read<T: PageServer>(
 {
     match call.params() {
         Ok(body) => {
-            let results = PageReadResultsDraft::new(here.alloc())?;
-            let params = PageReadParamsView { body };
+            let results = PageReadResultsBuilder::new(here.alloc())?;
+            let params = PageReadParamsReader { body };
             let mut passed = ServiceCall::new(here.alloc(), call, params, results);
             let done = PageServer::read(object, &mut passed, here);
             passed.reply(call, done)

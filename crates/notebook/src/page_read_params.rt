@@ -10,17 +10,17 @@ use std::alloc::{AllocError, Global};
 
 /// `struct Page.read$Params`.
 #[derive(Drop)]
-pub struct PageReadParamsView<'a> {
+pub struct PageReadParamsReader<'a> {
     /// The struct, by the places of its fields.
     pub body: StructView<'a>,
 }
 
-impl<'a> PageReadParamsView<'a> {
+impl<'a> PageReadParamsReader<'a> {
     /// The struct that a pointer stands for; null is the struct whose fields are all as by default.
-    pub fn of(at: Pointee<'a>) -> Result<PageReadParamsView<'a>, WrongKind>
+    pub fn of(at: Pointee<'a>) -> Result<PageReadParamsReader<'a>, WrongKind>
         ensures { Reads result (λ x. x.body) (struct_field at.entry) }
     {
-        Ok(PageReadParamsView {
+        Ok(PageReadParamsReader {
             body: StructView::of(at)?,
         })
     }
@@ -28,25 +28,25 @@ impl<'a> PageReadParamsView<'a> {
 
 /// `struct Page.read$Params`, to be written.
 #[derive(Drop)]
-pub struct PageReadParamsDraft {
+pub struct PageReadParamsBuilder {
     /// The struct, by the places of its fields.
     pub body: StructDraft<0, 0>,
 }
 
-impl PageReadParamsDraft {
+impl PageReadParamsBuilder {
     /// A struct whose fields are all as by default.
-    pub fn new(alloc: Global) -> Result<PageReadParamsDraft, AllocError>
+    pub fn new(alloc: Global) -> Result<PageReadParamsBuilder, AllocError>
         ensures { IfOk result (λ d. d.body ≡ blank 0 0) }
     {
-        Ok(PageReadParamsDraft {
+        Ok(PageReadParamsBuilder {
             body: StructDraft::new(alloc)?,
         })
     }
 
     /// A struct of these fields.
-    pub fn of(alloc: Global) -> Result<PageReadParamsDraft, DraftFault>
+    pub fn of(alloc: Global) -> Result<PageReadParamsBuilder, DraftFault>
         ensures { IfOk result (λ d. d.body ≡ (blank 0 0)) }
     {
-        Ok(PageReadParamsDraft::new(alloc)?)
+        Ok(PageReadParamsBuilder::new(alloc)?)
     }
 }

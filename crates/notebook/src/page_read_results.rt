@@ -14,17 +14,17 @@ use std::alloc::{AllocError, Global};
 
 /// `struct Page.read$Results`.
 #[derive(Drop)]
-pub struct PageReadResultsView<'a> {
+pub struct PageReadResultsReader<'a> {
     /// The struct, by the places of its fields.
     pub body: StructView<'a>,
 }
 
-impl<'a> PageReadResultsView<'a> {
+impl<'a> PageReadResultsReader<'a> {
     /// The struct that a pointer stands for; null is the struct whose fields are all as by default.
-    pub fn of(at: Pointee<'a>) -> Result<PageReadResultsView<'a>, WrongKind>
+    pub fn of(at: Pointee<'a>) -> Result<PageReadResultsReader<'a>, WrongKind>
         ensures { Reads result (λ x. x.body) (struct_field at.entry) }
     {
-        Ok(PageReadResultsView {
+        Ok(PageReadResultsReader {
             body: StructView::of(at)?,
         })
     }
@@ -39,17 +39,17 @@ impl<'a> PageReadResultsView<'a> {
 
 /// `struct Page.read$Results`, to be written.
 #[derive(Drop)]
-pub struct PageReadResultsDraft {
+pub struct PageReadResultsBuilder {
     /// The struct, by the places of its fields.
     pub body: StructDraft<0, 1>,
 }
 
-impl PageReadResultsDraft {
+impl PageReadResultsBuilder {
     /// A struct whose fields are all as by default.
-    pub fn new(alloc: Global) -> Result<PageReadResultsDraft, AllocError>
+    pub fn new(alloc: Global) -> Result<PageReadResultsBuilder, AllocError>
         ensures { IfOk result (λ d. d.body ≡ blank 0 1) }
     {
-        Ok(PageReadResultsDraft {
+        Ok(PageReadResultsBuilder {
             body: StructDraft::new(alloc)?,
         })
     }
@@ -65,7 +65,7 @@ impl PageReadResultsDraft {
     }
 }
 
-impl Results for PageReadResultsDraft {
+impl Results for PageReadResultsBuilder {
     ghost content = { λ d. d.body };
 
     fn into_whole(self) -> Whole {
@@ -89,10 +89,13 @@ impl PageReadResultsPromise {
     }
 
     /// The results that came.
-    pub fn results<'a>(&self, came: &'a ResultPayload) -> Result<PageReadResultsView<'a>, WrongKind>
+    pub fn results<'a>(
+        &self,
+        came: &'a ResultPayload,
+    ) -> Result<PageReadResultsReader<'a>, WrongKind>
         ensures { Reads result (λ x. x.body) (struct_field came.now.content) }
     {
-        Ok(PageReadResultsView {
+        Ok(PageReadResultsReader {
             body: came.results()?,
         })
     }

@@ -1,21 +1,23 @@
 //! `watcher` of notebook.capnp.
 
-ghost use Rattle.std.specs.Prelude.{◌≡◌, IfOk, []};
+ghost use Rattle.std.specs.Prelude.{◌≡◌, IfOk, OnOk, OnErr, []};
 ghost use Rattle.cp_builder.specs.Drafts.{blank, text_tree, with_pointer};
 ghost use Rattle.cp_stubs.specs.Calls.{ask_of, request_of};
 ghost use Rattle.cp_stubs.specs.Dispatch.{Passes};
+ghost use Rattle.cp_makers.specs.Here.{place_of};
 ghost use Rattle.cp_services.specs.Calls.{Answers};
 ghost use Rattle.cp_services.specs.Calls.{MakesOf};
+ghost use Rattle.cp_services.specs.Promises.{Fails, Promises, promised_by, resolved};
 ghost use Rattle.cp_services.specs.Services.{At, at, seen_as, taking};
 ghost use Rattle.notebook.specs.Watcher.{WatcherKind, WatcherMethodTakes, WatcherTakes, any_watcher};
 
-use crate::watcher_added_params::{WatcherAddedParamsDraft, WatcherAddedParamsView};
-use crate::watcher_added_results::{WatcherAddedResultsDraft, WatcherAddedResultsPromise};
+use crate::watcher_added_params::{WatcherAddedParamsBuilder, WatcherAddedParamsReader};
+use crate::watcher_added_results::{WatcherAddedResultsBuilder, WatcherAddedResultsPromise};
 use cp_builder::DraftFault;
-use cp_makers::{Here, Maker};
+use cp_makers::{Here, Maker, Resolver};
 use cp_refs::{Cap, Outcome, Request};
 use cp_servants::{Ask, Reply, Settled};
-use cp_services::{MethodResult, ServiceCall, ServiceObject};
+use cp_services::{MethodResult, ServiceCall, ServiceObject, fail};
 use cp_stubs::{CallTarget, Caller, MethodCall, MethodFault, refuse};
 use std::alloc::{AllocError, Global};
 
@@ -40,7 +42,7 @@ impl WatcherClient {
     }
 
     /// A call of `added @0`.
-    pub fn added_request(&self, params: WatcherAddedParamsDraft) -> Request
+    pub fn added_request(&self, params: WatcherAddedParamsBuilder) -> Request
         ensures { result ≡ request_of 0x80a0c5d36bb2c9a2 0 params.body [] }
     {
         let content = params.body.into_whole();
@@ -53,9 +55,9 @@ impl WatcherClient {
         caller: &mut C,
         text: &str,
     ) -> Result<WatcherAddedResultsPromise, C::Fault>
-        ensures { MakesOf (λ p. p.at) C.asks caller.old self.now.target 0x80a0c5d36bb2c9a2 0 (with_pointer (blank 0 1) 0 (text_tree text.now)) result caller.new }
+        ensures { MakesOf (λ p. p.at) C.asks caller.old self.now.target 0x80a0c5d36bb2c9a2 0 (with_pointer (blank 0 1) 0 (text_tree text.now)) [] result caller.new }
     {
-        let params = WatcherAddedParamsDraft::of(self.target.alloc(), text)?;
+        let params = WatcherAddedParamsBuilder::of(self.target.alloc(), text)?;
         let request = self.added_request(params);
         Ok(WatcherAddedResultsPromise {
             at: self.target.call(caller, request)?,
@@ -66,7 +68,7 @@ impl WatcherClient {
     pub fn added_ask(&self, text: &str, mark: u64) -> Result<Ask, DraftFault>
         ensures { IfOk result (λ ask. ask ≡ ask_of self.now.target (request_of 0x80a0c5d36bb2c9a2 0 (with_pointer (blank 0 1) 0 (text_tree text.now)) []) mark) }
     {
-        let params = WatcherAddedParamsDraft::of(self.target.alloc(), text)?;
+        let params = WatcherAddedParamsBuilder::of(self.target.alloc(), text)?;
         let request = self.added_request(params);
         Ok(self.target.ask(request, mark)?)
     }
@@ -75,8 +77,8 @@ impl WatcherClient {
 /// A call of `added`.
 pub type WatcherAddedCall<'c> = ServiceCall<
     'c,
-    WatcherAddedParamsView<'c>,
-    WatcherAddedResultsDraft,
+    WatcherAddedParamsReader<'c>,
+    WatcherAddedResultsBuilder,
 >;
 
 /// An object of `interface Watcher`.
@@ -136,6 +138,51 @@ impl<T: WatcherServer> Maker for WatcherServant<T> {
     }
 }
 
+/// Resolves a promise of an object of `interface Watcher`: one that is named before it is there.
+#[derive(Drop)]
+pub struct WatcherResolver {
+    pub resolver: Resolver,
+}
+
+impl WatcherResolver {
+    /// Makes the promise.
+    pub fn new<M: Drop>(here: &mut Here<M>) -> Result<WatcherResolver, AllocError>
+        ensures promised { IfOk result (λ r. Promises r.resolver (place_of here.old) (place_of here.new)) }
+        ensures left { OnErr result (place_of here.new ≡ place_of here.old) }
+    {
+        Ok(WatcherResolver {
+            resolver: here.promise()?,
+        })
+    }
+
+    /// What is promised, to be named at once. Calls of it wait.
+    pub fn client(&self, alloc: Global) -> WatcherClient
+        ensures { result.target ≡ promised_by self.now.resolver }
+    {
+        WatcherClient::new(alloc, self.resolver.cap())
+    }
+
+    /// What was promised comes to this object.
+    pub fn resolve<M: Drop>(
+        self,
+        here: &mut Here<M>,
+        client: WatcherClient,
+    ) -> Result<(), AllocError>
+        ensures resolved { OnOk result (place_of here.new ≡ resolved self.resolver client.target (place_of here.old)) }
+        ensures left { OnErr result (place_of here.new ≡ place_of here.old) }
+    {
+        here.resolve(self.resolver, client.target.into_cap())
+    }
+
+    /// Calls of what was promised fail with this.
+    pub fn fail<M: Drop>(self, here: &mut Here<M>, fault: MethodFault) -> Result<(), AllocError>
+        ensures fails { OnOk result (Fails self.resolver fault (place_of here.old) (place_of here.new)) }
+        ensures left { OnErr result (place_of here.new ≡ place_of here.old) }
+    {
+        fail(self.resolver, here, fault)
+    }
+}
+
 /// Passes a call on to the method of an object that its interface and its number name.
 pub fn dispatch_watcher<T: WatcherServer>(
     object: &mut T,
@@ -174,8 +221,8 @@ fn pass_added<T: WatcherServer>(
 {
     match call.params() {
         Ok(body) => {
-            let results = WatcherAddedResultsDraft::new(here.alloc())?;
-            let params = WatcherAddedParamsView { body };
+            let results = WatcherAddedResultsBuilder::new(here.alloc())?;
+            let params = WatcherAddedParamsReader { body };
             let mut passed = ServiceCall::new(here.alloc(), call, params, results);
             let done = WatcherServer::added(object, &mut passed, here);
             passed.reply(call, done)

@@ -12,17 +12,17 @@ use std::alloc::{AllocError, Global};
 
 /// `struct Watcher.added$Params`.
 #[derive(Drop)]
-pub struct WatcherAddedParamsView<'a> {
+pub struct WatcherAddedParamsReader<'a> {
     /// The struct, by the places of its fields.
     pub body: StructView<'a>,
 }
 
-impl<'a> WatcherAddedParamsView<'a> {
+impl<'a> WatcherAddedParamsReader<'a> {
     /// The struct that a pointer stands for; null is the struct whose fields are all as by default.
-    pub fn of(at: Pointee<'a>) -> Result<WatcherAddedParamsView<'a>, WrongKind>
+    pub fn of(at: Pointee<'a>) -> Result<WatcherAddedParamsReader<'a>, WrongKind>
         ensures { Reads result (λ x. x.body) (struct_field at.entry) }
     {
-        Ok(WatcherAddedParamsView {
+        Ok(WatcherAddedParamsReader {
             body: StructView::of(at)?,
         })
     }
@@ -37,26 +37,26 @@ impl<'a> WatcherAddedParamsView<'a> {
 
 /// `struct Watcher.added$Params`, to be written.
 #[derive(Drop)]
-pub struct WatcherAddedParamsDraft {
+pub struct WatcherAddedParamsBuilder {
     /// The struct, by the places of its fields.
     pub body: StructDraft<0, 1>,
 }
 
-impl WatcherAddedParamsDraft {
+impl WatcherAddedParamsBuilder {
     /// A struct whose fields are all as by default.
-    pub fn new(alloc: Global) -> Result<WatcherAddedParamsDraft, AllocError>
+    pub fn new(alloc: Global) -> Result<WatcherAddedParamsBuilder, AllocError>
         ensures { IfOk result (λ d. d.body ≡ blank 0 1) }
     {
-        Ok(WatcherAddedParamsDraft {
+        Ok(WatcherAddedParamsBuilder {
             body: StructDraft::new(alloc)?,
         })
     }
 
     /// A struct of these fields.
-    pub fn of(alloc: Global, text: &str) -> Result<WatcherAddedParamsDraft, DraftFault>
+    pub fn of(alloc: Global, text: &str) -> Result<WatcherAddedParamsBuilder, DraftFault>
         ensures { IfOk result (λ d. d.body ≡ (with_pointer (blank 0 1) 0 (text_tree text.now))) }
     {
-        let mut made = WatcherAddedParamsDraft::new(alloc)?;
+        let mut made = WatcherAddedParamsBuilder::new(alloc)?;
         made.set_text(alloc, text)?;
         Ok(made)
     }

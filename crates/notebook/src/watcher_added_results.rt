@@ -12,17 +12,17 @@ use std::alloc::{AllocError, Global};
 
 /// `struct Watcher.added$Results`.
 #[derive(Drop)]
-pub struct WatcherAddedResultsView<'a> {
+pub struct WatcherAddedResultsReader<'a> {
     /// The struct, by the places of its fields.
     pub body: StructView<'a>,
 }
 
-impl<'a> WatcherAddedResultsView<'a> {
+impl<'a> WatcherAddedResultsReader<'a> {
     /// The struct that a pointer stands for; null is the struct whose fields are all as by default.
-    pub fn of(at: Pointee<'a>) -> Result<WatcherAddedResultsView<'a>, WrongKind>
+    pub fn of(at: Pointee<'a>) -> Result<WatcherAddedResultsReader<'a>, WrongKind>
         ensures { Reads result (λ x. x.body) (struct_field at.entry) }
     {
-        Ok(WatcherAddedResultsView {
+        Ok(WatcherAddedResultsReader {
             body: StructView::of(at)?,
         })
     }
@@ -30,23 +30,23 @@ impl<'a> WatcherAddedResultsView<'a> {
 
 /// `struct Watcher.added$Results`, to be written.
 #[derive(Drop)]
-pub struct WatcherAddedResultsDraft {
+pub struct WatcherAddedResultsBuilder {
     /// The struct, by the places of its fields.
     pub body: StructDraft<0, 0>,
 }
 
-impl WatcherAddedResultsDraft {
+impl WatcherAddedResultsBuilder {
     /// A struct whose fields are all as by default.
-    pub fn new(alloc: Global) -> Result<WatcherAddedResultsDraft, AllocError>
+    pub fn new(alloc: Global) -> Result<WatcherAddedResultsBuilder, AllocError>
         ensures { IfOk result (λ d. d.body ≡ blank 0 0) }
     {
-        Ok(WatcherAddedResultsDraft {
+        Ok(WatcherAddedResultsBuilder {
             body: StructDraft::new(alloc)?,
         })
     }
 }
 
-impl Results for WatcherAddedResultsDraft {
+impl Results for WatcherAddedResultsBuilder {
     ghost content = { λ d. d.body };
 
     fn into_whole(self) -> Whole {
@@ -73,10 +73,10 @@ impl WatcherAddedResultsPromise {
     pub fn results<'a>(
         &self,
         came: &'a ResultPayload,
-    ) -> Result<WatcherAddedResultsView<'a>, WrongKind>
+    ) -> Result<WatcherAddedResultsReader<'a>, WrongKind>
         ensures { Reads result (λ x. x.body) (struct_field came.now.content) }
     {
-        Ok(WatcherAddedResultsView {
+        Ok(WatcherAddedResultsReader {
             body: came.results()?,
         })
     }
