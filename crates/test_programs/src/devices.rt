@@ -5,6 +5,7 @@ use std::io::{self, ErrorKind, Read, Write};
 /// Which calls of a device fail.
 #[derive(Clone, Copy)]
 pub enum Fails {
+    Never,
     /// The call of this number: the connection is reset.
     At(u64),
     /// The call of this number, by taking no byte.
@@ -26,6 +27,8 @@ pub struct Device<T> {
     pub fails: Fails,
     /// The most bytes that a call moves.
     pub most: usize,
+    /// Whether all that was written was flushed.
+    pub is_flushed: bool,
 }
 
 impl<T> Device<T> {
@@ -36,6 +39,7 @@ impl<T> Device<T> {
             calls: 0,
             fails,
             most,
+            is_flushed: false,
         }
     }
 
@@ -66,10 +70,12 @@ impl<R: Read> Read for Device<R> {
 impl<W: Write> Write for Device<W> {
     fn write(&mut self, buf: &[u8]) -> io::Result<usize> {
         let most = self.moved()?.min(buf.len());
+        self.is_flushed = false;
         self.inner.write(&buf[..most])
     }
 
     fn flush(&mut self) -> io::Result<()> {
+        self.is_flushed = true;
         self.inner.flush()
     }
 }

@@ -1,5 +1,7 @@
 //! Objects that make others: a notebook whose pages are objects, watchers of other sessions, times, and a plain model of who is there.
 
+mod ends;
+mod later;
 mod model;
 mod notebook;
 mod pages;

@@ -1,14 +1,20 @@
 //! Questions of a client and their outcomes.
 
-use crate::client::peer::{call_twice, client_of};
-use crate::frames::{DESK, FAILED, NEXT_SUM, SUM, bytes_of};
+use crate::client::peer::{Scene, call_twice, play};
+use crate::frames::{DESK, FAILED, NEXT_SUM, SUM};
 use cp_client::{Client, ClientFault, Question, request_of, word_at};
+use cp_makers::Hall;
 use cp_refs::Outcome;
 use std::alloc::Global;
+use std::io::{Read, Write};
 use std::process::Abort;
 
 /// The word of an outcome that comes.
-fn word(rt: &impl Abort, client: &mut Client<&[u8], Vec<u8>>, question: Question) -> Option<u64> {
+fn word<R: Read + Drop, W: Write + Drop, H: Hall>(
+    rt: &impl Abort,
+    client: &mut Client<R, W, H>,
+    question: Question,
+) -> Option<u64> {
     let outcome = client.wait(question).expect(rt, "an outcome");
     let word = word_at(&outcome, 0);
     drop(outcome);
@@ -16,7 +22,11 @@ fn word(rt: &impl Abort, client: &mut Client<&[u8], Vec<u8>>, question: Question
 }
 
 /// An outcome that comes for another question is kept for it, and each is given once.
-fn expect_kept(rt: &impl Abort, alloc: Global, client: &mut Client<&[u8], Vec<u8>>) {
+pub(crate) fn expect_kept<R: Read + Drop, W: Write + Drop, H: Hall>(
+    rt: &impl Abort,
+    alloc: Global,
+    client: &mut Client<R, W, H>,
+) {
     let (first, second) = call_twice(rt, alloc, client);
     check!(rt; word(rt, client, second) == Some(42));
     check!(rt; word(rt, client, first) == Some(41));
@@ -28,19 +38,15 @@ fn expect_kept(rt: &impl Abort, alloc: Global, client: &mut Client<&[u8], Vec<u8
 
 #[test]
 fn outcomes_are_kept_and_given_once(rt: HostRuntime) {
-    let alloc = rt.alloc();
-    let bytes = bytes_of(&rt, alloc, &[DESK, SUM, NEXT_SUM]);
-    let mut client = client_of(alloc, &bytes);
-    expect_kept(&rt, alloc, &mut client);
-    let (left, _) = client.into_devices();
-    check!(&rt; left.is_empty());
+    let frames = &[DESK, SUM, NEXT_SUM];
+    check!(&rt; play(&rt, rt.alloc(), frames, Scene::Keeps).unread == 0);
 }
 
 /// Whether a call of method 0 of the peer's object, made and finished, has results.
-fn has_results(
+fn has_results<R: Read + Drop, W: Write + Drop, H: Hall>(
     rt: &impl Abort,
     alloc: Global,
-    client: &mut Client<&[u8], Vec<u8>>,
+    client: &mut Client<R, W, H>,
     desk: Question,
 ) -> bool {
     let request = request_of(alloc, 1, 0, &[]).expect(rt, "memory");
@@ -53,7 +59,11 @@ fn has_results(
 }
 
 /// A call has results, and a second one fails; then what was held is given up, and the peer ends.
-fn expect_whole(rt: &impl Abort, alloc: Global, client: &mut Client<&[u8], Vec<u8>>) {
+pub(crate) fn expect_whole<R: Read + Drop, W: Write + Drop, H: Hall>(
+    rt: &impl Abort,
+    alloc: Global,
+    client: &mut Client<R, W, H>,
+) {
     let desk = client.bootstrap().expect(rt, "a bootstrap");
     check!(rt; has_results(rt, alloc, client, desk));
     check!(rt; !has_results(rt, alloc, client, desk));
@@ -65,9 +75,6 @@ fn expect_whole(rt: &impl Abort, alloc: Global, client: &mut Client<&[u8], Vec<u
 
 #[test]
 fn questions_are_asked_whole(rt: HostRuntime) {
-    let alloc = rt.alloc();
-    let bytes = bytes_of(&rt, alloc, &[DESK, SUM, FAILED]);
-    let mut client = client_of(alloc, &bytes);
-    expect_whole(&rt, alloc, &mut client);
-    let _ = client.into_devices();
+    let frames = &[DESK, SUM, FAILED];
+    check!(&rt; play(&rt, rt.alloc(), frames, Scene::AsksWhole).unread == 0);
 }

@@ -1,18 +1,17 @@
 //! Readers and writers of a client that fail.
 
-use crate::client::peer::call_twice;
-use crate::devices::{Device, Fails};
+use crate::client::peer::{Scene, call_twice, play, play_over};
+use crate::devices::Fails;
 use crate::frames::{DESK, NEXT_SUM, SUM, bytes_of};
 use cp_client::{Client, ClientFault, Question, word_at};
-use cp_frame::Mode;
-use cp_words::Limits;
+use cp_makers::Hall;
 use std::alloc::Global;
-use std::io::{self, Read, Write};
+use std::io::{Read, Write};
 use std::process::Abort;
 
 /// Waits until a question's outcome comes, whatever the devices do, and gives its word and how often one failed.
-fn insist<R: Read + Drop, W: Write + Drop>(
-    client: &mut Client<R, W>,
+fn insist<R: Read + Drop, W: Write + Drop, H: Hall>(
+    client: &mut Client<R, W, H>,
     question: Question,
 ) -> (Option<u64>, u64) {
     let mut failed = 0;
@@ -30,54 +29,50 @@ fn insist<R: Read + Drop, W: Write + Drop>(
     (None, failed)
 }
 
-/// Calls twice over such devices. The second outcome comes, and nothing is lost. Gives how often a device failed.
-fn call_over(rt: &impl Abort, alloc: Global, fails: Fails) -> u64 {
-    let bytes = bytes_of(rt, alloc, &[DESK, SUM, NEXT_SUM]);
-    let from = Device::new(bytes.as_slice(), fails, 7);
-    let to = Device::new(Vec::new(alloc), fails, 40);
-    let mut client = Client::new(alloc, from, to, Mode::Plain, Limits::standard());
-    let (_, second) = call_twice(rt, alloc, &mut client);
-    let (word, failed) = insist(&mut client, second);
-    let (from, to) = client.into_devices();
+/// Calls twice. The second outcome comes, though a device failed more than ten times, or none failed.
+pub(crate) fn expect_insisted<R: Read + Drop, W: Write + Drop, H: Hall>(
+    rt: &impl Abort,
+    alloc: Global,
+    client: &mut Client<R, W, H>,
+    fails: bool,
+) {
+    let (_, second) = call_twice(rt, alloc, client);
+    let (word, failed) = insist(client, second);
     check!(rt; word == Some(42));
-    check!(rt; from.inner.is_empty());
+    check!(rt; if fails { failed > 10 } else { failed == 0 });
+}
+
+/// Calls over such devices, and nothing is lost.
+fn expect_nothing_lost(rt: &impl Abort, alloc: Global, fails: Fails, scene: Scene) {
+    let bytes = bytes_of(rt, alloc, &[DESK, SUM, NEXT_SUM]);
+    let left = play_over(rt, alloc, &bytes, (fails, 7), scene);
+    drop(bytes);
     // A Bootstrap has 48 bytes, the calls 152 and 128.
-    check!(rt; to.inner.len() == 328);
-    failed
+    check!(rt; left.unread == 0 && left.written == 328);
 }
 
 #[test]
 fn nothing_is_lost_where_devices_fail(rt: HostRuntime) {
-    check!(&rt; call_over(&rt, rt.alloc(), Fails::ButEachThird) > 10);
-    check!(&rt; call_over(&rt, rt.alloc(), Fails::InterruptedButEachThird) == 0);
+    let (each, none) = (
+        Scene::Insists { fails: true },
+        Scene::Insists { fails: false },
+    );
+    expect_nothing_lost(&rt, rt.alloc(), Fails::ButEachThird, each);
+    expect_nothing_lost(&rt, rt.alloc(), Fails::InterruptedButEachThird, none);
 }
 
-/// A writer that notes whether all that was written was flushed.
-#[derive(Drop)]
-struct Flushed {
-    is_flushed: bool,
-}
-
-impl Write for Flushed {
-    fn write(&mut self, buf: &[u8]) -> io::Result<usize> {
-        self.is_flushed = false;
-        Ok(buf.len())
-    }
-
-    fn flush(&mut self) -> io::Result<()> {
-        self.is_flushed = true;
-        Ok(())
-    }
+/// A Bootstrap is written, and flushed.
+pub(crate) fn expect_flushed<R: Read + Drop, W: Write + Drop, H: Hall>(
+    rt: &impl Abort,
+    client: &mut Client<R, W, H>,
+) {
+    check!(rt; client.bootstrap().is_ok());
+    check!(rt; client.flush().is_ok());
 }
 
 // No contract of a writer shows it.
 #[test]
 fn a_flush_reaches_the_writer(rt: HostRuntime) {
-    let from: &[u8] = &[];
-    let to = Flushed { is_flushed: false };
-    let mut client = Client::new(rt.alloc(), from, to, Mode::Plain, Limits::standard());
-    check!(&rt; client.bootstrap().is_ok());
-    check!(&rt; client.flush().is_ok());
-    let (_, to) = client.into_devices();
-    check!(&rt; to.is_flushed);
+    let left = play(&rt, rt.alloc(), &[], Scene::Flushes);
+    check!(&rt; left.is_flushed && left.written == 48);
 }

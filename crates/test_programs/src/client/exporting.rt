@@ -1,14 +1,16 @@
 //! Objects that answer while a client waits.
 
-use crate::frames::{DESK, NEXT_SUM, SUM, bytes_of};
-use cp_client::{Client, ClientFault, word_at};
+use crate::frames::{BOOTSTRAP, CALL_BOOTSTRAP, DESK, NEXT_SUM, SUM, bytes_of};
+use cp_client::{Client, word_at};
 use cp_frame::Mode;
 use cp_refs::{Cap, Outcome, Request};
 use cp_servants::{Ask, Cell, Content, Reply, Servant, Settled};
 use cp_vat_machine::Ids;
 use cp_words::Limits;
 use std::alloc::{AllocError, Global};
+use std::io::{Read, Write};
 use std::mem;
+use std::process::Abort;
 
 /// A call of method 1 of export 0, which gives a Cell's number, under question 0 of the peer.
 const GET: &str = "\
@@ -16,29 +18,33 @@ const GET: &str = "\
     020000000000a1e5000000000000000008000000010001000c000000000002000000000000000000\
     0000000000000000000000000000000000000000000000000000000000000000";
 
-/// A Bootstrap under question 0 of the peer.
-const BOOTSTRAP: &str = "\
-    00000000050000000000000001000100080000000000000000000000010001000000000000000000\
-    0000000000000000";
-
-/// A call of method 1 of what that question gives, under question 1.
-const GET_BEFORE: &str = "\
-    000000000f0000000000000001000100020000000000000000000000030003000100000001000000\
-    020000000000a1e50000000000000000080000000100010014000000000002000000000000000000\
-    00000000010000000000000001000100000000000000000000000000000000000000000000000000\
-    0000000000000000";
-
-/// Answers each call with what import 0 answers to it.
+/// Answers each call as a Cell, or without one with what import 0 answers to it. All objects are of this one type, since each type that a
+/// client serves is proved anew to be one.
 #[derive(Drop)]
 struct Through {
     alloc: Global,
+    cell: Option<Cell>,
     /// A call that is to be asked, by its ticket.
     ask: Option<(u64, Request)>,
     answer: Option<Settled>,
 }
 
+impl Through {
+    fn new(alloc: Global, cell: Option<Cell>) -> Through {
+        Through {
+            alloc,
+            cell,
+            ask: None,
+            answer: None,
+        }
+    }
+}
+
 impl Servant for Through {
     fn call(&mut self, ticket: u64, request: Request) -> Result<Reply, AllocError> {
+        if let Some(cell) = &mut self.cell {
+            return cell.call(ticket, request);
+        }
         drop(mem::replace(&mut self.ask, Some((ticket, request))));
         Ok(Reply::Later)
     }
@@ -66,76 +72,82 @@ impl Servant for Through {
     }
 }
 
-/// Calls the peer's object with an object of the client's, and waits for the outcome while that answers.
-fn call_with<O: Servant>(
+/// Calls the peer's object with an object of the client's, and waits for the outcome while that answers. Gives its word.
+fn call_with<R: Read + Drop, W: Write + Drop, O: Servant>(
+    rt: &impl Abort,
     alloc: Global,
-    client: &mut Client<&[u8], Vec<u8>, Vec<O>>,
+    client: &mut Client<R, W, Vec<O>>,
     object: O,
-) -> Result<Option<u64>, ClientFault> {
-    let desk = client.bootstrap()?;
-    let cap = client.export(object)?;
-    let request = Content::new(alloc).cap(cap)?.request(1, 0);
-    let question = client.call(desk.cap(alloc), request)?;
-    let outcome = client.wait(question)?;
+) -> Option<u64> {
+    let cap = client.export(object).expect(rt, "a capability");
+    let params = Content::new(alloc).cap(cap).expect(rt, "params");
+    let desk = client.bootstrap().expect(rt, "a bootstrap");
+    let question = client.call(desk.cap(alloc), params.request(1, 0));
+    let question = question.expect(rt, "a call");
+    let outcome = client.wait(question).expect(rt, "an outcome");
     let word = word_at(&outcome, 0);
     drop(outcome);
-    client.flush()?;
-    Ok(word)
+    check!(rt; client.flush().is_ok());
+    word
 }
 
-#[test]
-fn objects_answer_while_a_client_waits(rt: HostRuntime) {
-    let alloc = rt.alloc();
-    let bytes = bytes_of(&rt, alloc, &[DESK, GET, SUM]);
-    let mut client = exporting_client(alloc, &bytes, None);
-    let given = call_with(alloc, &mut client, Cell::new(alloc));
-    check!(&rt; given == Ok(Some(41)));
-    check!(&rt; client.objects().len() == 1);
-    check!(&rt; client.tally().sent == 3);
-    let (left, written) = client.into_devices();
-    check!(&rt; left.is_empty());
-    // A Bootstrap has 48 bytes, the call 160, the Return 80.
-    check!(&rt; written.len() == 288);
+/// Serves the peer with an object of the client's, if it has one.
+fn serve_with<R: Read + Drop, W: Write + Drop, O: Servant>(
+    rt: &impl Abort,
+    client: &mut Client<R, W, Vec<O>>,
+    object: Option<O>,
+) {
+    if let Some(object) = object {
+        let cap = client.export(object).expect(rt, "a capability");
+        check!(rt; matches!(cap, Cap::Object(0)));
+        drop(cap);
+    }
+    check!(rt; client.serve().is_ok());
 }
 
-#[test]
-fn objects_ask_what_they_were_given(rt: HostRuntime) {
-    let alloc = rt.alloc();
-    let bytes = bytes_of(&rt, alloc, &[DESK, GET, NEXT_SUM, SUM]);
-    let mut client = exporting_client(alloc, &bytes, None);
-    let through = Through {
-        alloc,
-        ask: None,
-        answer: None,
-    };
-    let given = call_with(alloc, &mut client, through);
-    check!(&rt; given == Ok(Some(41)));
-    // A Bootstrap, the call, the object's own call and its Finish, and the Return.
-    check!(&rt; client.tally().sent == 5);
-    let (left, _) = client.into_devices();
-    check!(&rt; left.is_empty());
+/// A peer that sends these frames, and what a client does then that has an object, or none.
+#[derive(Clone, Copy)]
+struct Trial<'a> {
+    frames: &'a [&'a str],
+    /// The word that a call with the object gives. Without one the peer is served.
+    word: Option<u64>,
+    /// How many messages are sent, and how many bytes they have.
+    sent: u64,
+    written: usize,
+    /// What is among these bytes.
+    says: &'a [u8],
 }
 
-/// A client of such a peer, which may have objects.
-fn exporting_client<'a, O: Servant>(
+/// A client does what the trial says.
+fn expect_used<R: Read + Drop, W: Write + Drop, O: Servant>(
+    rt: &impl Abort,
     alloc: Global,
-    bytes: &'a [u8],
-    bootstrap: Option<u32>,
-) -> Client<&'a [u8], Vec<u8>, Vec<O>> {
-    let (to, limits) = (Vec::new(alloc), Limits::standard());
-    Client::with_objects(alloc, bytes, to, Mode::Plain, limits, bootstrap)
+    client: &mut Client<R, W, Vec<O>>,
+    (object, trial): (Option<O>, Trial<'_>),
+) {
+    let has_object = object.is_some();
+    if trial.word.is_some() {
+        let object = object.expect(rt, "an object");
+        check!(rt; call_with(rt, alloc, client, object) == trial.word);
+    } else {
+        serve_with(rt, client, object);
+    }
+    check!(rt; client.objects().is_empty() != has_object);
+    check!(rt; client.tally().sent == trial.sent);
 }
 
-#[test]
-fn a_client_has_a_bootstrap_object(rt: HostRuntime) {
-    let alloc = rt.alloc();
-    let bytes = bytes_of(&rt, alloc, &[BOOTSTRAP, GET_BEFORE]);
-    let mut client = exporting_client(alloc, &bytes, Some(0));
-    let cap = client.export(Cell::new(alloc)).expect(&rt, "memory");
-    check!(&rt; matches!(cap, Cap::Object(0)));
-    check!(&rt; client.serve().is_ok());
-    check!(&rt; client.tally().sent == 2);
-    drop(client);
+/// A client with this object, or none, which is what its peer gets for its Bootstrap, does what the trial says.
+fn expect_trial(rt: &impl Abort, alloc: Global, object: Option<Through>, trial: Trial<'_>) {
+    let bytes = bytes_of(rt, alloc, trial.frames);
+    let (from, to) = (bytes.as_slice(), Vec::new(alloc));
+    let limits = Limits::standard();
+    let mut client = Client::with_objects(alloc, from, to, Mode::Plain, limits, Some(0));
+    expect_used(rt, alloc, &mut client, (object, trial));
+    let (left, written) = client.into_devices();
+    check!(rt; left.is_empty());
+    check!(rt; written.len() == trial.written && holds(&written, trial.says));
+    drop(written);
+    drop(bytes);
 }
 
 /// Whether such bytes are among others.
@@ -148,14 +160,62 @@ fn holds(bytes: &[u8], part: &[u8]) -> bool {
     false
 }
 
+/// A Cell.
+fn cell(alloc: Global) -> Option<Through> {
+    Some(Through::new(alloc, Some(Cell::new(alloc))))
+}
+
+#[test]
+fn objects_answer_while_a_client_waits(rt: HostRuntime) {
+    let cell = cell(rt.alloc());
+    let trial = Trial {
+        frames: &[DESK, GET, SUM],
+        word: Some(41),
+        sent: 3,
+        // A Bootstrap has 48 bytes, the call 160, the Return 80.
+        written: 288,
+        says: b"",
+    };
+    expect_trial(&rt, rt.alloc(), cell, trial);
+}
+
+#[test]
+fn objects_ask_what_they_were_given(rt: HostRuntime) {
+    let through = Through::new(rt.alloc(), None);
+    let trial = Trial {
+        frames: &[DESK, GET, NEXT_SUM, SUM],
+        word: Some(41),
+        // A Bootstrap, the call, the object's own call and its Finish, and the Return.
+        sent: 5,
+        written: 440,
+        says: b"",
+    };
+    expect_trial(&rt, rt.alloc(), Some(through), trial);
+}
+
+#[test]
+fn a_client_has_a_bootstrap_object(rt: HostRuntime) {
+    let cell = cell(rt.alloc());
+    let trial = Trial {
+        frames: &[BOOTSTRAP, CALL_BOOTSTRAP],
+        word: None,
+        sent: 2,
+        // The Return to the Bootstrap has 96 bytes, the other 80.
+        written: 176,
+        says: b"",
+    };
+    expect_trial(&rt, rt.alloc(), cell, trial);
+}
+
 // Each call is answered, also where there is no such object, and that is written before more is read.
 #[test]
 fn calls_of_nobody_fail(rt: HostRuntime) {
-    let alloc = rt.alloc();
-    let bytes = bytes_of(&rt, alloc, &[BOOTSTRAP, GET_BEFORE]);
-    let mut client = exporting_client::<Cell>(alloc, &bytes, Some(0));
-    check!(&rt; client.serve().is_ok());
-    check!(&rt; client.tally().sent == 2);
-    let (_, written) = client.into_devices();
-    check!(&rt; holds(&written, b"no such object"));
+    let trial = Trial {
+        frames: &[BOOTSTRAP, CALL_BOOTSTRAP],
+        word: None,
+        sent: 2,
+        written: 192,
+        says: b"no such object",
+    };
+    expect_trial(&rt, rt.alloc(), None, trial);
 }

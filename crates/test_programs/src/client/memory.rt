@@ -1,33 +1,56 @@
 //! Allocation failures. With ample memory there are none: nightly/memory/sweep.sh fails each allocation of the test.
 
-use crate::client::peer::client_of;
-use crate::frames::{DESK, SUM, bytes_of};
-use cp_client::{Client, ClientFault, request_of, word_at};
+use crate::client::peer::{Scene, play};
+use crate::frames::{DESK, SUM};
+use cp_client::{Client, ClientFault, Question, request_of, word_at};
 use cp_connection::ConnectionFault;
+use cp_makers::Hall;
 use std::alloc::Global;
+use std::io::{Read, Write};
+use std::process::Abort;
 
-/// Calls what a field of the peer's object will give.
-fn call(alloc: Global, client: &mut Client<&[u8], Vec<u8>>) -> Result<Option<u64>, ClientFault> {
+/// Asks what a field of the peer's object will give.
+fn ask<R: Read + Drop, W: Write + Drop, H: Hall>(
+    alloc: Global,
+    client: &mut Client<R, W, H>,
+) -> Result<Question, ClientFault> {
     let desk = client.bootstrap()?;
-    let cell = desk.at(alloc, &[0])?;
-    let sum = client.call(cell, request_of(alloc, 2, 0, &[41])?)?;
-    let outcome = client.wait(sum)?;
+    let request = request_of(alloc, 2, 0, &[41])?;
+    match desk.at(alloc, &[0]) {
+        Ok(cell) => client.call(cell, request),
+        Err(error) => {
+            drop(request);
+            Err(ClientFault::from(error))
+        }
+    }
+}
+
+/// The word that it gives.
+fn call<R: Read + Drop, W: Write + Drop, H: Hall>(
+    alloc: Global,
+    client: &mut Client<R, W, H>,
+) -> Result<Option<u64>, ClientFault> {
+    let question = ask(alloc, client)?;
+    let outcome = client.wait(question)?;
     let word = word_at(&outcome, 0);
     drop(outcome);
     Ok(word)
 }
 
-// The writer's own allocations fail its writes.
-#[test]
-fn allocation_failure_is_reported(rt: HostRuntime) {
-    let alloc = rt.alloc();
-    let bytes = bytes_of(&rt, alloc, &[DESK, SUM]);
-    let mut client = client_of(alloc, &bytes);
-    let called = call(alloc, &mut client);
-    let _ = client.into_devices();
+/// The word comes, or memory ran out. The writer's own allocations fail its writes.
+pub(crate) fn expect_called_or_memory<R: Read + Drop, W: Write + Drop, H: Hall>(
+    rt: &impl Abort,
+    alloc: Global,
+    client: &mut Client<R, W, H>,
+) {
     let memory = ClientFault::Connection(ConnectionFault::OutOfMemory);
-    check!(&rt; match called {
+    check!(rt; match call(alloc, client) {
         Ok(word) => word == Some(41),
         Err(fault) => fault == memory || matches!(fault, ClientFault::Device(_)),
     });
+}
+
+#[test]
+fn allocation_failure_is_reported(rt: HostRuntime) {
+    play(&rt, rt.alloc(), &[DESK, SUM], Scene::CallsOrFails);
 }

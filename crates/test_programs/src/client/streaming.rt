@@ -1,27 +1,30 @@
 //! Streams: calls of which several are under way.
 
-use crate::client::peer::client_of;
-use crate::frames::{DESK, FAILED, NEXT_SUM, SUM, bytes_of};
+use crate::client::peer::{Scene, play};
+use crate::frames::{DESK, FAILED, NEXT_SUM, SUM};
 use cp_client::{Client, Stream, StreamingFault, request_of};
+use cp_makers::Hall;
 use cp_stubs::{CallTarget, NoResults};
 use std::alloc::Global;
+use std::io::{Read, Write};
 use std::process::Abort;
 
-/// A client of a peer in memory.
-type Peer<'a> = Client<&'a [u8], Vec<u8>>;
-
 /// The peer's object.
-fn desk(rt: &impl Abort, alloc: Global, client: &mut Peer<'_>) -> CallTarget {
+fn desk<R: Read + Drop, W: Write + Drop, H: Hall>(
+    rt: &impl Abort,
+    alloc: Global,
+    client: &mut Client<R, W, H>,
+) -> CallTarget {
     let desk = client.bootstrap().expect(rt, "a bootstrap");
     CallTarget::new(alloc, desk.cap(alloc))
 }
 
 /// Calls method 0 of an object, in a stream.
-fn send(
+fn send<R: Read + Drop, W: Write + Drop, H: Hall>(
     rt: &impl Abort,
     alloc: Global,
     stream: &mut Stream,
-    client: &mut Peer<'_>,
+    client: &mut Client<R, W, H>,
     target: &CallTarget,
 ) -> Result<(), StreamingFault> {
     let request = request_of(alloc, 1, 0, &[]).expect(rt, "memory");
@@ -29,7 +32,11 @@ fn send(
 }
 
 /// Three calls go, two of them at once, and are waited for.
-fn expect_in_order(rt: &impl Abort, alloc: Global, client: &mut Peer<'_>) {
+pub(crate) fn expect_in_order<R: Read + Drop, W: Write + Drop, H: Hall>(
+    rt: &impl Abort,
+    alloc: Global,
+    client: &mut Client<R, W, H>,
+) {
     let target = desk(rt, alloc, client);
     let mut stream = Stream::new(alloc, 2);
     for _ in 0..3 {
@@ -45,16 +52,16 @@ fn expect_in_order(rt: &impl Abort, alloc: Global, client: &mut Peer<'_>) {
 
 #[test]
 fn streams_have_a_window(rt: HostRuntime) {
-    let alloc = rt.alloc();
-    let bytes = bytes_of(&rt, alloc, &[DESK, SUM, NEXT_SUM, SUM]);
-    let mut client = client_of(alloc, &bytes);
-    expect_in_order(&rt, alloc, &mut client);
-    let (left, _) = client.into_devices();
-    check!(&rt; left.is_empty());
+    let frames = &[DESK, SUM, NEXT_SUM, SUM];
+    check!(&rt; play(&rt, rt.alloc(), frames, Scene::Streams).unread == 0);
 }
 
-/// Whether the second of two calls, of which one goes at once, says that the first one failed.
-fn says_failed(rt: &impl Abort, alloc: Global, client: &mut Peer<'_>) -> bool {
+/// The second of two calls, of which one goes at once, says that the first one failed.
+pub(crate) fn expect_failed<R: Read + Drop, W: Write + Drop, H: Hall>(
+    rt: &impl Abort,
+    alloc: Global,
+    client: &mut Client<R, W, H>,
+) {
     let target = desk(rt, alloc, client);
     let mut stream = Stream::new(alloc, 1);
     check!(rt; send(rt, alloc, &mut stream, client, &target).is_ok());
@@ -66,14 +73,10 @@ fn says_failed(rt: &impl Abort, alloc: Global, client: &mut Peer<'_>) -> bool {
     drop(fault);
     drop(stream);
     drop(target);
-    has_failed
+    check!(rt; has_failed);
 }
 
 #[test]
 fn streams_say_what_failed(rt: HostRuntime) {
-    let alloc = rt.alloc();
-    let bytes = bytes_of(&rt, alloc, &[DESK, FAILED]);
-    let mut client = client_of(alloc, &bytes);
-    check!(&rt; says_failed(&rt, alloc, &mut client));
-    let _ = client.into_devices();
+    check!(&rt; play(&rt, rt.alloc(), &[DESK, FAILED], Scene::StreamFails).unread == 0);
 }

@@ -1,6 +1,7 @@
 //! A host of 127.0.0.1, and a client in the same thread.
 
 use cp_frame::Mode;
+use cp_makers::Hall;
 use cp_servants::Desk;
 use cp_words::Limits;
 use net_host::{End, Host, HostLimits, HostPlan, News};
@@ -34,13 +35,6 @@ fn plan() -> HostPlan {
     }
 }
 
-/// Gives the connection that came a Desk.
-fn admit(rt: &impl Abort, alloc: Global, host: &mut Host<Vec<Desk>>) {
-    let mut objects = Vec::new(alloc);
-    objects.push(Desk::new(alloc)).expect(rt, "memory");
-    host.admit(objects).expect(rt, "a connection");
-}
-
 /// A client that has sent both frames, and sends no more.
 fn client<R>(rt: &R, address: SocketAddr) -> TcpStream
 where
@@ -61,7 +55,7 @@ enum Told {
     Other,
 }
 
-fn next_told<R: Net + Clock + Abort>(rt: &R, host: &mut Host<Vec<Desk>>) -> Told {
+fn next_told<R: Net + Clock + Abort, H: Hall>(rt: &R, host: &mut Host<H>) -> Told {
     let news = host.next(rt).expect(rt, "a host");
     let told = match &news {
         None => Told::Nothing,
@@ -79,14 +73,10 @@ fn next_told<R: Net + Clock + Abort>(rt: &R, host: &mut Host<Vec<Desk>>) -> Told
     told
 }
 
-/// Connection 1 comes, and gets a Desk.
-fn expect_came<R: Net + Clock + AllocGlobal + Abort>(rt: &R, host: &mut Host<Vec<Desk>>) {
+/// Connection 1 comes, and gets these objects. It ends by itself, and none comes after it.
+fn expect_one<R: Net + Clock + Abort, H: Hall>(rt: &R, host: &mut Host<H>, objects: H) {
     check!(rt; matches!(next_told(rt, host), Told::Came));
-    admit(rt, rt.alloc(), host);
-}
-
-/// It ends by itself, and none comes after it.
-fn expect_ended<R: Net + Clock + Abort>(rt: &R, host: &mut Host<Vec<Desk>>) {
+    host.admit(objects).expect(rt, "a connection");
     check!(rt; matches!(next_told(rt, host), Told::Ended));
     check!(rt; matches!(next_told(rt, host), Told::Nothing));
 }
@@ -111,8 +101,9 @@ fn two_turns_of_one_connection(rt: HostRuntime) {
         .expect(&rt, "a port");
     let client = client(&rt, address);
     let mut host = Host::new(&rt, plan(), listener).expect(&rt, "a host");
-    expect_came(&rt, &mut host);
-    expect_ended(&rt, &mut host);
+    let desk = Desk::new(rt.alloc());
+    let objects = Vec::from_array(rt.alloc(), [desk]).expect(&rt, "memory");
+    expect_one(&rt, &mut host, objects);
     drop(host);
     expect_returns(&rt, rt.alloc(), client);
 }

@@ -6,6 +6,7 @@ ghost use Rattle.cp_servants.specs.declared.servant.Reply.TheVariants.{Later};
 use crate::frames::{AT_ONCE, BOOTSTRAP, LATER, bytes_of};
 use cp_connection::Connection;
 use cp_frame::Mode;
+use cp_makers::Hall;
 use cp_objects::Objects;
 use cp_refs::{Caps, Request};
 use cp_servants::{Reply, RequestView, Servant, Settled, call_at};
@@ -80,29 +81,29 @@ fn an_object_does_what_its_kind_says(rt: HostRuntime) {
 const FRAMES: &[&str] = &[BOOTSTRAP, AT_ONCE, LATER];
 
 /// A frame comes to a connection with these objects, to which calls are lent or aren't.
-fn take(
+fn take<H: Hall>(
     connection: &mut Connection,
     owed: &mut Objects,
-    counters: &mut Vec<Counter>,
+    objects: &mut H,
     bytes: &[u8],
     lends: bool,
 ) -> Option<usize> {
     if lends {
-        let (count, _) = owed.receive(connection, counters, bytes).ok()?;
+        let (count, _) = owed.receive(connection, objects, bytes).ok()?;
         return Some(count);
     }
     let count = connection.receive(bytes).ok()?;
-    owed.work_off(connection, counters).ok()?;
+    owed.work_off(connection, objects).ok()?;
     Some(count)
 }
 
 /// A Bootstrap and two calls come for these objects.
-fn call(rt: &impl Abort, alloc: Global, counters: &mut Vec<Counter>, lends: bool) {
+fn call<H: Hall>(rt: &impl Abort, alloc: Global, objects: &mut H, lends: bool) {
     let mut connection = Connection::new(alloc, Mode::Plain, Limits::standard(), Some(0));
     let mut owed = Objects::new(alloc);
     for frame in FRAMES {
         let bytes = bytes_of(rt, alloc, &[*frame]);
-        let taken = take(&mut connection, &mut owed, counters, &bytes, lends);
+        let taken = take(&mut connection, &mut owed, objects, &bytes, lends);
         check!(rt; taken == Some(bytes.len()));
         drop(bytes);
     }
@@ -116,10 +117,10 @@ fn a_call_is_lent(rt: HostRuntime) {
     let mut counters = Vec::new(rt.alloc());
     let counter = Counter { calls: 0, lent: 0 };
     counters.push(counter).expect(&rt, "memory");
-    call(&rt, rt.alloc(), &mut counters, true);
-    expect_counted(&rt, &counters, 2, 2);
-    call(&rt, rt.alloc(), &mut counters, false);
-    expect_counted(&rt, &counters, 4, 2);
+    for (lends, calls) in [(true, 2), (false, 4)] {
+        call(&rt, rt.alloc(), &mut counters, lends);
+        expect_counted(&rt, &counters, calls, 2);
+    }
     drop(counters);
 }
 

@@ -1,6 +1,7 @@
 //! Random calls of a notebook and its pages, beside a plain model of which pages there are.
 
-use crate::services::notebook::{GIVE_UP, KEEP, KEPT, OPEN, READ, Shared, new_notes};
+use crate::services::ends::{Got, Step, With};
+use crate::services::notebook::{GIVE_UP, KEEP, KEPT, OPEN, READ};
 use crate::services::pair::Pair;
 use std::alloc::Global;
 use std::process::Abort;
@@ -136,10 +137,8 @@ impl Walk {
     /// A page is made.
     fn open(&mut self, rt: &impl Abort) {
         let number = self.number();
-        let book = self.pair.book;
-        let import = self.pair.call(rt, book, OPEN, number).import;
-        check!(rt; import.is_some());
-        self.model.add(rt, number, import);
+        let page = self.pair.page(rt, OPEN, number);
+        self.model.add(rt, number, Some(page));
     }
 
     /// The number of a page that is made.
@@ -153,45 +152,50 @@ impl Walk {
     fn call(&mut self, rt: &impl Abort, choice: usize, (place, page): (usize, Plain), import: u32) {
         match choice {
             1 => {
-                check!(rt; self.pair.call(rt, import, READ, 0).word == page.number);
+                check!(rt; self.got(rt, import, READ, 0).word == page.number);
             }
             2 => {
                 let number = self.number();
-                check!(rt; !self.pair.call(rt, import, KEEP, number).is_failed);
+                self.got(rt, import, KEEP, number);
                 self.model.set_kept(place, Some(number));
                 self.model.add(rt, number, None);
             }
             3 => {
-                let kept = self.pair.call(rt, import, KEPT, 0).import;
+                let kept = self.got(rt, import, KEPT, 0).import;
                 check!(rt; kept.is_some() == page.keeps.is_some());
                 self.model.take(page.keeps, kept);
             }
             4 => {
-                check!(rt; !self.pair.call(rt, import, GIVE_UP, 0).is_failed);
+                self.got(rt, import, GIVE_UP, 0);
                 self.model.set_kept(place, None);
             }
             _ => {
-                self.pair.release(rt, import);
+                self.pair.act(rt, Step::Release(import));
                 self.model.drop_import(place);
             }
         }
+    }
+
+    /// What a method of a page gives.
+    fn got(&mut self, rt: &impl Abort, import: u32, method: u16, word: u64) -> Got {
+        let got = self.pair.call(rt, import, method, With::Word(word));
+        check!(rt; !got.is_failed);
+        got
     }
 }
 
 #[test]
 fn as_many_pages_as_the_model_has(rt: HostRuntime) {
-    let notes = new_notes(rt.alloc()).expect(&rt, "notes");
     let mut seed = 17;
     for session in 0..20 {
-        seed = walked(&rt, rt.alloc(), session, &notes, seed);
+        seed = walked(&rt, rt.alloc(), session, seed);
     }
-    drop(notes);
 }
 
 /// Sixty steps of a session. Gives the seed after them.
-fn walked(rt: &impl Abort, alloc: Global, session: u64, notes: &Shared, seed: u64) -> u64 {
+fn walked(rt: &impl Abort, alloc: Global, session: u64, seed: u64) -> u64 {
     let mut walk = Walk {
-        pair: Pair::new(rt, alloc, session, notes),
+        pair: Pair::new(rt, alloc, session),
         model: Model {
             pages: Vec::new(alloc),
         },
@@ -200,7 +204,7 @@ fn walked(rt: &impl Abort, alloc: Global, session: u64, notes: &Shared, seed: u6
     };
     for _ in 0..60 {
         walk.step(rt);
-        walk.pair.pass(rt, 1_000);
+        walk.pair.act(rt, Step::Pass(1_000));
         check!(rt; walk.pair.objects() == walk.model.pages.len().saturating_add(1));
     }
     let seed = walk.seed;

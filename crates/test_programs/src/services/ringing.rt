@@ -1,16 +1,16 @@
 //! An object of a client wakes another of it, and one of another session.
 
-use crate::services::notebook::{NOTES, done};
-use crate::services::pair::{Watcher, options};
+use crate::frames::{BOOTSTRAP, CALL_BOOTSTRAP, bytes_of};
+use crate::services::notebook::done;
 use cp_client::Client;
 use cp_frame::Mode;
 use cp_makers::{Family, Hall, Here, Maker, Waker};
-use cp_refs::{Cap, Caps, Outcome, Path, Request};
-use cp_servants::{Ask, Content, Reply, Settled};
-use cp_session::Session;
+use cp_refs::{Caps, Outcome, Request};
+use cp_servants::{Ask, Reply, Settled};
 use cp_words::Limits;
 use std::alloc::{AllocError, Global};
 use std::cell::RefCell;
+use std::io::{Read, Write};
 use std::process::Abort;
 use std::rc::Rc;
 
@@ -80,19 +80,6 @@ fn bells(rt: &impl Abort, alloc: Global, polled: &Polled) -> Family<Bell> {
     family
 }
 
-/// What a peer sends that calls the bootstrap object.
-fn asked(rt: &impl Abort, alloc: Global) -> Vec<u8> {
-    let nobody: Vec<Watcher> = Vec::new(alloc);
-    let mut peer = Session::new(alloc, &options(None), nobody, 0);
-    let question = peer.bootstrap().expect(rt, "a bootstrap");
-    let bell = Cap::Pipelined(question, Path::new(Vec::new(alloc)));
-    peer.call(bell, Content::new(alloc).request(NOTES, 0))
-        .expect(rt, "a call");
-    let bytes = Vec::from_slice(alloc, peer.outgoing()).expect(rt, "bytes");
-    drop(peer);
-    bytes
-}
-
 fn expect_polled(rt: &impl Abort, polled: &Polled, wanted: &[u32]) {
     let is_right = match polled.try_borrow() {
         Ok(polled) => polled.as_slice() == wanted,
@@ -101,41 +88,66 @@ fn expect_polled(rt: &impl Abort, polled: &Polled, wanted: &[u32]) {
     check!(rt; is_right);
 }
 
-#[test]
-fn an_object_of_a_client_wakes_another(rt: HostRuntime) {
-    let alloc = rt.alloc();
-    let polled: Polled = Rc::new(alloc, RefCell::new(Vec::new(alloc))).expect(&rt, "memory");
-    let family = bells(&rt, alloc, &polled);
-    let bytes = asked(&rt, alloc);
-    let (to, limits) = (Vec::new(alloc), Limits::standard());
-    let mut client = Client::with_family(alloc, bytes.as_slice(), to, Mode::Plain, limits, family);
-    check!(&rt; client.serve().is_ok());
-    check!(&rt; client.tally().sent == 2);
-    // Both are polled after the Bootstrap, since they are new. After the call object 1 is polled since it was woken.
-    expect_polled(&rt, &polled, &[0, 1, 0, 1]);
-    let waker = client.next_wake().expect(&rt, "a wake");
-    check!(&rt; waker.session == 8 && waker.object == 1);
-    check!(&rt; client.next_wake().is_none());
-    drop(client);
-    drop(bytes);
-    drop(polled);
+/// A client is served, with what was polled then; then its program wakes an object, with what was polled after that.
+#[derive(Clone, Copy)]
+struct Trial<'a> {
+    frames: &'a [&'a str],
+    /// How many messages the client sent.
+    sent: u64,
+    served: &'a [u32],
+    woken: &'a [u32],
+}
+
+/// Both bells are polled after the Bootstrap, since they are new. After the call object 1 is polled since it was woken.
+const CALLED: Trial<'static> = Trial {
+    frames: &[BOOTSTRAP, CALL_BOOTSTRAP],
+    sent: 2,
+    served: &[0, 1, 0, 1],
+    woken: &[0, 1, 0, 1, 1],
+};
+
+/// Nobody calls.
+const UNCALLED: Trial<'static> = Trial {
+    frames: &[],
+    sent: 0,
+    served: &[0, 1],
+    woken: &[0, 1, 1],
+};
+
+/// A client does what a trial says. If the peer called, the object of another session is handed on.
+fn expect_trial<R: Read + Drop, W: Write + Drop, H: Hall>(
+    rt: &impl Abort,
+    client: &mut Client<R, W, H>,
+    polled: &Polled,
+    trial: Trial<'_>,
+) {
+    check!(rt; client.serve().is_ok());
+    check!(rt; client.tally().sent == trial.sent);
+    expect_polled(rt, polled, trial.served);
+    if trial.sent > 0 {
+        let waker = client.next_wake().expect(rt, "a wake");
+        check!(rt; waker.session == 8 && waker.object == 1);
+    }
+    check!(rt; client.next_wake().is_none());
+    // There is no object 5.
+    check!(rt; client.wake(1).is_ok() && client.wake(5).is_ok());
+    check!(rt; client.serve().is_ok());
+    expect_polled(rt, polled, trial.woken);
 }
 
 #[test]
-fn a_program_wakes_an_object_of_its_client(rt: HostRuntime) {
+fn objects_of_a_client_are_woken(rt: HostRuntime) {
     let alloc = rt.alloc();
-    let polled: Polled = Rc::new(alloc, RefCell::new(Vec::new(alloc))).expect(&rt, "memory");
-    let family = bells(&rt, alloc, &polled);
-    let bytes: &[u8] = &[];
-    let (to, limits) = (Vec::new(alloc), Limits::standard());
-    let mut client = Client::with_family(alloc, bytes, to, Mode::Plain, limits, family);
-    check!(&rt; client.serve().is_ok());
-    expect_polled(&rt, &polled, &[0, 1]);
-    check!(&rt; client.wake(1).is_ok());
-    // There is no object 5.
-    check!(&rt; client.wake(5).is_ok());
-    check!(&rt; client.serve().is_ok());
-    expect_polled(&rt, &polled, &[0, 1, 1]);
-    drop(client);
-    drop(polled);
+    for trial in [CALLED, UNCALLED] {
+        let polled: Polled = Rc::new(alloc, RefCell::new(Vec::new(alloc))).expect(&rt, "memory");
+        let family = bells(&rt, alloc, &polled);
+        let bytes = bytes_of(&rt, alloc, trial.frames);
+        let (to, limits) = (Vec::new(alloc), Limits::standard());
+        let from = bytes.as_slice();
+        let mut client = Client::with_family(alloc, from, to, Mode::Plain, limits, family);
+        expect_trial(&rt, &mut client, &polled, trial);
+        drop(client);
+        drop(bytes);
+        drop(polled);
+    }
 }

@@ -3,51 +3,48 @@
 use crate::frames::{
     ANSWER, BOOTSTRAP, LATER, STRANGE_FINISH, TOO_LARGE, TOO_MANY, TOO_MUCH, bytes_of,
 };
-use crate::session::{Told, expect_outgoing, next_told, take, write};
-use cp_frame::Mode;
-use cp_servants::{Desk, Script};
-use cp_session::{Budget, Limit, Session, SessionLimits, SessionOptions};
-use cp_words::Limits;
+use crate::session::{Stand, Step, Told, Trial};
+use cp_servants::{Sample, Script};
+use cp_session::{Budget, Limit, SessionLimits};
 use std::alloc::Global;
 use std::process::Abort;
 
 /// A session without objects that began at 5,000, of which so many bytes may be kept.
-fn session(alloc: Global, kept: u64) -> Session<Vec<Desk>> {
-    let options = SessionOptions {
-        mode: Mode::Plain,
-        messages: Limits::standard(),
-        bootstrap: Some(0),
-        may_call: true,
-        releases_idle: true,
-        limits: SessionLimits {
-            message: 1_000,
-            idle: 9_000,
-            closing: 500,
-            ahead: 65_536,
-            kept,
-        },
+fn session(alloc: Global, kept: u64) -> Trial {
+    let limits = SessionLimits {
+        message: 1_000,
+        idle: 9_000,
+        closing: 500,
+        ahead: 65_536,
+        kept,
     };
-    Session::new(alloc, &options, Vec::new(alloc), 5_000)
+    Trial::new(alloc, Vec::new(alloc), limits, 5_000)
 }
 
 /// These bytes come at this time, and then the next limit of time is met at that.
 fn expect_deadline(
     rt: &impl Abort,
-    session: &mut Session<Vec<Desk>>,
+    session: &mut Trial,
     bytes: &[u8],
     now: u64,
     deadline: u64,
-) {
-    let count = session.receive(bytes, now).expect(rt, "bytes");
-    check!(rt; count == bytes.len() && session.deadline() == Some(deadline));
+) -> Stand {
+    let stand = session.act(rt, Step::Bytes(bytes, now));
+    check!(rt; stand.given == Some(bytes.len()) && stand.deadline == Some(deadline));
+    stand
 }
 
 /// The session ends at this time, and no sooner.
-fn expect_over(rt: &impl Abort, session: &mut Session<Vec<Desk>>, deadline: u64) {
-    session.tick(deadline.saturating_sub(1));
-    check!(rt; !session.is_over());
-    session.tick(deadline);
-    check!(rt; session.is_over() && session.deadline().is_none());
+fn expect_over(rt: &impl Abort, session: &mut Trial, deadline: u64) {
+    check!(rt; !session.act(rt, Step::Tick(deadline.saturating_sub(1))).is_over);
+    let over = session.act(rt, Step::Tick(deadline));
+    check!(rt; over.is_over && over.deadline.is_none());
+}
+
+/// Too much is kept, and nothing more is told.
+fn expect_kept_told(rt: &impl Abort, session: &mut Trial) {
+    check!(rt; matches!(session.told(), Told::Limit(Limit::Kept)));
+    check!(rt; matches!(session.told(), Told::Nothing));
 }
 
 #[test]
@@ -57,10 +54,10 @@ fn times_are_looked_at(rt: HostRuntime) {
 
 #[test]
 fn a_message_comes_in_time(rt: HostRuntime) {
-    let alloc = rt.alloc();
-    let bytes = bytes_of(&rt, alloc, &[BOOTSTRAP]);
-    let mut session = session(alloc, 10_000);
-    check!(&rt; bytes.len() > 20 && session.deadline() == Some(14_000));
+    let bytes = bytes_of(&rt, rt.alloc(), &[BOOTSTRAP]);
+    let mut session = session(rt.alloc(), 10_000);
+    check!(&rt; bytes.len() > 20);
+    check!(&rt; session.act(&rt, Step::Look).deadline == Some(14_000));
     // A message begins. What comes of it later gives it no more time.
     expect_deadline(&rt, &mut session, &bytes[..9], 6_000, 7_000);
     expect_deadline(&rt, &mut session, &bytes[9..20], 6_900, 7_000);
@@ -68,83 +65,76 @@ fn a_message_comes_in_time(rt: HostRuntime) {
     expect_deadline(&rt, &mut session, &bytes[20..], 6_950, 15_950);
     expect_deadline(&rt, &mut session, &bytes[..9], 7_000, 8_000);
     expect_over(&rt, &mut session, 8_000);
-    check!(&rt; matches!(next_told(&mut session), Told::Limit(Limit::Message)));
+    check!(&rt; matches!(session.told(), Told::Limit(Limit::Message)));
     drop(session);
     drop(bytes);
 }
 
 #[test]
 fn a_byte_moves_in_time(rt: HostRuntime) {
-    let alloc = rt.alloc();
-    let bytes = bytes_of(&rt, alloc, &[BOOTSTRAP]);
-    let mut session = session(alloc, 10_000);
+    let bytes = bytes_of(&rt, rt.alloc(), &[BOOTSTRAP]);
+    let mut session = session(rt.alloc(), 10_000);
     expect_deadline(&rt, &mut session, &bytes, 6_000, 15_000);
-    expect_outgoing(&rt, alloc, &session, &[ANSWER]);
+    session.act(&rt, Step::Waits(&[ANSWER]));
     // One that is written counts too.
-    session.wrote(1, 7_000);
+    session.act(&rt, Step::Wrote(1, 7_000));
     expect_over(&rt, &mut session, 16_000);
-    check!(&rt; matches!(next_told(&mut session), Told::Limit(Limit::Idle)));
+    check!(&rt; matches!(session.told(), Told::Limit(Limit::Idle)));
     drop(session);
     drop(bytes);
 }
 
 #[test]
 fn few_bytes_are_kept(rt: HostRuntime) {
-    let alloc = rt.alloc();
-    let bytes = bytes_of(&rt, alloc, &[BOOTSTRAP]);
-    let mut session = session(alloc, 9);
+    let bytes = bytes_of(&rt, rt.alloc(), &[BOOTSTRAP]);
+    let mut session = session(rt.alloc(), 9);
     check!(&rt; bytes.len() > 20);
     expect_deadline(&rt, &mut session, &bytes[..9], 6_000, 7_000);
-    session.tick(6_000);
-    check!(&rt; !session.is_over());
+    check!(&rt; !session.act(&rt, Step::Tick(6_000)).is_over);
     expect_deadline(&rt, &mut session, &bytes[9..10], 6_000, 7_000);
-    session.tick(6_000);
-    expect_last(&rt, alloc, &mut session, TOO_MUCH);
-    check!(&rt; matches!(next_told(&mut session), Told::Limit(Limit::Kept)));
-    check!(&rt; matches!(next_told(&mut session), Told::Nothing));
+    session.act(&rt, Step::Tick(6_000));
+    expect_last(&rt, &mut session, TOO_MUCH);
+    expect_kept_told(&rt, &mut session);
     // What comes before the peer's close is dropped, and nothing of it is kept.
-    expect_deadline(&rt, &mut session, &bytes, 6_200, 6_500);
-    check!(&rt; session.kept() == 0 && session.outgoing().is_empty());
+    let dropped = expect_deadline(&rt, &mut session, &bytes, 6_200, 6_500);
+    check!(&rt; dropped.kept == 0 && dropped.waits == 0);
     expect_over(&rt, &mut session, 6_500);
     drop(session);
     drop(bytes);
 }
 
 /// This frame is the last that goes out, and nothing is taken; once it was written, at 6,000, the peer's close is waited for.
-fn expect_last(rt: &impl Abort, alloc: Global, session: &mut Session<Vec<Desk>>, frame: &str) {
-    check!(rt; session.outgoing() == bytes_of(rt, alloc, &[frame]).as_slice());
-    check!(rt; !session.takes_bytes() && !session.is_over());
-    let count = session.outgoing().len();
-    session.wrote(count, 6_000);
-    check!(rt; session.is_draining() && session.outgoing().is_empty());
+fn expect_last(rt: &impl Abort, session: &mut Trial, frame: &str) {
+    let last = session.act(rt, Step::Waits(&[frame]));
+    check!(rt; !last.takes_bytes && !last.is_over);
+    let written = session.act(rt, Step::Write(6_000));
+    check!(rt; written.is_draining && written.waits == 0);
 }
 
 #[test]
 fn an_abort_says_what_is_kept_once(rt: HostRuntime) {
     // More waits to be written than may be kept, so the peer that doesn't read is told nothing more.
-    let alloc = rt.alloc();
-    let bytes = bytes_of(&rt, alloc, &[BOOTSTRAP]);
-    let mut session = session(alloc, 9);
+    let bytes = bytes_of(&rt, rt.alloc(), &[BOOTSTRAP]);
+    let mut session = session(rt.alloc(), 9);
     expect_deadline(&rt, &mut session, &bytes, 6_000, 15_000);
-    session.tick(6_000);
-    check!(&rt; session.outgoing() == bytes_of(&rt, alloc, &[ANSWER, TOO_MUCH]).as_slice());
-    session.tick(6_001);
-    check!(&rt; session.is_over());
+    session.act(&rt, Step::Tick(6_000));
+    session.act(&rt, Step::Waits(&[ANSWER, TOO_MUCH]));
+    check!(&rt; session.act(&rt, Step::Tick(6_001)).is_over);
     drop(session);
+    drop(bytes);
 }
 
 #[test]
 fn a_host_allows_no_more(rt: HostRuntime) {
     // Less is kept than the session's own limit.
-    let alloc = rt.alloc();
-    let mut session = kept_answer(&rt, alloc, 10_000);
-    session.refuse(6_000);
-    expect_last(&rt, alloc, &mut session, TOO_MUCH);
-    check!(&rt; matches!(next_told(&mut session), Told::Limit(Limit::Kept)));
+    let mut session = kept_answer(&rt, rt.alloc(), 10_000);
+    session.act(&rt, Step::Refuse(6_000));
+    expect_last(&rt, &mut session, TOO_MUCH);
+    check!(&rt; matches!(session.told(), Told::Limit(Limit::Kept)));
     // The peer was told once.
-    session.refuse(6_000);
-    check!(&rt; session.is_over() && session.outgoing().is_empty());
-    check!(&rt; matches!(next_told(&mut session), Told::Nothing));
+    let refused = session.act(&rt, Step::Refuse(6_000));
+    check!(&rt; refused.is_over && refused.waits == 0);
+    check!(&rt; matches!(session.told(), Told::Nothing));
     drop(session);
 }
 
@@ -152,9 +142,10 @@ fn a_host_allows_no_more(rt: HostRuntime) {
 fn expect_refused(rt: &impl Abort, alloc: Global, begin: &str, frame: &str) {
     let mut session = session(alloc, 10_000);
     let bytes = bytes_of(rt, alloc, &[begin]);
-    check!(rt; session.receive(&bytes, 6_000).is_err());
-    expect_last(rt, alloc, &mut session, frame);
-    check!(rt; matches!(next_told(&mut session), Told::Fault(_)));
+    check!(rt; session.act(rt, Step::Bytes(&bytes, 6_000)).given.is_none());
+    drop(bytes);
+    expect_last(rt, &mut session, frame);
+    check!(rt; matches!(session.told(), Told::Fault(_)));
     drop(session);
 }
 
@@ -166,24 +157,25 @@ fn frames_that_are_too_large_are_refused(rt: HostRuntime) {
 }
 
 /// A session that may keep so many bytes keeps the answer to a Bootstrap, and all was written.
-fn kept_answer(rt: &impl Abort, alloc: Global, kept: u64) -> Session<Vec<Desk>> {
+fn kept_answer(rt: &impl Abort, alloc: Global, kept: u64) -> Trial {
     let bytes = bytes_of(rt, alloc, &[BOOTSTRAP]);
     let mut session = session(alloc, kept);
     expect_deadline(rt, &mut session, &bytes, 6_000, 15_000);
     drop(bytes);
-    write(&mut session, 6_000);
-    session.tick(6_000);
+    session.act(rt, Step::Write(6_000));
+    session.act(rt, Step::Tick(6_000));
     session
 }
 
 #[test]
 fn few_contents_are_kept(rt: HostRuntime) {
     // An entry, and a capability.
-    let kept = kept_answer(&rt, rt.alloc(), 736);
-    check!(&rt; !kept.is_over() && kept.kept() == 736);
-    drop(kept);
+    let mut session = kept_answer(&rt, rt.alloc(), 736);
+    let kept = session.act(&rt, Step::Look);
+    check!(&rt; !kept.is_over && kept.kept == 736);
+    drop(session);
     let mut too_much = kept_answer(&rt, rt.alloc(), 735);
-    check!(&rt; matches!(next_told(&mut too_much), Told::Limit(Limit::Kept)));
+    check!(&rt; matches!(too_much.told(), Told::Limit(Limit::Kept)));
     drop(too_much);
 }
 
@@ -200,26 +192,19 @@ const DOUBLING: &str = "\
 const WAITING: &[&str] = &[BOOTSTRAP, LATER, DOUBLING];
 
 /// A session with an object that answers later, which may keep so many bytes. Its peer made these calls.
-fn waiting(rt: &impl Abort, alloc: Global, kept: u64) -> Session<Vec<Script>> {
+fn waiting(rt: &impl Abort, alloc: Global, kept: u64) -> Trial {
     let script = Script::new(Vec::new(alloc), Vec::new(alloc));
-    let options = SessionOptions {
-        mode: Mode::Plain,
-        messages: Limits::standard(),
-        bootstrap: Some(0),
-        may_call: true,
-        releases_idle: true,
-        limits: SessionLimits {
-            kept,
-            ..SessionLimits::standard()
-        },
+    let objects = Vec::from_array(alloc, [Sample::Script(script)]).expect(rt, "memory");
+    let limits = SessionLimits {
+        kept,
+        ..SessionLimits::standard()
     };
-    let objects = vec![in alloc; script].expect(rt, "memory");
-    let mut session = Session::new(alloc, &options, objects, 0);
+    let mut session = Trial::new(alloc, objects, limits, 0);
     for frame in WAITING {
-        take(rt, alloc, &mut session, &[*frame], 0);
-        write(&mut session, 0);
+        session.act(rt, Step::Frames(&[*frame], 0));
+        session.act(rt, Step::Write(0));
     }
-    session.tick(0);
+    session.act(rt, Step::Tick(0));
     session
 }
 
@@ -227,11 +212,12 @@ fn waiting(rt: &impl Abort, alloc: Global, kept: u64) -> Session<Vec<Script>> {
 fn a_call_that_waits_is_kept(rt: HostRuntime) {
     // Three answers and a capability of 96; the call with its path, and 126 pointers.
     let kept = 3 * 640 + 96 + 192 + 2 + 126 * 96;
-    let session = waiting(&rt, rt.alloc(), kept);
-    check!(&rt; !session.is_over() && session.kept() == kept);
+    let mut session = waiting(&rt, rt.alloc(), kept);
+    let stand = session.act(&rt, Step::Look);
+    check!(&rt; !stand.is_over && stand.kept == kept);
     drop(session);
     let mut session = waiting(&rt, rt.alloc(), kept - 1);
-    check!(&rt; matches!(next_told(&mut session), Told::Limit(Limit::Kept)));
+    check!(&rt; matches!(session.told(), Told::Limit(Limit::Kept)));
     drop(session);
 }
 
@@ -250,17 +236,15 @@ fn sessions_keep_to_a_budget(rt: HostRuntime) {
 
 #[test]
 fn the_peer_closes_in_time(rt: HostRuntime) {
-    let alloc = rt.alloc();
-    let bytes = bytes_of(&rt, alloc, &[STRANGE_FINISH]);
-    let mut session = session(alloc, 10_000);
+    let bytes = bytes_of(&rt, rt.alloc(), &[STRANGE_FINISH]);
+    let mut session = session(rt.alloc(), 10_000);
     expect_deadline(&rt, &mut session, &bytes, 6_000, 15_000);
-    write(&mut session, 7_500);
-    check!(&rt; session.is_draining());
+    check!(&rt; session.act(&rt, Step::Write(7_500)).is_draining);
     // Only this time counts from now on, and no byte gives more of it.
     expect_deadline(&rt, &mut session, &bytes, 7_900, 8_000);
     expect_over(&rt, &mut session, 8_000);
-    check!(&rt; matches!(next_told(&mut session), Told::OwnAbort));
-    check!(&rt; matches!(next_told(&mut session), Told::Nothing));
+    check!(&rt; matches!(session.told(), Told::OwnAbort));
+    check!(&rt; matches!(session.told(), Told::Nothing));
     drop(session);
     drop(bytes);
 }

@@ -1,69 +1,55 @@
 //! When a session takes bytes of its peer, and when its objects have more to give.
 
 use crate::frames::{ANSWER, BOOTSTRAP, DESK_ANSWER, LATER, bytes_of};
-use crate::session::{expect_outgoing, take, write};
-use cp_frame::Mode;
-use cp_servants::Desk;
-use cp_session::{Session, SessionLimits, SessionOptions};
-use cp_words::Limits;
+use crate::session::{Step, Trial};
+use cp_servants::{Desk, Sample};
+use cp_session::SessionLimits;
 use std::alloc::Global;
 use std::process::Abort;
 
 /// A session with a Desk, of which so many bytes may wait while more is taken.
-fn session(rt: &impl Abort, alloc: Global, ahead: usize) -> Session<Vec<Desk>> {
-    let mut objects = Vec::new(alloc);
-    objects.push(Desk::new(alloc)).expect(rt, "memory");
-    let options = SessionOptions {
-        mode: Mode::Plain,
-        messages: Limits::standard(),
-        bootstrap: Some(0),
-        may_call: true,
-        releases_idle: true,
-        limits: SessionLimits {
-            ahead,
-            ..SessionLimits::standard()
-        },
+fn session(rt: &impl Abort, alloc: Global, ahead: usize) -> Trial {
+    let limits = SessionLimits {
+        ahead,
+        ..SessionLimits::standard()
     };
-    Session::new(alloc, &options, objects, 0)
+    let desk = Sample::Desk(Desk::new(alloc));
+    let objects = Vec::from_array(alloc, [desk]).expect(rt, "memory");
+    Trial::new(alloc, objects, limits, 0)
 }
 
 /// What waits to be written are these frames, and goes out.
-fn expect_out(rt: &impl Abort, alloc: Global, session: &mut Session<Vec<Desk>>, frames: &[&str]) {
-    expect_outgoing(rt, alloc, session, frames);
-    write(session, 1);
-    check!(rt; session.outgoing().is_empty());
+fn expect_out(rt: &impl Abort, session: &mut Trial, frames: &[&str]) {
+    session.act(rt, Step::Waits(frames));
+    check!(rt; session.act(rt, Step::Write(1)).waits == 0);
 }
 
 #[test]
 fn nothing_is_taken_while_too_much_waits(rt: HostRuntime) {
-    let alloc = rt.alloc();
-    let answer = bytes_of(&rt, alloc, &[ANSWER]);
-    let mut session = session(&rt, alloc, answer.len().saturating_sub(1));
-    drop(answer);
-    check!(&rt; session.takes_bytes());
-    take(&rt, alloc, &mut session, &[BOOTSTRAP], 0);
-    check!(&rt; !session.takes_bytes());
-    let more = bytes_of(&rt, alloc, &[LATER]);
-    check!(&rt; session.receive(&more, 0).expect(&rt, "nothing") == 0);
+    // The answer has 96 bytes.
+    let mut session = session(&rt, rt.alloc(), 95);
+    check!(&rt; session.act(&rt, Step::Look).takes_bytes);
+    let answered = session.act(&rt, Step::Frames(&[BOOTSTRAP], 0));
+    check!(&rt; answered.waits == 96 && !answered.takes_bytes);
+    let more = bytes_of(&rt, rt.alloc(), &[LATER]);
+    check!(&rt; session.act(&rt, Step::Bytes(&more, 0)).given == Some(0));
     drop(more);
     // One byte less is little enough.
-    session.wrote(1, 1);
-    check!(&rt; session.takes_bytes());
+    check!(&rt; session.act(&rt, Step::Wrote(1, 1)).takes_bytes);
     drop(session);
 }
 
 #[test]
 fn objects_give_what_they_owe_after_the_peers_end(rt: HostRuntime) {
-    let alloc = rt.alloc();
-    let mut session = session(&rt, alloc, 65_536);
-    take(&rt, alloc, &mut session, &[BOOTSTRAP, LATER], 0);
-    expect_out(&rt, alloc, &mut session, &[ANSWER]);
-    check!(&rt; session.has_more());
-    session.end(2).expect(&rt, "an end");
-    check!(&rt; !session.takes_bytes() && !session.is_over());
-    expect_out(&rt, alloc, &mut session, &[DESK_ANSWER]);
+    let mut session = session(&rt, rt.alloc(), 65_536);
+    session.act(&rt, Step::Frames(&[BOOTSTRAP, LATER], 0));
+    expect_out(&rt, &mut session, &[ANSWER]);
+    check!(&rt; session.act(&rt, Step::Look).has_more);
+    let ended = session.act(&rt, Step::End(2));
+    check!(&rt; !ended.takes_bytes && !ended.is_over);
+    expect_out(&rt, &mut session, &[DESK_ANSWER]);
     // One that gave what was awaited is polled once more.
-    session.poll(2).expect(&rt, "memory");
-    check!(&rt; !session.has_more() && session.is_over());
+    let polled = session.act(&rt, Step::Poll(2));
+    check!(&rt; !polled.has_more && polled.is_over);
     drop(session);
 }

@@ -1,0 +1,285 @@
+//! Two sessions over bytes in memory, whatever objects they have. All that is done with both is a step of `act`: a call of a session whose
+//! objects are of a named type takes seconds to prove, and one whose objects are of a type parameter next to nothing.
+
+use crate::services::notebook::NOTES;
+use cp_frame::Mode;
+use cp_makers::{Hall, Waker};
+use cp_refs::{Cap, Caps, Outcome, Request};
+use cp_servants::{Content, results_of, word_in};
+use cp_session::{Session, SessionEvent, SessionLimits, SessionOptions};
+use cp_words::Limits;
+use std::alloc::Global;
+use std::process::Abort;
+
+/// A client and a server, each of which gets what the other sends.
+pub(crate) struct Ends<C, S> {
+    pub(crate) alloc: Global,
+    pub(crate) client: Session<C>,
+    pub(crate) server: Session<S>,
+    pub(crate) now: u64,
+}
+
+// Not derived: who lets one go calls this function, and need not prove the drop of its sessions.
+impl<C: Drop, S: Drop> Drop for Ends<C, S> {
+    fn drop(self) {
+        let Ends {
+            alloc: _,
+            client: _,
+            server: _,
+            now: _,
+        } = self;
+    }
+}
+
+/// What is done.
+#[derive(Clone, Copy)]
+pub(crate) enum Step {
+    /// The client asks for the server's object.
+    Bootstrap,
+    /// The client calls a method of an import.
+    Call(u32, u16, With),
+    /// All bytes go over. The client takes its first event, and finishes the question.
+    Take,
+    /// The client drops an import, and all bytes go over.
+    Release(u32),
+    /// The client drops all imports but this one that it may drop, and all bytes go over.
+    ReleaseOthers(u32),
+    /// Time passes, and the server does what is due.
+    Pass(u64),
+    /// The server hands on whom it has woken in another session.
+    HandOn,
+    /// An object of the server is woken.
+    Wake(u32),
+}
+
+/// What a method is called with.
+#[derive(Clone, Copy)]
+pub(crate) enum With {
+    Word(u64),
+    /// A capability that the server gave.
+    Import(u32),
+    /// An object of the client.
+    Object(u32),
+}
+
+/// What is seen of a step.
+#[derive(Clone, Copy)]
+pub(crate) struct Seen {
+    /// The question that was asked.
+    pub(crate) asked: Option<u32>,
+    /// The question whose outcome was taken, and that.
+    pub(crate) got: Option<(u32, Got)>,
+    /// Who is woken in another session.
+    pub(crate) woken: Option<Waker>,
+    /// How many bytes the server keeps.
+    pub(crate) kept: u64,
+    /// When the server is due.
+    pub(crate) deadline: Option<u64>,
+    /// Whether the server has more to do.
+    pub(crate) has_more: bool,
+}
+
+/// What a call gave: its first data word, and the import that its table names first.
+#[derive(Clone, Copy)]
+pub(crate) struct Got {
+    pub(crate) word: u64,
+    pub(crate) import: Option<u32>,
+    pub(crate) is_failed: bool,
+}
+
+impl<C: Hall, S: Hall> Ends<C, S> {
+    /// A client with these objects, and a server with those, whose first one the client may ask for. The server's session has this number.
+    pub(crate) fn new(alloc: Global, client: C, server: S, session: u64) -> Ends<C, S> {
+        let mut server = server;
+        server.set_session(session);
+        Ends {
+            alloc,
+            client: Session::new(alloc, &options(None), client, 0),
+            server: Session::new(alloc, &options(Some(0)), server, 0),
+            now: 0,
+        }
+    }
+
+    /// Does a step.
+    pub(crate) fn act(&mut self, rt: &impl Abort, step: Step) -> Seen {
+        let mut asked = None;
+        let mut got = None;
+        let mut woken = None;
+        match step {
+            Step::Bootstrap => asked = self.client.bootstrap().ok(),
+            Step::Call(import, method, with) => {
+                let request = request(rt, self.alloc, method, with);
+                asked = self.client.call(Cap::Import(import), request).ok();
+            }
+            Step::Take => got = self.take(rt),
+            Step::HandOn => woken = self.server.next_wake(),
+            other => self.go_on(rt, other),
+        }
+        Seen {
+            asked,
+            got,
+            woken,
+            kept: self.server.kept(),
+            deadline: self.server.deadline(),
+            has_more: self.server.has_more(),
+        }
+    }
+
+    /// All bytes go over. The client takes its first event, and finishes the question.
+    fn take(&mut self, rt: &impl Abort) -> Option<(u32, Got)> {
+        self.run(rt);
+        let got = told(self.client.poll_event());
+        if let Some((question, _)) = got {
+            self.client.finish(question).expect(rt, "a finish");
+            self.run(rt);
+        }
+        got
+    }
+
+    /// Does a step that gives nothing.
+    fn go_on(&mut self, rt: &impl Abort, step: Step) {
+        match step {
+            Step::Release(import) => {
+                self.client.release(import).expect(rt, "a release");
+                self.run(rt);
+            }
+            Step::ReleaseOthers(kept) => {
+                for import in 0..16 {
+                    if import != kept {
+                        let _ = self.client.release(import);
+                    }
+                }
+                self.run(rt);
+            }
+            Step::Pass(time) => self.pass(rt, time),
+            Step::Wake(object) => self.server.wake(object).expect(rt, "memory"),
+            _ => {}
+        }
+    }
+
+    /// Time passes, and the server does what is due.
+    fn pass(&mut self, rt: &impl Abort, time: u64) {
+        self.now = self.now.saturating_add(time);
+        for _ in 0..1_000 {
+            self.server.tick(self.now);
+            give(rt, &mut self.server, &[], self.now);
+            self.run(rt);
+            match self.server.deadline() {
+                Some(due) if due <= self.now => {}
+                _ => return,
+            }
+        }
+        check!(rt; false);
+    }
+
+    /// All bytes go over, both ways, until none is left and none may give more.
+    fn run(&mut self, rt: &impl Abort) {
+        let at = (self.alloc, self.now);
+        for _ in 0..1_000_000 {
+            let went = carry(rt, &mut self.client, &mut self.server, at);
+            let came = carry(rt, &mut self.server, &mut self.client, at);
+            if !went && !came {
+                return;
+            }
+        }
+        check!(rt; false);
+    }
+}
+
+/// The options of a session that gives its peer this object.
+fn options(bootstrap: Option<u32>) -> SessionOptions {
+    SessionOptions {
+        mode: Mode::Plain,
+        messages: Limits::standard(),
+        bootstrap,
+        may_call: true,
+        releases_idle: false,
+        limits: SessionLimits::standard(),
+    }
+}
+
+/// All bytes that one session sends come to the other. Says whether there were any.
+fn carry<F: Hall, T: Hall>(
+    rt: &impl Abort,
+    from: &mut Session<F>,
+    to: &mut Session<T>,
+    (alloc, now): (Global, u64),
+) -> bool {
+    let bytes = from.outgoing().to_vec(alloc).expect(rt, "memory");
+    from.wrote(bytes.len(), now);
+    give(rt, to, &bytes, now);
+    let were_any = !bytes.is_empty();
+    drop(bytes);
+    were_any
+}
+
+/// Gives bytes to a session, and has it do all that they lead to.
+fn give<H: Hall>(rt: &impl Abort, session: &mut Session<H>, bytes: &[u8], now: u64) {
+    let mut left = bytes;
+    for _ in 0..bytes.len() {
+        if left.is_empty() {
+            break;
+        }
+        let count = session.receive(left, now).expect(rt, "a message");
+        check!(rt; count > 0);
+        left = left.get(count..).unwrap_or(&[]);
+    }
+    for _ in 0..1_000_000 {
+        if !session.has_more() {
+            return;
+        }
+        session.poll(now).expect(rt, "a poll");
+    }
+    check!(rt; false);
+}
+
+/// A call of a method.
+fn request(rt: &impl Abort, alloc: Global, method: u16, with: With) -> Request {
+    let params = Content::new(alloc);
+    let params = match with {
+        With::Word(word) => params.word(word),
+        With::Import(import) => params.cap(Cap::Import(import)),
+        With::Object(object) => params.cap(Cap::Object(object)),
+    };
+    params.expect(rt, "params").request(NOTES, method)
+}
+
+/// The question that an event settles, and what that gave.
+fn told(event: Option<SessionEvent>) -> Option<(u32, Got)> {
+    match event {
+        Some(SessionEvent::Outcome { question, outcome }) => {
+            let got = got_of(&outcome);
+            drop(outcome);
+            Some((question, got))
+        }
+        other => {
+            drop(other);
+            None
+        }
+    }
+}
+
+fn got_of(outcome: &Outcome) -> Got {
+    match outcome {
+        Outcome::Results { caps, .. } => Got {
+            word: match results_of(outcome) {
+                Some(content) => word_in(content, 0),
+                None => 0,
+            },
+            import: first_import(caps),
+            is_failed: false,
+        },
+        _ => Got {
+            word: 0,
+            import: None,
+            is_failed: true,
+        },
+    }
+}
+
+fn first_import(caps: &Caps) -> Option<u32> {
+    match caps.caps().first() {
+        Some(Cap::Import(import)) => Some(*import),
+        _ => None,
+    }
+}

@@ -1,0 +1,110 @@
+//! Calls of services are answered later, by their own handles, in another order than they came.
+
+use crate::services::ends::{Ends, Seen, Step, With};
+use cp_makers::{Family, Here, Maker};
+use cp_refs::{Outcome, Request};
+use cp_servants::{Ask, Reply, Settled};
+use cp_services::{LaterCall, MethodResult, ServiceCall};
+use cp_stubs::{MethodCall, MethodFault, StreamResultDraft, Table};
+use std::alloc::AllocError;
+use std::process::Abort;
+
+/// Answers no call until there are two: then the second one with results, and the first one with an exception.
+#[derive(Drop)]
+struct Slow {
+    calls: Vec<LaterCall>,
+    is_ready: bool,
+}
+
+impl Slow {
+    /// The call is to be answered later.
+    fn put_off(&mut self, call: &mut ServiceCall<'_, (), StreamResultDraft>) -> MethodResult {
+        let later = call.later()?;
+        self.calls.push(later)?;
+        self.is_ready = self.calls.len() == 2;
+        Ok(())
+    }
+}
+
+impl Maker for Slow {
+    type Makes = Slow;
+
+    fn call(
+        &mut self,
+        ticket: u64,
+        request: Request,
+        here: &mut Here<Slow>,
+    ) -> Result<Reply, AllocError> {
+        let call = MethodCall { ticket, request };
+        let results = StreamResultDraft::new(here.alloc())?;
+        let mut passed = ServiceCall::new(here.alloc(), &call, (), results);
+        let done = self.put_off(&mut passed);
+        passed.reply(&call, done)
+    }
+
+    fn poll(&mut self, here: &mut Here<Slow>) -> Result<Option<Settled>, AllocError> {
+        if !self.is_ready {
+            return Ok(None);
+        }
+        let Some(call) = self.calls.pop() else {
+            return Ok(None);
+        };
+        if self.calls.is_empty() {
+            return Ok(Some(call.fail(here.alloc(), MethodFault::InUse)?));
+        }
+        let results = StreamResultDraft::new(here.alloc())?;
+        Ok(Some(call.answer(results, Table::new(here.alloc()))))
+    }
+
+    fn ask(&mut self, _here: &mut Here<Slow>) -> Result<Option<Ask>, AllocError> {
+        Ok(None)
+    }
+
+    fn told(
+        &mut self,
+        _mark: u64,
+        outcome: Outcome,
+        _here: &mut Here<Slow>,
+    ) -> Result<(), AllocError> {
+        drop(outcome);
+        Ok(())
+    }
+}
+
+type Both = Ends<Family<Slow>, Family<Slow>>;
+
+/// Does a step.
+fn act(rt: &impl Abort, ends: &mut Both, step: Step) -> Seen {
+    ends.act(rt, step)
+}
+
+/// The next outcome is that of this question.
+fn expect_outcome(rt: &impl Abort, ends: &mut Both, asked: Option<u32>, is_failed: bool) {
+    let (question, got) = act(rt, ends, Step::Take).got.expect(rt, "an outcome");
+    check!(rt; asked == Some(question) && got.is_failed == is_failed);
+}
+
+#[test]
+fn calls_are_answered_later(rt: HostRuntime) {
+    let alloc = rt.alloc();
+    let mut family = Family::new(alloc);
+    let calls = Vec::new(alloc);
+    let is_ready = false;
+    drop(
+        family
+            .add(Slow { calls, is_ready })
+            .expect(&rt, "an object"),
+    );
+    let mut ends = Ends::new(alloc, Family::new(alloc), family, 1);
+    act(&rt, &mut ends, Step::Bootstrap);
+    let (_, got) = act(&rt, &mut ends, Step::Take)
+        .got
+        .expect(&rt, "an outcome");
+    let call = Step::Call(got.import.expect(&rt, "an object"), 0, With::Word(0));
+    let first = act(&rt, &mut ends, call).asked;
+    check!(&rt; act(&rt, &mut ends, Step::Take).got.is_none());
+    let second = act(&rt, &mut ends, call).asked;
+    expect_outcome(&rt, &mut ends, second, false);
+    expect_outcome(&rt, &mut ends, first, true);
+    drop(ends);
+}
