@@ -8,7 +8,7 @@
 #   memory    each test of allocation failures, once for each allocation       the proofs of three crates with their tests, and minutes
 #   moves     100 seeds of 120 random moves of two vats                        a minute
 #   peers     sessions of C++ clients, and of peers at fault                   15 seconds
-#   matrix    clients and servers of the C++ and the Rust library, each with each   some minutes, the first time with the Rust library's build
+#   matrix    clients and servers of the C++ and the Rust library, each with each   the proofs of two programs of its own, and some minutes
 #   relay     sessions of C++ clients and of peers at fault through a relay    a minute
 #   guard     11,000 random sessions of the C++ library through a guard        some minutes
 #   fields    texts of schemas, read by generated code and by the reference tool   half an hour
@@ -21,8 +21,10 @@
 #   readme    the story of the README, in a fresh clone, each line pasted      five minutes
 #   tails     tail calls with C++ and Rust peers, both ways, and by hand          the proof of a program of its own, and 30 seconds
 #   interfaces typed clients and objects with those of the reference library  the proofs of five crates of its own, and a minute
+#   services  promises, objects made in calls and times, with both libraries     the proof of a program of its own, and five minutes
 #   notebook  objects made in calls, and pushes, with the reference library    the proof of examples, and half a minute
 #   chat      a chat room with 999 silent members of the reference library      the proof of examples, and half a minute
+#   netns     servers and clients over a slow, lossy link, as root              the proof of examples, and three minutes
 #   sessions  15,000 random sessions with two servers                          ten minutes
 #   crowd     the same with servers that serve 16 of them at once              ten minutes
 #   served    20 million messages of random sessions, served in memory         a minute, and half of one with the address sanitizer
@@ -39,7 +41,7 @@
 set -u
 here=$(cd "$(dirname "${BASH_SOURCE[0]}")" && pwd)
 root=$(dirname "$here")
-all=(look memory moves peers matrix relay guard fields schemas texts host load callees faults readme interfaces notebook chat sessions crowd served pieces starved embed fuzz edits plants)
+all=(look memory moves peers matrix relay guard fields schemas texts host load callees faults readme interfaces services notebook chat netns sessions crowd served pieces starved embed fuzz edits plants)
 alone=night # runs only where it is named: it takes as long as all others
 planted=(cp_words cp_tables cp_writing cp_packed cp_frame cp_messages cp_rpc cp_stream cp_refs cp_vat cp_serve)
 
@@ -74,7 +76,16 @@ moves() {
 
 peers() { built && "$here/peers/run.sh" "$server" "$folder"; }
 
-matrix() { built && "$here/callees/answering/build.sh" "$folder" && "$here/peers/matrix.sh" "$server" "$folder" "$folder/answering"; }
+matrix() {
+    built && "$here/callees/answering/build.sh" "$folder" && "$here/services/serving/build.sh" "$folder" &&
+        "$here/peers/matrix.sh" "$server" "$folder" "$folder/answering" "$folder/serving"
+}
+
+services() { built && "$here/services/run.sh" "$server" "$folder/services"; }
+
+netns() {
+    "$root/tools/build.sh" cp_cli examples && "$here/netns/run.sh" "$folder/netns" "$server" "$root/crates/examples/out/examples"
+}
 
 relay() { built && "$here/relay/run.sh" "$server" "$folder/relayed"; }
 

@@ -11,8 +11,18 @@
 #include <kj/async-io.h>
 #include <kj/timer.h>
 
+// Counts the Cells that there are.
+class CountedCell final : public CellServer {
+  uint64_t& cells;
+
+ public:
+  CountedCell(uint64_t held, uint64_t& cells) : CellServer(held), cells(cells) { cells++; }
+  ~CountedCell() noexcept(false) { cells--; }
+};
+
 class TrialServer final : public Trial::Server {
   kj::Timer* timer;
+  uint64_t count = 0;
 
   kj::Promise<void> pause(uint64_t milliseconds) { return timer->afterDelay(milliseconds * kj::MILLISECONDS); }
 
@@ -21,18 +31,18 @@ class TrialServer final : public Trial::Server {
 
   kj::Promise<void> now(NowContext context) override {
     if (!context.getParams().hasGift()) {
-      context.getResults().setCell(kj::heap<CellServer>(0));
+      context.getResults().setCell(kj::heap<CountedCell>(0, count));
       return kj::READY_NOW;
     }
     auto request = context.getParams().getGift().addRequest();
     request.setAmount(5);
-    return request.send().then([context](capnp::Response<Cell::AddResults> response) mutable {
-      context.getResults().setCell(kj::heap<CellServer>(response.getValue()));
+    return request.send().then([this, context](capnp::Response<Cell::AddResults> response) mutable {
+      context.getResults().setCell(kj::heap<CountedCell>(response.getValue(), count));
     });
   }
 
   kj::Promise<void> later(LaterContext context) override {
-    return pause(100).then([context]() mutable { context.getResults().setCell(kj::heap<CellServer>(100)); });
+    return pause(100).then([this, context]() mutable { context.getResults().setCell(kj::heap<CountedCell>(100, count)); });
   }
 
   kj::Promise<void> never(NeverContext context) override { return KJ_EXCEPTION(FAILED, "no"); }
@@ -65,6 +75,11 @@ class TrialServer final : public Trial::Server {
         [context](capnp::Response<Cell::GetResults> response) mutable {
           context.getResults().setValue(response.getValue());
         });
+  }
+
+  kj::Promise<void> cells(CellsContext context) override {
+    context.getResults().setNumber(count);
+    return kj::READY_NOW;
   }
 };
 

@@ -17,4 +17,7 @@ interface Trial @0xe5a1000000000003 extends(Desk) {
 
   tell @3 (cell :Cell) -> (value :UInt64);
   # Asks a cell that it is given, and gives what that answered.
+
+  cells @4 () -> (number :UInt64);
+  # How many cells of its own there are. The one over the Rust library doesn't say.
 }

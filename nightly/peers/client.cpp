@@ -1,5 +1,6 @@
 // Whole sessions with `capnp_cli serve`, by the reference library's client.
 // Usage: client PORT first|second|abort|reset|many COUNT    COUNT sessions of this kind, one after another
+//        client HOST:PORT first|second|trial COUNT          the same elsewhere
 //        client PORT trial 1                                with a server of trial.capnp
 //        client PORT drop|exit 1                            with either: calls are open as this gives them up and disconnects, or as
 //                                                           its process ends
@@ -59,9 +60,9 @@ struct Session {
   capnp::RpcSystem<rpc::twoparty::VatId> system;
   Desk::Client desk;
 
-  Session(kj::AsyncIoContext& io, unsigned port)
+  Session(kj::AsyncIoContext& io, kj::StringPtr address)
       : io(io),
-        stream(io.provider->getNetwork().parseAddress("127.0.0.1", port).wait(io.waitScope)->connect().wait(io.waitScope)),
+        stream(io.provider->getNetwork().parseAddress(address).wait(io.waitScope)->connect().wait(io.waitScope)),
         network(*stream, rpc::twoparty::Side::CLIENT),
         system(capnp::makeRpcClient(network)),
         desk(bootstrap()) {}
@@ -96,8 +97,8 @@ static void refused(kj::Exception::Type type, kj::StringPtr text, Call call) {
 }
 
 // Calls that are answered at once and later, and calls on what they will give.
-static void first(kj::AsyncIoContext& io, unsigned port) {
-  Session session(io, port);
+static void first(kj::AsyncIoContext& io, kj::StringPtr address) {
+  Session session(io, address);
   auto& wait = io.waitScope;
   // Nothing was answered yet: each call goes to what an open question will give.
   auto later = session.desk.laterRequest().send();
@@ -116,8 +117,8 @@ static void first(kj::AsyncIoContext& io, unsigned port) {
 }
 
 // Calls of unknown methods, objects that are given away, many calls at a time, and one that is given up.
-static void second(kj::AsyncIoContext& io, unsigned port) {
-  Session session(io, port);
+static void second(kj::AsyncIoContext& io, kj::StringPtr address) {
+  Session session(io, address);
   auto& wait = io.waitScope;
   refused(kj::Exception::Type::UNIMPLEMENTED, "no such method", [&] { session.desk.neverRequest().send().wait(wait); });
   refused(kj::Exception::Type::UNIMPLEMENTED, "no such method", [&] { session.get(session.desk.castAs<Cell>()); });
@@ -149,8 +150,8 @@ static void second(kj::AsyncIoContext& io, unsigned port) {
 }
 
 // A server that calls what it is given, gives it back, and answers in another order than it was asked in.
-static void trial(kj::AsyncIoContext& io, unsigned port) {
-  Session session(io, port);
+static void trial(kj::AsyncIoContext& io, kj::StringPtr address) {
+  Session session(io, address);
   auto& wait = io.waitScope;
   auto trial = session.desk.castAs<Trial>();
   auto later = trial.laterRequest().send();
@@ -221,20 +222,20 @@ static std::vector<kj::Promise<void>> open(Session& session) {
   return calls;
 }
 
-static void drop(kj::AsyncIoContext& io, unsigned port) {
-  Session session(io, port);
+static void drop(kj::AsyncIoContext& io, kj::StringPtr address) {
+  Session session(io, address);
   open(session);
   session.pause(100);
 }
 
-static void exit_with_open(kj::AsyncIoContext& io, unsigned port) {
-  Session session(io, port);
+static void exit_with_open(kj::AsyncIoContext& io, kj::StringPtr address) {
+  Session session(io, address);
   auto calls = open(session);
   _exit(0);
 }
 
-static void left(kj::AsyncIoContext& io, unsigned port) {
-  Session session(io, port);
+static void left(kj::AsyncIoContext& io, kj::StringPtr address) {
+  Session session(io, address);
   // (A host answers its one call, and is asked again.)
   for (bool is_gone = false; !is_gone;) {
     auto calls = open(session);
@@ -249,8 +250,8 @@ static void left(kj::AsyncIoContext& io, unsigned port) {
   }
 }
 
-static void late(kj::AsyncIoContext& io, unsigned port) {
-  Session session(io, port);
+static void late(kj::AsyncIoContext& io, kj::StringPtr address) {
+  Session session(io, address);
   session.desk.nowRequest().send().wait(io.waitScope);
   session.pause(4000);
   refused(kj::Exception::Type::DISCONNECTED, "", [&] { session.desk.nowRequest().send().wait(io.waitScope); });
@@ -310,17 +311,20 @@ static void reset(unsigned port) {
 }
 
 // One session of a kind. Of `many`, each hundredth has many calls, and of the others each third ends in an Abort.
-static bool session(kj::AsyncIoContext& io, unsigned port, const std::string& kind, long number) {
-  if (kind == "many") return session(io, port, number % 100 == 0 ? "second" : number % 3 == 0 ? "abort" : "first", number);
-  if (kind == "first") first(io, port);
-  else if (kind == "second") second(io, port);
+static bool session(kj::AsyncIoContext& io, const std::string& where, const std::string& kind, long number) {
+  bool is_port = where.find(':') == std::string::npos;
+  auto address = kj::str(is_port ? "127.0.0.1:" : "", where.c_str());
+  unsigned port = is_port ? atoi(where.c_str()) : 0;
+  if (kind == "many") return session(io, where, number % 100 == 0 ? "second" : number % 3 == 0 ? "abort" : "first", number);
+  if (kind == "first") first(io, address);
+  else if (kind == "second") second(io, address);
   else if (kind == "abort") abort_session(port);
   else if (kind == "reset") reset(port);
-  else if (kind == "trial") trial(io, port);
-  else if (kind == "drop") drop(io, port);
-  else if (kind == "exit") exit_with_open(io, port);
-  else if (kind == "left") left(io, port);
-  else if (kind == "late") late(io, port);
+  else if (kind == "trial") trial(io, address);
+  else if (kind == "drop") drop(io, address);
+  else if (kind == "exit") exit_with_open(io, address);
+  else if (kind == "left") left(io, address);
+  else if (kind == "late") late(io, address);
   else return false;
   return true;
 }
@@ -330,9 +334,8 @@ int main(int argc, char** argv) {
     fprintf(stderr, "usage: client PORT first|second|abort|reset|many|trial|drop|exit|left|late COUNT\n");
     return 2;
   }
-  unsigned port = atoi(argv[1]);
   auto io = kj::setupAsyncIo();
   for (long number = 1; number <= atol(argv[3]); number++)
-    if (!session(io, port, argv[2], number)) return 2;
+    if (!session(io, argv[1], argv[2], number)) return 2;
   return 0;
 }

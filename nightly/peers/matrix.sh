@@ -1,12 +1,13 @@
 #!/usr/bin/env bash
-# matrix.sh COMMAND BUILD [ANSWERING]
+# matrix.sh COMMAND BUILD [ANSWERING [SERVING]]
 #                            clients over the C++ library and over the Rust library with `COMMAND serve`, for one connection after another
 #                            and for many at once, and through `COMMAND relay` with it and with servers over both libraries; then `COMMAND
 #                            call` with these servers, and so through a relay. Each pair ends in each way: the client closes, gives up
 #                            open calls or dies with them, and the server goes while calls are open, or closes. ANSWERING, the program
-#                            of ../callees/answering, has objects that these servers call. A line for each pair: passed, or what differs
+#                            of ../callees/answering, has objects that these servers call. SERVING, the program of ../services/serving, is
+#                            one more such server. A line for each pair: passed, or what differs
 set -eu
-command=$1 build=$2 answering=${3:-} served=${PORT:-17311}
+command=$1 build=$2 answering=${3:-} own=${4:-} served=${PORT:-17311}
 relayed=$((served + 1))
 here=$(cd "$(dirname "${BASH_SOURCE[0]}")" && pwd)
 . "$here/../begin.sh"
@@ -24,6 +25,7 @@ serve() { # KIND    a server of this kind as $serving, and a relay where that is
         'idle host') begin "$served" timeout 300 "$command" serve --at-once 4 --idle 2 "$served" 1 ;;
         C++) begin "$served" timeout 300 "$build/server" "127.0.0.1:$served" ;;
         Rust) begin "$served" timeout 300 "$rust/server" "$served" ;;
+        ours) begin "$served" timeout 300 "$own" "$served" ;;
     esac 2>"$build/said.server"
     serving=$pid
 }
@@ -170,13 +172,16 @@ for library in C++ Rust; do
     pair "$library" relay serve first second drop exit left
     pair "$library" relay C++ trial drop exit left
     pair "$library" relay Rust trial drop exit left
+    [ -z "$own" ] || pair "$library" direct ours trial drop exit left
+    [ -z "$own" ] || pair "$library" relay ours trial drop exit left
 done
-for library in C++ Rust; do
+for library in C++ Rust ${own:+ours}; do
     calls direct "$library"
     calls relay "$library"
 done
 for way in ${answering:+direct relay}; do
     answers "$way" C++
     answers "$way" Rust
+    [ -z "$own" ] || answers "$way" ours
 done
 exit "$failed"
