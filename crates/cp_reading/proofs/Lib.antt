@@ -9,6 +9,7 @@ pub mod Decided
 pub mod Views
 pub mod Measuring
 pub mod Roots
+pub mod Small
 pub mod Builds
 pub mod Built
 pub mod Fitting

@@ -1,12 +1,12 @@
 //! Going over a message's words once, without taking memory.
 
-ghost use Rattle.std.specs.Prelude.{◌≡◌, ◌<◌, ◌==◌, false, ◌≤◌, ◌+◌, ◌*◌, ◌^◌, List, length, Some, Ok, Err, IfOk, IfErr, OnOk, OnErr, slice_index};
+ghost use Rattle.std.specs.Prelude.{◌≡◌, ◌<◌, ◌==◌, false, ◌≤◌, ◌+◌, ◌*◌, ◌^◌, List, length, Some, Ok, Err, IfOk, IfErr, IfSome, OnOk, OnErr, slice_index};
 ghost use Rattle.cp_words.specs.Targets.{segment};
 ghost use Rattle.cp_reading.specs.Near.{root_read};
 ghost use Rattle.cp_tree.specs.Node.{Node};
 ghost use Rattle.cp_words.specs.Segments.{words_of};
 ghost use Rattle.cp_reading.specs.Checking.{GoesOver, GoesOverWord, body_at, elements_at, parts_at, root_in, row_at, word_at};
-ghost use Rattle.cp_reading.specs.Reading.{price, body_words, budget_after, IsRootArea, IsWithin};
+ghost use Rattle.cp_reading.specs.Reading.{price, body_words, budget_after, root_of, IsRootArea, IsWithin};
 ghost use Rattle.cp_reading.specs.Visited.{pointers, pointers_of_row, pointers_of_bodies};
 
 use crate::area::{Area, Form, area_of};
@@ -22,6 +22,12 @@ pub(crate) const TOP: Place = Place {
     segment: 0,
     word: 0,
 };
+
+/// The word of a struct of a data word and a pointer that follows at once.
+const ROOT_WORD: u64 = 0x1_0001_0000_0000;
+
+/// The word of a struct of a data word that follows at once.
+const LEAF_WORD: u64 = 0x1_0000_0000;
 
 /// Goes over a message's words: it visits each pointer word, and charges each body.
 #[derive(Drop)]
@@ -48,6 +54,11 @@ impl<'a, 'v, L: Ledger> Checker<'a, 'v, L> {
             return Err(TreeFault::NoRoot(TOP));
         }
         self.visits.tick();
+        if let Some(area) = small_root(self.segments, nesting, self.budget) {
+            // Its one pointer.
+            self.visits.tick();
+            return Ok(area);
+        }
         let word = words[0];
         // Nearly every root is a near struct pointer; the others go the longer way.
         if word == 0 || word % 4 != 0 {
@@ -295,6 +306,30 @@ impl<'a, 'v, L: Ledger> Checker<'a, 'v, L> {
             }
         }
     }
+}
+
+/// The root's body of a message of numbers alone, such as a Finish or a Release: its pointer words are always the same, so
+/// all that hangs on it is told at one look.
+#[inline(always)]
+fn small_root(segments: &[Vec<u64>], nesting: u32, budget: u64) -> Option<Area>
+    requires { 0 < length segments.now }
+    ensures read { IfSome result (λ a. IsRootArea nesting budget (words_of segments.now) a) }
+    ensures small { IfSome result (λ a. a.start + body_words a.form < 2 ^ 63) }
+    ensures below { IfSome result (λ _. (t : Node) → root_of nesting budget (words_of segments.now) ≡ Ok t → pointers t ≡ 1) }
+    ensures paid { IfSome result (λ _. 0 < budget) }
+{
+    let words = segment_at(segments, 0);
+    if nesting < 2 || budget < 5 || words.len() < 4 {
+        return None;
+    }
+    if words[0] != ROOT_WORD || words[2] != LEAF_WORD {
+        return None;
+    }
+    Some(Area {
+        form: Form::Struct { words: 1, ptrs: 1 },
+        segment: 0,
+        start: 1,
+    })
 }
 
 /// Charges a body for its level, of which `depth` are left, and for its price.
