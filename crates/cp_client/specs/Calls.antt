@@ -49,6 +49,10 @@ module _ {H : Type 0} where
   AsksOrNot old cap request (Ok q) new = Asks old (events.Call cap request) q new
   AsksOrNot old cap request (Err fault) new = IsUnasked old (events.Call cap request) fault new ⊎ ((fault ≡ client_faults.Connection faults.OutOfMemory) × (new ≡ old))
 
+-- nothing but the objects changed
+abbrev pub KeepsRest : {H : Type 0} → Conversation H → Conversation H → Type 0
+KeepsRest old new = sessions.KeepsRest old.session new.session × (new ≡ record old { session = new.session })
+
 -- Of objects of one hall.
 module _ {H : Type 0} (hall : HallKind H) where
   -- an object is woken, and nothing else is done

@@ -3,7 +3,7 @@
 ghost use Rattle.std.specs.Prelude.{◌≡◌, ◌<◌, ℕ, [], None, Some, IfOk, IfErr, OnOk, OnErr, option_copied};
 ghost use Rattle.cp_vat_machine.specs.declared.event.Event.TheVariants as events;
 ghost use Rattle.cp_session.specs.State.{link_of, state_of};
-ghost use Rattle.cp_client.specs.Calls.{Asks, Exports, Finishes, HandsOn, IsUnasked, IsUndone, IsUnexported, Releases, Rests, Wakes};
+ghost use Rattle.cp_client.specs.Calls.{Asks, Exports, Finishes, HandsOn, IsUnasked, IsUndone, IsUnexported, KeepsRest, Releases, Rests, Wakes};
 ghost use Rattle.cp_client.specs.Devices.{fresh};
 ghost use Rattle.cp_client.specs.Conversation.{beginning, new_conversation, options_of};
 ghost use Rattle.cp_client.specs.ConversationOf.{seen};
@@ -277,7 +277,8 @@ impl<R: Read + Drop, W: Write + Drop, H: Hall> Client<R, W, H> {
 
     /// Has an object polled, if it is there, when the client next waits.
     pub fn wake(&mut self, object: u32) -> Result<(), AllocError>
-        ensures { let at = seen R.remaining W.contents in OnOk result (Wakes H.hall object (at self.old) (at self.new)) }
+        ensures wakes { let at = seen R.remaining W.contents in OnOk result (Wakes H.hall object (at self.old) (at self.new)) }
+        ensures unwoken { let at = seen R.remaining W.contents in OnErr result (KeepsRest (at self.old) (at self.new)) }
     {
         self.session.wake(object)
     }

@@ -13,6 +13,11 @@ pub if_ok : {T E : Type 0} {P Q : T → Type 0} (r : Result T E) → IfOk r P �
 if_ok (Ok x) h f = f x h
 if_ok (Err e) h f = tt
 
+-- what is so whatever the fault is
+pub err_so : {T E : Type 0} {P : Type 0} (r : Result T E) → P → OnErr r P
+err_so (Ok x) p = tt
+err_so (Err e) p = p
+
 -- what follows from a fact of a failure
 pub if_err : {T E : Type 0} {P Q : E → Type 0} (r : Result T E) → IfErr r P → ((e : E) → P e → Q e) → IfErr r Q
 if_err (Ok x) h f = tt

@@ -51,6 +51,10 @@ ending_by None None other = None
 abbrev pub next_cap : ℕ → Option Cap
 next_cap n = if nat_lt n (2 ^ 32) then Some (caps.Object n) else None
 
+-- nothing but the objects changed
+abbrev pub KeepsRest : {H : Type 0} → State H → State H → Type 0
+KeepsRest old new = new ≡ record old { objects = new.objects }
+
 -- nothing but the list of the objects changed, and it has these
 abbrev pub Lists : {A : Type 0} → List A → State (Vec A) → State (Vec A) → Type 0
 Lists items old new = (new ≡ record old { objects = new.objects }) × (new.objects.items ≡ items)

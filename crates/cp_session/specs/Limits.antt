@@ -1,5 +1,5 @@
 -- What a session allows its peer.
-use Rattle.std.specs.Prelude.{◌-◌, ◌^◌}
+use Rattle.std.specs.Prelude.{ℕ, ◌-◌, ◌^◌, min}
 use Rattle.cp_session.specs.declared.limits.SessionLimits.{SessionLimits}
 
 -- the limits where nothing else is asked for
@@ -9,3 +9,7 @@ standard = record { message = 30000; idle = 300000; closing = 5000; ahead = 6553
 -- no limits, but that all is written before more is taken
 abbrev pub unlimited : SessionLimits
 unlimited = record { message = 2 ^ 64 - 1; idle = 2 ^ 64 - 1; closing = 2 ^ 64 - 1; ahead = 0; kept = 2 ^ 64 - 1 }
+
+-- the shortest of its times
+abbrev pub shortest : SessionLimits → ℕ
+shortest limits = min (min limits.message limits.idle) limits.closing

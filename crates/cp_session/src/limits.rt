@@ -1,7 +1,7 @@
 //! What a session allows its peer.
 
-ghost use Rattle.std.specs.Prelude.{◌≡◌, ◌≤◌, ◌*◌, ◌⊎◌};
-ghost use Rattle.cp_session.specs.Limits.{standard, unlimited};
+ghost use Rattle.std.specs.Prelude.{◌≡◌, ◌/◌, max};
+ghost use Rattle.cp_session.specs.Limits.{shortest, standard, unlimited};
 
 /// What a session allows its peer. Times are in milliseconds.
 #[derive(Clone, Copy)]
@@ -50,8 +50,7 @@ impl SessionLimits {
 
     /// How often the times are to be looked at: a quarter of the shortest, and at least a millisecond.
     pub fn tick(&self) -> u64
-        ensures some { 1 ≤ result }
-        ensures often { (result ≡ 1) ⊎ (4 * result ≤ self.now.message) × (4 * result ≤ self.now.idle) × (4 * result ≤ self.now.closing) }
+        ensures { result ≡ max (shortest self.now / 4) 1 }
     {
         let shortest = self.message.min(self.idle).min(self.closing);
         (shortest / 4).max(1)

@@ -6,7 +6,7 @@ ghost use Rattle.cp_vat_machine.specs.declared.event.Value.TheVariants as values
 ghost use Rattle.cp_connection.specs.Doing.{answered};
 ghost use Rattle.cp_objects.specs.Work.{Lives};
 ghost use Rattle.cp_objects.specs.declared.notice.Notice.TheVariants as notices;
-ghost use Rattle.cp_session.specs.Doing.{ActsInTime, Adds, Did, EndsBytes, EndsCut, Exports, Finishes, GivesMore, GivesNone, GoesBy, GoesOn, HandsOn, HasMore, HasNone, IsCut, IsRefused, IsUnfinished, IsSettled, IsStopped, IsUnsettled, IsUntaken, IsUnworked, Lists, MayTake, PassesTime, PollsOn, Receives, RunsOut, Settles, TakesIn, Tells, Ticks, Wakes, Writes, alarm_of, due_of, ending_by, fault_of, knows_by, next_cap, told_of};
+ghost use Rattle.cp_session.specs.Doing.{ActsInTime, Adds, Did, EndsBytes, EndsCut, Exports, Finishes, GivesMore, GivesNone, GoesBy, GoesOn, HandsOn, HasMore, HasNone, IsCut, IsRefused, IsUnfinished, IsSettled, IsStopped, IsUnsettled, IsUntaken, IsUnworked, KeepsRest, Lists, MayTake, PassesTime, PollsOn, Receives, RunsOut, Settles, TakesIn, Tells, Ticks, Wakes, Writes, alarm_of, due_of, ending_by, fault_of, knows_by, next_cap, told_of};
 ghost use Rattle.cp_session.specs.Kept.{kept_of};
 ghost use Rattle.cp_session.specs.Progress.{IsDraining};
 ghost use Rattle.cp_session.specs.State.{link_of, new_state, state_of};
@@ -271,7 +271,8 @@ impl<H: Hall> Session<H> {
 
     /// Has an object polled, if it is there: then `has_more` says so.
     pub fn wake(&mut self, object: u32) -> Result<(), AllocError>
-        ensures { OnOk result (Wakes H.hall object (state_of self.old) (state_of self.new)) }
+        ensures wakes { OnOk result (Wakes H.hall object (state_of self.old) (state_of self.new)) }
+        ensures unwoken { OnErr result (KeepsRest (state_of self.old) (state_of self.new)) }
     {
         self.objects.wake(object)
     }
@@ -553,7 +554,8 @@ impl<O: Servant> Session<Vec<O>> {
 impl<O: Maker<Makes = O>> Session<Family<O>> {
     /// Adds an object that stays as long as the session, as `Family::add`.
     pub fn add(&mut self, object: O) -> Result<Cap, AllocError>
-        ensures { OnOk result (Adds object (state_of self.old) (state_of self.new)) }
+        ensures adds { OnOk result (Adds object (state_of self.old) (state_of self.new)) }
+        ensures unadded { OnErr result (KeepsRest (state_of self.old) (state_of self.new)) }
     {
         self.objects.add(object)
     }

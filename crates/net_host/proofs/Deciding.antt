@@ -8,11 +8,6 @@ pub has_some : (b : Bool) (count : ℕ) (xs : List ℕ) → b ≡ (count == 0) �
 has_some b count [] e len = (λ t. absurd (false≢true (sym (not-true b t) ∙ e ∙ eq-eqb count 0 len)), λ some. absurd (some refl))
 has_some b count (x ∷ xs) e len = (λ t none. absurd (cc), λ some. ap not (e ∙ ne_eqb count 0 (λ z. omega arith)))
 
--- what is so whatever the error is
-pub err_so : {T E : Type 0} {P : Type 0} (r : Result T E) → P → OnErr r P
-err_so (Ok x) p = tt
-err_so (Err e) p = p
-
 -- what is so of an error that is handed on, or of the one that is made of it
 pub err_same : {T E : Type 0} (Q : E → Type 0) (x : E) (r : Result T E) → IsErr r × IsErrAnd r (λ y. y ≡ x) → Q x → IfErr r Q
 err_same Q x (Ok y) h q = tt

@@ -1,5 +1,5 @@
 use Rattle.std.proofs.Common.{refl}
-use Rattle.net_host.proofs.Deciding.{err_so}
+use Rattle.cp_session.proofs.Deciding.{err_so}
 use Rattle.net_host.proofs.Serving.{hands_begin, hands_end, hands_next, hands_still}
 use Rattle.net_host.specs.Guests.{served_of}
 use Rattle.net_host.proofs.guest.Guest.hand_over.Goals as goal

@@ -1,5 +1,5 @@
 use Rattle.std.proofs.Common.{ap, refl}
-use Rattle.net_host.proofs.Deciding.{err_so}
+use Rattle.cp_session.proofs.Deciding.{err_so}
 use Rattle.net_host.proofs.Floors.{rests_same, rests_unended, rounds_both, tells_accepted, tells_ended}
 use Rattle.net_host.specs.Floor.{begins, connections_of, floor_of, rests, turns}
 use Rattle.net_host.proofs.host.Host.look.Goals as goal

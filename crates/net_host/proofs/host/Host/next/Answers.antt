@@ -1,5 +1,5 @@
 use Rattle.std.proofs.Common.{Some, None, refl, arith}
-use Rattle.net_host.proofs.Deciding.{err_so}
+use Rattle.cp_session.proofs.Deciding.{err_so}
 use Rattle.net_host.proofs.Floors.{reports_after, rounds_both}
 use Rattle.net_host.proofs.Rosters.{goes_both, hears_after}
 use Rattle.net_host.specs.Floor.{begins, connections_of}
