@@ -51,7 +51,7 @@ show() { # WRITER READER    both editions
 
 write() { # NAME    the code of this schema, with each of the plugin's options
     local option
-    for option in '' --drafts --interfaces; do
+    for option in '' --drafts --interfaces --services; do
         rm -rf "$room/written"
         mkdir "$room/written"
         if (cd "$room/written" && "$plugin" ${option:+"$option"} <"../$1.request" >../printed 2>../said); then

@@ -3,7 +3,8 @@
 use crate::names::{is_ambiguous, is_taken};
 use crate::only::{has_method, has_type};
 use crate::out::{Arg, Out, before, file_name};
-use crate::reach::{Line, push_lines, push_naming};
+use crate::reach::{Line, Naming, push_lines, push_naming};
+use crate::structs::has_name;
 use crate::templates::{SERVERS, SERVICES, Templates};
 use cp_schema::{Node, NodeKind, Schema};
 use std::alloc::{AllocError, Global};
@@ -149,6 +150,18 @@ impl<'s> Book<'s> {
     /// Whether the view of a struct or of a group has the method of this name.
     pub fn has_method(&self, node: &Node, name: &str) -> bool {
         has_method(self.scope.only, node.name(), name)
+    }
+
+    /// By which table the struct of this number names capabilities.
+    pub fn naming_of(&self, id: u64) -> Naming {
+        if !self.naming.contains(&id) {
+            return Naming::Never;
+        }
+        match self.schema.find(id) {
+            // No other struct has these as a part.
+            Some(node) if self.scope.services && !has_name(node) => Naming::Own,
+            _ => Naming::Shared,
+        }
     }
 
     /// Whether unions are written with what their members hold, by methods of all their fields.

@@ -4,6 +4,7 @@ use crate::book::{Book, Named};
 use crate::comments::about;
 use crate::methods::Way;
 use crate::plain::{plain, plain_methods};
+use crate::reach::Naming;
 use crate::sheet::Sheet;
 use cp_schema::{Interface, Node};
 
@@ -45,6 +46,16 @@ const REQUEST: &str = "
     }
 ";
 
+const OWN: &str = "
+    /// A call of `$5 @$3`.
+    pub fn $8_request(&self, params: $6$b) -> Request
+        ensures { result ≡ request_of $2 $3 params.body params.table }
+    {
+        let content = params.body.into_whole();
+        self.target.request_naming($2, $3, content, params.table)
+    }
+";
+
 const NAMING: &str = "
     /// A call of `$5 @$3`, with the table of the capabilities that its params name.
     pub fn $8_request(&self, params: $6$b, table: Table) -> Request
@@ -58,6 +69,15 @@ const NAMING: &str = "
 const CALL: &str =
     "    pub fn $4<C: Caller>(&self, caller: &mut C, params: $6$b) -> Result<$7Promise, C::Fault>
         ensures { Makes (λ p. p.at) C.asks caller.old self.now.target $2 $3 params.body [] result caller.new }
+    {
+        let request = self.$8_request(params);
+        Ok($7Promise { at: self.target.call(caller, request)? })
+    }
+";
+
+const CALL_OWN: &str =
+    "    pub fn $4<C: Caller>(&self, caller: &mut C, params: $6$b) -> Result<$7Promise, C::Fault>
+        ensures { Makes (λ p. p.at) C.asks caller.old self.now.target $2 $3 params.body params.table result caller.new }
     {
         let request = self.$8_request(params);
         Ok($7Promise { at: self.target.call(caller, request)? })
@@ -129,20 +149,20 @@ fn one_super<'b>(book: &'b Book<'_>, sheet: &mut Sheet<'b>, id: u64) {
 fn way_methods<'b>(book: &Book<'_>, sheet: &mut Sheet<'b>, node: &Node, way: &Way<'b>) {
     let args = way.args();
     let text = book.about_member(node.id, way.number);
-    // Params that can name no capability take no table.
-    if way.names_caps {
+    // Params that can name no capability take no table, and some have their own.
+    let (request, call) = match way.naming {
+        Naming::Never => (REQUEST, CALL),
+        Naming::Own => (OWN, CALL_OWN),
+        Naming::Shared => (NAMING, CALL_NAMING),
+    };
+    if matches!(way.naming, Naming::Shared) {
         sheet.libraries.put("cp_stubs::Table\n");
     }
-    sheet
-        .code
-        .fill(if way.names_caps { NAMING } else { REQUEST }, &args);
+    sheet.code.fill(request, &args);
     about(&mut sheet.code, text, "Calls `$5 @$3`.", &args);
     match plain(book, way.method.params) {
         Some(of) => plain_methods(book, sheet, way, of),
-        None => {
-            let template = if way.names_caps { CALL_NAMING } else { CALL };
-            sheet.code.fill(template, &args);
-        }
+        None => sheet.code.fill(call, &args),
     }
     let endings = sheet.code.endings;
     way.cite(sheet, endings.builder(), "Promise");

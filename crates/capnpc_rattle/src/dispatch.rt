@@ -81,5 +81,9 @@ fn by_number<'b>(sheet: &mut Sheet<'b>, templates: &Templates, named: &'b Named,
 fn pass<'b>(sheet: &mut Sheet<'b>, templates: &Templates, way: &Way<'b>) {
     let args = way.args();
     sheet.code.fill(templates.pass, &args);
+    if !templates.pass_end.is_empty() {
+        sheet.code.fill(way.filling().start, &args);
+        sheet.code.fill(templates.pass_end, &args);
+    }
     sheet.libraries.put(templates.pass_cited);
 }

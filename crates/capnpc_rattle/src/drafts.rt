@@ -29,6 +29,27 @@ impl $0$b {
     }
 ";
 
+/// Where the struct has a table of its own.
+const NAMING_TYPE: &str = "
+/// `struct $1`, to be written.
+#[derive(Drop)]
+pub struct $0$b {
+    /// The struct, by the places of its fields.
+    pub body: StructDraft<$2, $3>,
+    /// The capabilities that it names.
+    pub table: Table,
+}
+
+impl $0$b {
+    /// A struct whose fields are all as by default.
+    pub fn new(alloc: Global) -> Result<$0$b, AllocError>
+        ensures blank { IfOk result (λ d. d.body ≡ blank $2 $3) }
+        ensures names { IfOk result (λ d. d.table ≡ []) }
+    {
+        Ok($0$b { body: StructDraft::new(alloc)?, table: Table::new(alloc) })
+    }
+";
+
 const LIST: &str = "
 /// A list of `struct $1`, to be written.
 #[derive(Drop)]
@@ -56,12 +77,32 @@ impl $0List$b {
 }
 ";
 
-const CHOOSE: &str = "    pub fn set_$0(&mut self)
-        ensures { self.new.body ≡ with_uint self.old.body 16 $1 $2 }
+/// The list as a part of a list of lists, where such are of builders.
+const LIST_VALUE: &str = "
+impl cp_services::ListValue for $0List$b {
+    ghost tree = { λ l. l.items };
+
+    ghost is_long = { λ l. ¬ (Unit {0}) };
+
+    fn into_list(self, alloc: Global) -> Result<Whole, DraftFault> {
+        let _ = alloc;
+        Ok(self.items.into_whole())
+    }
+}
+";
+
+const CHOOSE: &str = "    pub fn set_$0(&mut self)";
+
+const CHOOSE_SET: &str = "{ self.new.body ≡ with_uint self.old.body 16 $1 $2 }";
+
+const CHOOSE_END: &str = "
     {
         self.body.set_u16($1, $2);
     }
 ";
+
+/// What a method leaves of a table of the struct's own.
+const TABLE_STAYS: &str = "\n        ensures names { self.new.table ≡ self.old.table }";
 
 const CLIENT: &str = "    pub fn set_$0_client(
         &mut self,
@@ -83,6 +124,29 @@ const CLIENT_END: &str = "        self.body.set_pointer($2, pointer);
     }
 ";
 
+/// The same, where the table is given, and a field isn't set to its place in that.
+const SHARED: &str = "    pub fn set_$0(
+        &mut self,
+        table: &mut Table,
+        value: $1Client,
+    ) -> Result<(), DraftFault>
+        ensures set { OnOk result (self.new.body ≡ with_pointer ";
+
+/// The same, where the struct has its own table.
+const OWN: &str = "    pub fn set_$0(&mut self, value: $1Client) -> Result<(), DraftFault>
+        ensures set { OnOk result (self.new.body ≡ with_pointer ";
+
+const OWN_SET: &str = " $2 (pointer_naming self.old.table value.target)) }
+        ensures added { OnOk result (self.new.table ≡ with_named self.old.table value.target) }
+        ensures left { OnErr result (self.new ≡ self.old) }
+        ensures full { result ≡ Err TooLong ↔ 2 ^ 32 ≤ length self.old.table + 1 }
+    {
+        let pointer = self.table.add(value.target.into_cap())?;
+";
+
+/// What a setter of a list that was built cites.
+const LISTS_CITED: &str = "ghost use Rattle.cp_services.specs.Lists.{pointers_tree};\n";
+
 /// What a setter of a capability by name cites.
 const CLIENT_CITED: &str = "cp_stubs::Table\n";
 
@@ -100,18 +164,27 @@ pub fn draft<'b>(
         Arg::Number(of.words as u64),
         Arg::Number(of.pointers as u64),
     ];
+    let part = Part::new(book, node, of);
     sheet.export("$0$b", &args);
-    sheet.code.fill(TYPE, &args);
+    if part.has_table() {
+        sheet.code.fill(NAMING_TYPE, &args);
+        sheet.libraries.put(CLIENT_CITED);
+    } else {
+        sheet.code.fill(TYPE, &args);
+    }
     if is_params(node) {
         if let Some(of) = plain(book, node.id) {
             constructor(book, &mut sheet.code, named, of);
         }
     }
-    fields(book, sheet, &Part::new(node, of), Wanted::Setters);
+    fields(book, sheet, &part, Wanted::Setters);
     sheet.code.put("}\n");
     if has_name(node) {
         sheet.export("$0List$b", &args);
         sheet.code.fill(LIST, &args);
+        if book.scope.services {
+            sheet.code.fill(LIST_VALUE, &args);
+        }
     }
 }
 
@@ -133,7 +206,12 @@ pub fn setter<'b>(
                 Arg::Number(part.of.tag_place as u64),
                 Arg::Number(field.tag as u64),
             ];
-            sheet.code.fill(CHOOSE, &args);
+            let code = &mut sheet.code;
+            code.fill(CHOOSE, &args);
+            clause(code, part, false);
+            code.fill(CHOOSE_SET, &args);
+            frame(code, part);
+            code.fill(CHOOSE_END, &args);
         }
         _ => {}
     }
@@ -187,13 +265,36 @@ fn slot_setter<'b>(
             return;
         }
     };
-    comment(book, sheet, part, (i, field));
-    head(&mut sheet.code, part, field, &setter);
-    code(&mut sheet.code, part, field, &setter);
-    cite(book, sheet, slot);
-    if let Some(named) = client_of(book, slot) {
+    let client = client_of(book, slot);
+    // Builders name a capability by its client alone.
+    if client.is_none() || !book.scope.services {
         comment(book, sheet, part, (i, field));
-        by_client(sheet, part, (field, named), slot);
+        head(&mut sheet.code, part, field, &setter);
+        code(&mut sheet.code, part, field, &setter);
+        cite(book, sheet, slot);
+        if setter.is_built() {
+            sheet.cited.put(LISTS_CITED);
+        }
+    }
+    if let Some(named) = client {
+        comment(book, sheet, part, (i, field));
+        by_client(book, sheet, part, (field, named), slot);
+    }
+}
+
+/// Writes the start of a clause, which has a name where others follow.
+fn clause(out: &mut Out, part: &Part<'_>, fails: bool) {
+    out.put(if fails || part.has_table() {
+        "\n        ensures set "
+    } else {
+        "\n        ensures "
+    });
+}
+
+/// Writes the clause that the struct's own table stays, if it has one.
+fn frame(out: &mut Out, part: &Part<'_>) {
+    if part.has_table() {
+        out.put(TABLE_STAYS);
     }
 }
 
@@ -204,11 +305,14 @@ fn head<'b>(out: &mut Out, part: &Part<'_>, field: &StructField, setter: &Setter
     out.fill("    pub fn set_$0(&mut self, ", &[part.name(field)]);
     out.put(shape.takes);
     out.fill(setter.form.of, &args);
+    out.put(shape.gives);
+    clause(out, part, shape.fails);
     out.put(shape.opens);
     chosen(out, part, field);
     out.fill(shape.place, &args);
     out.fill(setter.form.value, &args);
     out.put(shape.closes);
+    frame(out, part);
     out.put("\n    {\n");
 }
 
@@ -242,6 +346,7 @@ fn choose(out: &mut Out, part: &Part<'_>, field: &StructField) {
 
 /// Writes the method that sets a field to a capability of this interface, but its comment.
 fn by_client<'n>(
+    book: &Book<'_>,
     sheet: &mut Sheet<'_>,
     part: &Part<'n>,
     (field, named): (&'n StructField, &'n Named),
@@ -252,9 +357,16 @@ fn by_client<'n>(
         Arg::Text(named.name.as_str()),
         Arg::Number(slot.place as u64),
     ];
-    sheet.code.fill(CLIENT, &args);
+    let (head, set) = if part.has_table() {
+        (OWN, OWN_SET)
+    } else if book.scope.services {
+        (SHARED, CLIENT_SET)
+    } else {
+        (CLIENT, CLIENT_SET)
+    };
+    sheet.code.fill(head, &args);
     chosen(&mut sheet.code, part, field);
-    sheet.code.fill(CLIENT_SET, &args);
+    sheet.code.fill(set, &args);
     choose(&mut sheet.code, part, field);
     sheet.code.fill(CLIENT_END, &args);
     sheet.cite(named, "Client");
@@ -269,11 +381,13 @@ fn cite(book: &Book<'_>, sheet: &mut Sheet<'_>, slot: &Slot) {
     let Some(named) = book.find(id) else {
         return;
     };
-    let endings = sheet.code.endings;
+    let (endings, builds) = (sheet.code.endings, book.scope.services);
     match slot.of.of {
         Base::Struct(_) if slot.of.lists == 0 => sheet.cite(named, endings.builder()),
-        Base::Struct(_) if slot.of.lists == 1 => sheet.cite(named, endings.list_builder()),
-        Base::Enum(_) if slot.of.lists == 0 => {
+        Base::Struct(_) if slot.of.lists == 1 || builds => {
+            sheet.cite(named, endings.list_builder());
+        }
+        Base::Enum(_) if slot.of.lists == 0 || slot.of.lists == 1 && builds => {
             sheet.cite(named, "");
             sheet.cite_values(named, "_number");
         }

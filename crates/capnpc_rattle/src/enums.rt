@@ -85,6 +85,17 @@ impl<'a> Item<'a> for $0 {
 }
 ";
 
+/// How it is written into a list, where such are built.
+const ENUMERANT: &str = "
+impl cp_services::Enumerant for $0 {
+    ghost number = { $1_number };
+
+    fn as_number(&self) -> u16 {
+        self.number()
+    }
+}
+";
+
 /// Writes an enum, and how it is read of a list.
 pub fn enum_code<'n>(
     book: &Book<'_>,
@@ -114,6 +125,9 @@ pub fn enum_code<'n>(
     };
     enumeration(book, sheet, &values);
     sheet.code.fill(ITEM, &args);
+    if book.scope.services {
+        sheet.code.fill(ENUMERANT, &args);
+    }
 }
 
 /// Writes an enum's code and its definitions.

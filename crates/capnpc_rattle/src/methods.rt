@@ -2,12 +2,38 @@
 
 use crate::book::{Book, Named};
 use crate::out::{Arg, Endings};
+use crate::reach::Naming;
 use crate::sheet::Sheet;
 use cp_schema::{Method, Node};
 use std::alloc::AllocError;
 
 /// The number of `struct StreamResult` of stream.capnp, which methods with `-> stream` have for their results.
 const STREAM_RESULT: u64 = 0x995f_9a33_77c0_b16e;
+
+/// How an object fills results in: their type, what they are and what they name in clauses, and how they begin.
+pub struct Filling {
+    pub of: &'static str,
+    pub seen: &'static str,
+    pub start: &'static str,
+}
+
+static NAMELESS: Filling = Filling {
+    of: "$7$b",
+    seen: "(λ d. d.body) (λ d. [])",
+    start: "$7$b::new(here.alloc())?",
+};
+
+static NAMING: Filling = Filling {
+    of: "$7$b",
+    seen: "(λ d. d.body) (λ d. d.table)",
+    start: "$7$b::new(here.alloc())?",
+};
+
+static SHARED: Filling = Filling {
+    of: "NamedResults<$7$b>",
+    seen: "(λ d. d.content.body) (λ d. d.table)",
+    start: "NamedResults::new(here.alloc(), $7$b::new(here.alloc())?)",
+};
 
 /// A method, as it is written.
 #[derive(Clone, Copy)]
@@ -20,8 +46,10 @@ pub struct Way<'b> {
     pub params: &'b Named,
     /// The struct of its results; none where it has `-> stream`.
     pub results: Option<&'b Named>,
-    /// Whether its params can name a capability.
-    pub names_caps: bool,
+    /// How its params name capabilities.
+    pub naming: Naming,
+    /// How its results do.
+    pub results_naming: Naming,
 }
 
 impl<'b> Way<'b> {
@@ -48,7 +76,8 @@ impl<'b> Way<'b> {
             number,
             params,
             results,
-            names_caps: book.naming.contains(&method.params),
+            naming: book.naming_of(method.params),
+            results_naming: book.naming_of(method.results),
         })
     }
 
@@ -67,6 +96,15 @@ impl<'b> Way<'b> {
             }
         }
         Ok(ways)
+    }
+
+    /// How an object fills its results in.
+    pub fn filling(&self) -> &'static Filling {
+        match self.results_naming {
+            Naming::Never => &NAMELESS,
+            Naming::Own => &NAMING,
+            Naming::Shared => &SHARED,
+        }
     }
 
     /// The name of its results, as the types of their draft and of their promise begin.

@@ -4,7 +4,7 @@ use crate::book::{Book, Named};
 use crate::constants::constant;
 use crate::enums::enum_code;
 use crate::interfaces::interface;
-use crate::out::{Arg, Out, name_of};
+use crate::out::{Arg, Endings, Out, name_of};
 use crate::sheet::Sheet;
 use crate::structs::structure;
 use crate::uses::{of_clauses, of_code, of_specs};
@@ -94,7 +94,11 @@ impl Sheet<'_> {
     /// It isn't laid out: `rt fmt` does that.
     pub fn module_text(&self, schema: &str) -> Out {
         let args = [Arg::Text(self.module), Arg::Text(schema)];
-        let mut text = Out::of(self.alloc, "//! `$0` of $1.\n\n", &args);
+        let head = match self.code.endings {
+            Endings::Views => "//! `$0` of $1.\n\n",
+            Endings::Readers => "//! `$0` of $1, made by capnpc_rattle.\n\n",
+        };
+        let mut text = Out::of(self.alloc, head, &args);
         of_clauses(self, &mut text);
         of_code(self, &mut text);
         text.put(self.code.as_str());

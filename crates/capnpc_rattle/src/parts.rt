@@ -4,6 +4,7 @@ use crate::book::Book;
 use crate::drafts::setter;
 use crate::out::{Arg, Out};
 use crate::promises::promised;
+use crate::reach::Naming;
 use crate::sheet::Sheet;
 use cp_schema::{FieldKind, Node, NodeKind, StructField, Structure};
 
@@ -16,18 +17,26 @@ pub struct Part<'p> {
     pub prefix: &'p str,
     pub node: &'p Node,
     pub of: &'p Structure,
+    /// By which table the struct names capabilities.
+    pub naming: Naming,
     pub depth: u32,
 }
 
 impl<'p> Part<'p> {
     /// A struct.
-    pub fn new(node: &'p Node, of: &'p Structure) -> Part<'p> {
+    pub fn new(book: &Book<'_>, node: &'p Node, of: &'p Structure) -> Part<'p> {
         Part {
             prefix: "",
             node,
             of,
+            naming: book.naming_of(node.id),
             depth: DEEPEST,
         }
+    }
+
+    /// Whether the struct has a table of its own.
+    pub fn has_table(&self) -> bool {
+        matches!(self.naming, Naming::Own)
     }
 
     /// The name of a field, with the words before it.
@@ -89,6 +98,7 @@ fn group<'b>(
         prefix: prefix.as_str(),
         node,
         of,
+        naming: part.naming,
         depth: part.depth - 1,
     };
     fields(book, sheet, &inner, wanted);

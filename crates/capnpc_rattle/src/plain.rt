@@ -16,63 +16,34 @@ const MOST: usize = 4;
 /// What the code around arguments calls its own.
 const OURS: &str = "alloc ask caller d made mark params request table";
 
-/// What differs between params that name no capability, and those that name some.
-struct Form {
-    names_caps: bool,
-    /// What makes a draft: its head, its clause, the start of its body, and its end.
-    constructor: &'static str,
-    clause: &'static str,
-    body: &'static str,
-    end: &'static str,
-    /// The lines that make a request: what comes before the arguments, and after them.
-    params: &'static str,
-    request: &'static str,
-}
-
-static PLAIN: Form = Form {
-    names_caps: false,
-    constructor: "
+const OF: &str = "
     /// A struct of these fields.
-    pub fn of(alloc: Global",
-    clause: ") -> Result<$0$b, DraftFault>
-        ensures { IfOk result (λ d. d.body ≡ ",
-    body: ") }
+    pub fn of(alloc: Global";
+
+const GIVES: &str = ") -> Result<$0$b, DraftFault>
+        ensures ";
+
+const MADE: &str = "{ IfOk result (λ d. d.body ≡ ";
+
+/// What is said of the struct's table, if it has one.
+const NAMED: &str = ") }
+        ensures names { IfOk result (λ d. d.table ≡ ";
+
+const BODY: &str = ") }
     {
         let mut made = $0$b::new(alloc)?;
-",
-    end: "        Ok(made)
+";
+
+const END: &str = "        Ok(made)
     }
-",
-    params: "        let params = $6$b::of(self.target.alloc()",
-    request: ")?;
+";
+
+/// The lines that make a request: what comes before the arguments, and after them.
+const PARAMS: &str = "        let params = $6$b::of(self.target.alloc()";
+
+const REQUEST: &str = ")?;
         let request = self.$8_request(params);
-",
-};
-
-static NAMING: Form = Form {
-    names_caps: true,
-    constructor: "
-    /// A struct of these fields, and the table of the capabilities that they name.
-    pub fn of(alloc: Global",
-    clause: ") -> Result<($0$b, Table), DraftFault>
-        ensures made { IfOk result (λ d. d.0.body ≡ ",
-    body: ") }
-    {
-        let mut table = Table::new(alloc);
-        let mut made = $0$b::new(alloc)?;
-",
-    end: "        Ok((made, table))
-    }
-",
-    params: "        let (params, table) = $6$b::of(self.target.alloc()",
-    request: ")?;
-        let request = self.$8_request(params, table);
-",
-};
-
-/// What is said of the table beside the struct.
-const TABLE: &str = ") }
-        ensures named { IfOk result (λ d. d.1 ≡ ";
+";
 
 const EMPTY: &str = ") }
     {
@@ -82,9 +53,9 @@ const EMPTY: &str = ") }
 
 const SET: &str = "        made.set_$0($1);\n";
 
-const SET_TEXT: &str = "        made.set_$0(alloc, $1)?;\n";
+const SET_CLIENT: &str = "        made.set_$0($1)?;\n";
 
-const SET_CLIENT: &str = "        made.set_$0_client(&mut table, $1)?;\n";
+const SET_TEXT: &str = "        made.set_$0(alloc, $1)?;\n";
 
 const CALL: &str = "    pub fn $4<C: Caller>(&self, caller: &mut C";
 
@@ -171,37 +142,41 @@ fn client<'b>(book: &'b Book<'_>, field: &StructField) -> Option<&'b Named> {
     client_of(book, slot_of(field)?)
 }
 
-/// The templates of these params.
-fn form_of(book: &Book<'_>, of: &Structure) -> &'static Form {
+/// Whether one of these fields is a capability.
+fn names_caps(book: &Book<'_>, of: &Structure) -> bool {
     for field in &of.fields {
         if client(book, field).is_some() {
-            return &NAMING;
+            return true;
         }
     }
-    &PLAIN
+    false
 }
 
 /// Writes what makes a draft of all its fields.
 pub fn constructor(book: &Book<'_>, out: &mut Out, named: &Named, of: &Structure) {
     let args = [Arg::Text(named.name.as_str())];
-    let form = form_of(book, of);
-    out.put(form.constructor);
+    let has_table = names_caps(book, of);
+    out.put(OF);
     parameters(book, out, of);
-    out.fill(form.clause, &args);
+    out.fill(GIVES, &args);
+    if has_table {
+        out.put("made ");
+    }
+    out.put(MADE);
     content(book, out, of);
     if of.fields.is_empty() {
         out.fill(EMPTY, &args);
         return;
     }
-    if form.names_caps {
-        out.put(TABLE);
+    if has_table {
+        out.put(NAMED);
         table(book, out, of.fields.as_slice());
     }
-    out.fill(form.body, &args);
+    out.fill(BODY, &args);
     for field in &of.fields {
         set(book, out, field);
     }
-    out.put(form.end);
+    out.put(END);
 }
 
 /// Writes the line that sets a field to its argument.
@@ -226,14 +201,14 @@ pub fn plain_methods<'b>(book: &Book<'_>, sheet: &mut Sheet<'b>, way: &Way<'b>, 
     out.fill(CALLED, &args);
     payload(book, out, of);
     out.put(CALL_BODY);
-    request(book, out, way, of);
+    request(out, way, of);
     out.fill(CALL_END, &args);
     out.fill(ASK, &args);
     parameters(book, out, of);
     out.fill(ASKED, &args);
     payload(book, out, of);
     out.put(ASK_BODY);
-    request(book, out, way, of);
+    request(out, way, of);
     out.put(ASK_END);
     sheet.cited.put(CITED);
     for field in &of.fields {
@@ -257,14 +232,13 @@ fn parameters(book: &Book<'_>, out: &mut Out, of: &Structure) {
 }
 
 /// Writes the lines that make a request of the arguments.
-fn request(book: &Book<'_>, out: &mut Out, way: &Way<'_>, of: &Structure) {
+fn request(out: &mut Out, way: &Way<'_>, of: &Structure) {
     let args = way.args();
-    let form = form_of(book, of);
-    out.fill(form.params, &args);
+    out.fill(PARAMS, &args);
     for field in &of.fields {
         out.fill(", $0", &[Arg::Method(field.name.as_str())]);
     }
-    out.fill(form.request, &args);
+    out.fill(REQUEST, &args);
 }
 
 /// Writes the struct of the arguments and the table of their capabilities, as definitions have them.

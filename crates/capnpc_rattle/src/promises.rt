@@ -3,6 +3,7 @@
 use crate::book::{Book, Named};
 use crate::out::Arg;
 use crate::parts::{Part, Wanted, fields};
+use crate::reach::Naming;
 use crate::sheet::Sheet;
 use cp_schema::{Base, FieldKind, Node, Slot, StructField, Structure};
 
@@ -14,7 +15,36 @@ impl Results for $0$b {
         self.body.into_whole()
     }
 }
+";
 
+/// The results of objects that may make others, where they can name no capability.
+const NAMELESS_RESULTS: &str = "
+impl ServiceResults for $0$b {
+    ghost content = { λ d. d.body };
+
+    ghost names = { λ d. [] };
+
+    fn into_parts(self, alloc: Global) -> (Whole, Table) {
+        (self.body.into_whole(), Table::new(alloc))
+    }
+}
+";
+
+/// The same, where they have a table.
+const NAMING_RESULTS: &str = "
+impl ServiceResults for $0$b {
+    ghost content = { λ d. d.body };
+
+    ghost names = { λ d. d.table };
+
+    fn into_parts(self, alloc: Global) -> (Whole, Table) {
+        let _ = alloc;
+        (self.body.into_whole(), self.table)
+    }
+}
+";
+
+const PROMISE: &str = "
 /// `struct $1`, as a question will give it.
 #[derive(Drop)]
 pub struct $0Promise {
@@ -69,8 +99,14 @@ const GETTER: &str = "
 const CITED: &str = "\
 cp_stubs::ResultPayload
 cp_stubs::Promised
-cp_stubs::Results
 cp_tree::Whole
+";
+
+const RESULTS_CITED: &str = "cp_stubs::Results\n";
+
+const SERVICE_RESULTS_CITED: &str = "\
+cp_services::ServiceResults
+cp_stubs::Table
 ";
 
 /// What a getter of a capability cites.
@@ -90,10 +126,17 @@ pub fn promise<'b>(
     of: &'b Structure,
 ) {
     let args = named.args(node);
-    sheet.code.fill(RESULTS, &args);
+    let (results, cited) = match book.naming_of(node.id) {
+        Naming::Own => (NAMING_RESULTS, SERVICE_RESULTS_CITED),
+        Naming::Never if book.scope.services => (NAMELESS_RESULTS, SERVICE_RESULTS_CITED),
+        Naming::Never | Naming::Shared => (RESULTS, RESULTS_CITED),
+    };
+    sheet.code.fill(results, &args);
+    sheet.code.fill(PROMISE, &args);
     sheet.libraries.put(CITED);
+    sheet.libraries.put(cited);
     sheet.export("$0Promise", &args);
-    fields(book, sheet, &Part::new(node, of), Wanted::Promises);
+    fields(book, sheet, &Part::new(book, node, of), Wanted::Promises);
     sheet.code.put("}\n");
 }
 

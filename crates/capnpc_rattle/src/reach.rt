@@ -10,6 +10,17 @@ pub struct Line {
     pub supers: Vec<u64>,
 }
 
+/// By which table a struct names capabilities.
+#[derive(Clone, Copy)]
+pub enum Naming {
+    /// It can name none.
+    Never,
+    /// By its own.
+    Own,
+    /// By that of the params or the results which it is or lies in.
+    Shared,
+}
+
 /// Adds the interfaces of a schema with all that they extend.
 pub fn push_lines(alloc: Global, schema: &Schema, lines: &mut Vec<Line>) -> Result<(), AllocError> {
     for node in &schema.nodes {

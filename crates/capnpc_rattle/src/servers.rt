@@ -5,6 +5,7 @@ use crate::comments::about;
 use crate::kinds::takes;
 use crate::methods::Way;
 use crate::out::Arg;
+use crate::reach::Naming;
 use crate::sheet::Sheet;
 use crate::templates::Templates;
 use cp_schema::{Interface, Node};
@@ -68,9 +69,14 @@ fn call<'b>(sheet: &mut Sheet<'b>, templates: &Templates, way: &Way<'b>) {
     if templates.call.is_empty() {
         return;
     }
-    let args = way.args();
+    let (args, filling) = (way.args(), way.filling());
     sheet.code.fill(templates.call, &args);
+    sheet.code.fill(filling.of, &args);
+    sheet.code.put(">;\n");
     sheet.export("$0$9Call", &args);
+    if matches!(way.results_naming, Naming::Shared) {
+        sheet.libraries.put("cp_services::NamedResults\n");
+    }
 }
 
 /// Writes a method of a trait.
@@ -80,6 +86,10 @@ fn method<'b>(book: &Book<'_>, sheet: &mut Sheet<'b>, node: &Node, way: &Way<'b>
     about(&mut sheet.code, text, "`$5 @$3`.", &args);
     let templates = book.scope.templates();
     sheet.code.fill(templates.method, &args);
+    if !templates.method_end.is_empty() {
+        sheet.code.put(way.filling().seen);
+        sheet.code.fill(templates.method_end, &args);
+    }
     sheet.libraries.put(templates.method_cited);
     sheet.cited.put(templates.method_words);
     way.cite(

@@ -15,6 +15,8 @@ pub struct Setter<'b> {
     place: u32,
     default: u64,
     width: u32,
+    /// In how many lists its list lies.
+    depth: u32,
 }
 
 /// What the setters of a kind of field have around the parts of their own: the value's type, the struct, the value as a
@@ -22,6 +24,7 @@ pub struct Setter<'b> {
 pub struct Shape {
     /// The parameter is called `value`, so that no field's name clashes with it.
     pub takes: &'static str,
+    pub gives: &'static str,
     pub opens: &'static str,
     pub place: &'static str,
     pub closes: &'static str,
@@ -34,7 +37,8 @@ pub struct Shape {
 /// A bit or a number.
 static NUMBER: Shape = Shape {
     takes: "value: ",
-    opens: ")\n        ensures { self.new.body ≡ with_uint ",
+    gives: ")",
+    opens: "{ self.new.body ≡ with_uint ",
     place: " $4 $0 ",
     closes: " }",
     call: "        self.body.",
@@ -45,7 +49,8 @@ static NUMBER: Shape = Shape {
 /// A pointer.
 static POINTER: Shape = Shape {
     takes: "value: ",
-    opens: ")\n        ensures { self.new.body ≡ with_pointer ",
+    gives: ")",
+    opens: "{ self.new.body ≡ with_pointer ",
     place: " $0 ",
     closes: " }",
     call: "        self.body.set_pointer($0, ",
@@ -56,8 +61,8 @@ static POINTER: Shape = Shape {
 /// A pointer to what may be too long.
 static LONG: Shape = Shape {
     takes: "value: ",
-    opens: ") -> Result<(), DraftFault>
-        ensures set { OnOk result (self.new.body ≡ with_pointer ",
+    gives: ") -> Result<(), DraftFault>",
+    opens: "{ OnOk result (self.new.body ≡ with_pointer ",
     place: " $0 ",
     closes: ") }
         ensures left { OnErr result (self.new ≡ self.old) }
@@ -70,12 +75,40 @@ static LONG: Shape = Shape {
 /// A pointer to a text, which is copied, and may be too long.
 static COPIED: Shape = Shape {
     takes: "alloc: Global, value: ",
-    opens: ") -> Result<(), DraftFault>
-        ensures set { OnOk result (self.new.body ≡ with_pointer ",
+    gives: ") -> Result<(), DraftFault>",
+    opens: "{ OnOk result (self.new.body ≡ with_pointer ",
     place: " $0 ",
     closes: ") }
         ensures left { OnErr result (self.new ≡ self.old) }
         ensures long { result ≡ Err TooLong → 2 ^ 29 ≤ length value.now + 1 }",
+    call: "        self.body.set_pointer($0, ",
+    end: ");\n        Ok(())\n    }\n",
+    fails: true,
+};
+
+/// A pointer to a list whose numbers are copied, and which may be too long.
+static SLICE: Shape = Shape {
+    takes: "alloc: Global, value: ",
+    gives: ") -> Result<(), DraftFault>",
+    opens: "{ OnOk result (self.new.body ≡ with_pointer ",
+    place: " $0 ",
+    closes: ") }
+        ensures left { OnErr result (self.new ≡ self.old) }
+        ensures long { result ≡ Err TooLong → 2 ^ 29 ≤ length value.now }",
+    call: "        self.body.set_pointer($0, ",
+    end: ");\n        Ok(())\n    }\n",
+    fails: true,
+};
+
+/// A pointer to a list that was built, and may be too long.
+static BUILT: Shape = Shape {
+    takes: "value: ",
+    gives: ") -> Result<(), DraftFault>",
+    opens: "{ OnOk result (self.new.body ≡ with_pointer ",
+    place: " $0 ",
+    closes: ") }
+        ensures left { OnErr result (self.new ≡ self.old) }
+        ensures long { result ≡ Err TooLong → 2 ^ 29 ≤ length value.items.items }",
     call: "        self.body.set_pointer($0, ",
     end: ");\n        Ok(())\n    }\n",
     fails: true,
@@ -88,6 +121,8 @@ enum Kind {
     Pointer,
     Long,
     Copied,
+    Slice,
+    Built,
 }
 
 /// The templates of a type: the kind of its shape, and the parts of its own.
@@ -258,6 +293,125 @@ static WORDS: Form = Form {
     code: "cp_builder::words_of(value)?",
 };
 
+/// A list of signed numbers of 8 bits.
+static SIGNED_BYTES: Form = Form {
+    kind: Kind::Slice,
+    of: "&[i8]",
+    value: "(bytes_tree (map (cast_unsigned w8) value.now))",
+    code: "cp_services::signed8_of(alloc, value)?",
+};
+
+/// A list of signed numbers of 16 bits.
+static SIGNED_HALVES: Form = Form {
+    kind: Kind::Slice,
+    of: "&[i16]",
+    value: "(halves_tree (map (cast_unsigned w16) value.now))",
+    code: "cp_services::signed16_of(alloc, value)?",
+};
+
+/// A list of signed numbers of 32 bits.
+static SIGNED_QUADS: Form = Form {
+    kind: Kind::Slice,
+    of: "&[i32]",
+    value: "(quads_tree (map (cast_unsigned w32) value.now))",
+    code: "cp_services::signed32_of(alloc, value)?",
+};
+
+/// A list of signed numbers of 64 bits.
+static SIGNED_WORDS: Form = Form {
+    kind: Kind::Slice,
+    of: "&[i64]",
+    value: "(words_tree (map (cast_unsigned w64) value.now))",
+    code: "cp_services::signed64_of(alloc, value)?",
+};
+
+/// A list of floating-point numbers of 32 bits.
+static SINGLES: Form = Form {
+    kind: Kind::Slice,
+    of: "&[f32]",
+    value: "(quads_tree (map (to_bits binary32) value.now))",
+    code: "cp_services::float32_of(alloc, value)?",
+};
+
+/// A list of floating-point numbers of 64 bits.
+static DOUBLES: Form = Form {
+    kind: Kind::Slice,
+    of: "&[f64]",
+    value: "(words_tree (map (to_bits binary64) value.now))",
+    code: "cp_services::float64_of(alloc, value)?",
+};
+
+/// A list of enumerants.
+static ENUMERANTS: Form = Form {
+    kind: Kind::Slice,
+    of: "&[$2]",
+    value: "(halves_tree (map $3_number value.now))",
+    code: "cp_services::enumerants_of(alloc, value)?",
+};
+/// A list of texts, or of lists of them.
+static TEXTS: Form = Form {
+    kind: Kind::Built,
+    of: "$5cp_services::TextListBuilder$6",
+    value: "(pointers_tree value.items.items)",
+    code: "value.into_whole()?",
+};
+
+/// A list of data, or of lists of them.
+static DATAS: Form = Form {
+    kind: Kind::Built,
+    of: "$5cp_services::DataListBuilder$6",
+    value: "(pointers_tree value.items.items)",
+    code: "value.into_whole()?",
+};
+
+/// A list of capabilities, or of lists of them.
+static CAPS: Form = Form {
+    kind: Kind::Built,
+    of: "$5cp_services::CapListBuilder$6",
+    value: "(pointers_tree value.items.items)",
+    code: "value.into_whole()?",
+};
+
+/// A list of lists of structs, or of lists of these.
+static LISTS_OF_BODIES: Form = Form {
+    kind: Kind::Built,
+    of: "$5$2List$b$6",
+    value: "(pointers_tree value.items.items)",
+    code: "value.into_whole()?",
+};
+
+/// Lists of bools in lists.
+static LISTS_OF_BITS: Form = Form {
+    kind: Kind::Built,
+    of: "$5Vec<bool>$6",
+    value: "(pointers_tree value.items.items)",
+    code: "value.into_whole()?",
+};
+
+/// Lists of numbers in lists.
+static LISTS_OF_UNSIGNED: Form = Form {
+    kind: Kind::Built,
+    of: "$5Vec<u$4>$6",
+    value: "(pointers_tree value.items.items)",
+    code: "value.into_whole()?",
+};
+
+/// Lists of signed numbers in lists.
+static LISTS_OF_SIGNED: Form = Form {
+    kind: Kind::Built,
+    of: "$5Vec<i$4>$6",
+    value: "(pointers_tree value.items.items)",
+    code: "value.into_whole()?",
+};
+
+/// Lists of floating-point numbers in lists.
+static LISTS_OF_FLOATS: Form = Form {
+    kind: Kind::Built,
+    of: "$5Vec<f$4>$6",
+    value: "(pointers_tree value.items.items)",
+    code: "value.into_whole()?",
+};
+
 impl<'b> Setter<'b> {
     /// What its method has around the parts of its own.
     pub fn shape(&self) -> &'static Shape {
@@ -266,18 +420,27 @@ impl<'b> Setter<'b> {
             Kind::Pointer => &POINTER,
             Kind::Long => &LONG,
             Kind::Copied => &COPIED,
+            Kind::Slice => &SLICE,
+            Kind::Built => &BUILT,
         }
     }
 
     /// What stands for the places of its templates.
-    pub fn args(&self) -> [Arg<'b>; 5] {
+    pub fn args(&self) -> [Arg<'b>; 7] {
         [
             Arg::Number(self.place as u64),
             Arg::Number(self.default),
             Arg::Text(self.name),
             Arg::Text(self.word),
             Arg::Number(self.width as u64),
+            Arg::Times("cp_services::ListsBuilder<", self.depth),
+            Arg::Times(">", self.depth),
         ]
+    }
+
+    /// Whether it is set to a list of pointers that was built.
+    pub fn is_built(&self) -> bool {
+        matches!(self.form.kind, Kind::Built)
     }
 }
 
@@ -285,7 +448,7 @@ impl<'b> Setter<'b> {
 pub fn set_of<'b>(book: &'b Book<'_>, slot: &Slot) -> Result<Setter<'b>, &'static str> {
     let (name, word) = names_in(book, slot.of.of)?;
     Ok(Setter {
-        form: form_of(slot),
+        form: form_of(slot, book.scope.services),
         name,
         word,
         place: slot.place,
@@ -295,19 +458,19 @@ pub fn set_of<'b>(book: &'b Book<'_>, slot: &Slot) -> Result<Setter<'b>, &'stati
         } else {
             width_of(slot.of.of)
         },
+        depth: slot.of.lists.saturating_sub(1),
     })
 }
 
-/// The templates of a field.
-fn form_of(slot: &Slot) -> &'static Form {
-    if slot.of.lists > 1 {
-        &WHOLE
-    } else if slot.of.lists == 1 {
-        list(slot.of.of)
-    } else if slot.default == 0 {
-        plain(slot.of.of)
-    } else {
-        with_default(slot.of.of)
+/// The templates of a field, where lists are of builders or aren't.
+fn form_of(slot: &Slot, builds: bool) -> &'static Form {
+    match slot.of.lists {
+        0 if slot.default == 0 => plain(slot.of.of),
+        0 => with_default(slot.of.of),
+        1 if builds => built(slot.of.of),
+        1 => list(slot.of.of),
+        _ if builds => nested(slot.of.of),
+        _ => &WHOLE,
     }
 }
 
@@ -349,5 +512,37 @@ fn list(of: Base) -> &'static Form {
         Base::Unsigned(32) => &QUADS,
         Base::Unsigned(_) => &WORDS,
         _ => &WHOLE,
+    }
+}
+
+/// The templates of a list that is given as its numbers, or as its builder.
+fn built(of: Base) -> &'static Form {
+    match of {
+        Base::Text => &TEXTS,
+        Base::Data => &DATAS,
+        Base::Interface(_) => &CAPS,
+        Base::Enum(_) => &ENUMERANTS,
+        Base::Signed(8) => &SIGNED_BYTES,
+        Base::Signed(16) => &SIGNED_HALVES,
+        Base::Signed(32) => &SIGNED_QUADS,
+        Base::Signed(_) => &SIGNED_WORDS,
+        Base::Float(32) => &SINGLES,
+        Base::Float(_) => &DOUBLES,
+        _ => list(of),
+    }
+}
+
+/// The templates of a list of lists.
+fn nested(of: Base) -> &'static Form {
+    match of {
+        Base::Struct(_) => &LISTS_OF_BODIES,
+        Base::Bool => &LISTS_OF_BITS,
+        Base::Unsigned(_) => &LISTS_OF_UNSIGNED,
+        Base::Signed(_) => &LISTS_OF_SIGNED,
+        Base::Float(_) => &LISTS_OF_FLOATS,
+        Base::Text => &TEXTS,
+        Base::Data => &DATAS,
+        Base::Interface(_) => &CAPS,
+        Base::Enum(_) | Base::Void | Base::AnyPointer => &WHOLE,
     }
 }

@@ -11,7 +11,9 @@ pub struct Templates {
     pub kind: &'static str,
     /// What stands before the trait for each method.
     pub call: &'static str,
+    /// A method of the trait: all of it, or what stands before its results in the clause, and what stands after them.
     pub method: &'static str,
+    pub method_end: &'static str,
     /// What a method cites of other crates.
     pub method_cited: &'static str,
     /// The definitions that a method cites.
@@ -28,7 +30,9 @@ pub struct Templates {
     pub by_number: &'static str,
     pub method_arm: &'static str,
     pub end: &'static str,
+    /// What passes a call on: all of it, or what stands before the start of its results, and what stands after that.
     pub pass: &'static str,
+    pub pass_end: &'static str,
     /// What passing a call on cites of other crates.
     pub pass_cited: &'static str,
 }
@@ -49,6 +53,7 @@ pub const SERVERS: Templates = Templates {
     ) -> Result<Answer<$7$b>, MethodFault>
         ensures { Gives (λ d. d.body) $1_kind.on_$8 self.old call.now params.now.body result self.new };
 ",
+    method_end: "",
     method_cited: "cp_stubs::Answer\ncp_stubs::MethodFault\n",
     method_words: "",
     servant: "}
@@ -152,6 +157,7 @@ fn pass_$8<T: $0Server>(
     }
 }
 ",
+    pass_end: "",
     pass_cited: "cp_stubs::reply\n",
 };
 
@@ -165,10 +171,10 @@ pub const SERVICES: Templates = Templates {
 ",
     call: "
 /// A call of `$5`.
-pub type $0$9Call<'c> = ServiceCall<'c, $6$r<'c>, $7$b>;
-",
+pub type $0$9Call<'c> = ServiceCall<'c, $6$r<'c>, ",
     method: "    fn $4(&mut self, call: &mut $0$9Call<'_>, here: &mut Here<Self::Makes>) -> MethodResult
-        ensures { Answers (λ p. p.body) (λ d. d.body) $1_kind.on_$8 (at self.old here.old) call.old call.new result (at self.new here.new) };
+        ensures { Answers (λ p. p.body) ",
+    method_end: " $1_kind.on_$8 (at self.old here.old) call.old call.new result (at self.new here.new) };
 ",
     method_cited: "cp_services::ServiceCall\ncp_services::MethodResult\n",
     method_words: "ghost use Rattle.cp_services.specs.Calls.{Answers};\n",
@@ -318,7 +324,8 @@ fn pass_$8<T: $0Server>(
 {
     match call.params() {
         Ok(body) => {
-            let results = $7$b::new(here.alloc())?;
+            let results = ",
+    pass_end: ";
             let params = $6$r { body };
             let mut passed = ServiceCall::new(here.alloc(), call, params, results);
             let done = $0Server::$4(object, &mut passed, here);

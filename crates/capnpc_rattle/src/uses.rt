@@ -110,7 +110,7 @@ const CONSTANTS: [&str; 3] = [
 ];
 
 /// The words of the prelude, each with parts of a text that has it.
-const PRELUDE: [(&str, &[&str]); 25] = [
+const PRELUDE: [(&str, &[&str]); 26] = [
     ("ℕ", &["ℕ"]),
     ("◌≡◌", &[" ≡ "]),
     ("◌==◌", &[" == "]),
@@ -129,13 +129,17 @@ const PRELUDE: [(&str, &[&str]); 25] = [
     ("◌↔◌", &[" ↔ "]),
     ("◌≤◌", &[" ≤ "]),
     ("◌^◌", &["2 ^ "]),
-    ("length", &["length value", "length table"]),
-    ("◌+◌", &["now + 1", "old + 1", "HoldsOneMore self"]),
+    ("length", &["length value", "length table", "length self"]),
+    (
+        "◌+◌",
+        &["now + 1", "old + 1", "table + 1", "HoldsOneMore self"],
+    ),
     ("◌++◌", &[" ++ "]),
     ("◌∷◌", &[" ∷ "]),
     ("[]", &["[]"]),
     ("true", &["true ∷ "]),
     ("false", &["false ∷ "]),
+    ("map", &["(map "]),
 ];
 
 /// The path of the sizes of elements.

@@ -1,4 +1,4 @@
-//! `chat` of chat.capnp.
+//! `chat` of chat.capnp, made by capnpc_rattle.
 
 ghost use Rattle.std.specs.Prelude.{◌≡◌, IfOk, OnOk, OnErr, []};
 ghost use Rattle.cp_builder.specs.Drafts.{blank, text_tree, with_pointer};
@@ -20,7 +20,7 @@ use cp_makers::{Here, Maker, Resolver};
 use cp_refs::{Cap, Outcome, Request};
 use cp_servants::{Ask, Reply, Settled};
 use cp_services::{MethodResult, ServiceCall, ServiceObject, fail};
-use cp_stubs::{CallTarget, Caller, MethodCall, MethodFault, Table, refuse};
+use cp_stubs::{CallTarget, Caller, MethodCall, MethodFault, refuse};
 use std::alloc::{AllocError, Global};
 
 /// `interface Chat`.
@@ -43,13 +43,13 @@ impl ChatClient {
         }
     }
 
-    /// A call of `join @0`, with the table of the capabilities that its params name.
-    pub fn join_request(&self, params: ChatJoinParamsBuilder, table: Table) -> Request
-        ensures { result ≡ request_of 0x9be749cc343d65aa 0 params.body table }
+    /// A call of `join @0`.
+    pub fn join_request(&self, params: ChatJoinParamsBuilder) -> Request
+        ensures { result ≡ request_of 0x9be749cc343d65aa 0 params.body params.table }
     {
         let content = params.body.into_whole();
         self.target
-            .request_naming(0x9be749cc343d65aa, 0, content, table)
+            .request_naming(0x9be749cc343d65aa, 0, content, params.table)
     }
 
     /// Makes a member, whose listener hears all that is said from now on. Who drops it has left.
@@ -61,8 +61,8 @@ impl ChatClient {
     ) -> Result<ChatJoinResultsPromise, C::Fault>
         ensures { MakesOf (λ p. p.at) C.asks caller.old self.now.target 0x9be749cc343d65aa 0 (with_pointer (with_pointer (blank 0 2) 0 (text_tree name.now)) 1 (pointer_naming [] listener.target)) (with_named [] listener.target) result caller.new }
     {
-        let (params, table) = ChatJoinParamsBuilder::of(self.target.alloc(), name, listener)?;
-        let request = self.join_request(params, table);
+        let params = ChatJoinParamsBuilder::of(self.target.alloc(), name, listener)?;
+        let request = self.join_request(params);
         Ok(ChatJoinResultsPromise {
             at: self.target.call(caller, request)?,
         })
@@ -77,8 +77,8 @@ impl ChatClient {
     ) -> Result<Ask, DraftFault>
         ensures { IfOk result (λ ask. ask ≡ ask_of self.now.target (request_of 0x9be749cc343d65aa 0 (with_pointer (with_pointer (blank 0 2) 0 (text_tree name.now)) 1 (pointer_naming [] listener.target)) (with_named [] listener.target)) mark) }
     {
-        let (params, table) = ChatJoinParamsBuilder::of(self.target.alloc(), name, listener)?;
-        let request = self.join_request(params, table);
+        let params = ChatJoinParamsBuilder::of(self.target.alloc(), name, listener)?;
+        let request = self.join_request(params);
         Ok(self.target.ask(request, mark)?)
     }
 }
@@ -93,7 +93,7 @@ pub trait ChatServer: ServiceObject {
 
     /// Makes a member, whose listener hears all that is said from now on. Who drops it has left.
     fn join(&mut self, call: &mut ChatJoinCall<'_>, here: &mut Here<Self::Makes>) -> MethodResult
-        ensures { Answers (λ p. p.body) (λ d. d.body) chat_kind.on_join (at self.old here.old) call.old call.new result (at self.new here.new) };
+        ensures { Answers (λ p. p.body) (λ d. d.body) (λ d. d.table) chat_kind.on_join (at self.old here.old) call.old call.new result (at self.new here.new) };
 }
 
 /// An object of `interface Chat`, as a connection serves it.

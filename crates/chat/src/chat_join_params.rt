@@ -1,10 +1,10 @@
-//! `chat_join_params` of chat.capnp.
+//! `chat_join_params` of chat.capnp, made by capnpc_rattle.
 
 ghost use Rattle.std.specs.Prelude.{◌≡◌, IfOk, OnOk, OnErr, Err, ◌↔◌, ◌≤◌, ◌^◌, length, ◌+◌, []};
 ghost use Rattle.cp_tree.specs.Seen.{pointee_of};
 ghost use Rattle.cp_fields.specs.Pointers.{Reads, cap_field, struct_field, text_field};
 ghost use Rattle.cp_builder.specs.declared.fault.DraftFault.TheVariants.{TooLong};
-ghost use Rattle.cp_builder.specs.Drafts.{blank, cap_tree, text_tree, with_pointer};
+ghost use Rattle.cp_builder.specs.Drafts.{blank, text_tree, with_pointer};
 ghost use Rattle.cp_servants.specs.Naming.{pointer_naming, with_named};
 ghost use Rattle.cp_stubs.specs.Promises.{Finds};
 
@@ -62,32 +62,35 @@ impl<'a> ChatJoinParamsReader<'a> {
 pub struct ChatJoinParamsBuilder {
     /// The struct, by the places of its fields.
     pub body: StructDraft<0, 2>,
+    /// The capabilities that it names.
+    pub table: Table,
 }
 
 impl ChatJoinParamsBuilder {
     /// A struct whose fields are all as by default.
     pub fn new(alloc: Global) -> Result<ChatJoinParamsBuilder, AllocError>
-        ensures { IfOk result (λ d. d.body ≡ blank 0 2) }
+        ensures blank { IfOk result (λ d. d.body ≡ blank 0 2) }
+        ensures names { IfOk result (λ d. d.table ≡ []) }
     {
         Ok(ChatJoinParamsBuilder {
             body: StructDraft::new(alloc)?,
+            table: Table::new(alloc),
         })
     }
 
-    /// A struct of these fields, and the table of the capabilities that they name.
+    /// A struct of these fields.
     pub fn of(
         alloc: Global,
         name: &str,
         listener: ListenerClient,
-    ) -> Result<(ChatJoinParamsBuilder, Table), DraftFault>
-        ensures made { IfOk result (λ d. d.0.body ≡ (with_pointer (with_pointer (blank 0 2) 0 (text_tree name.now)) 1 (pointer_naming [] listener.target))) }
-        ensures named { IfOk result (λ d. d.1 ≡ (with_named [] listener.target)) }
+    ) -> Result<ChatJoinParamsBuilder, DraftFault>
+        ensures made { IfOk result (λ d. d.body ≡ (with_pointer (with_pointer (blank 0 2) 0 (text_tree name.now)) 1 (pointer_naming [] listener.target))) }
+        ensures names { IfOk result (λ d. d.table ≡ (with_named [] listener.target)) }
     {
-        let mut table = Table::new(alloc);
         let mut made = ChatJoinParamsBuilder::new(alloc)?;
         made.set_name(alloc, name)?;
-        made.set_listener_client(&mut table, listener)?;
-        Ok((made, table))
+        made.set_listener(listener)?;
+        Ok(made)
     }
 
     /// Sets `name`.
@@ -95,30 +98,20 @@ impl ChatJoinParamsBuilder {
         ensures set { OnOk result (self.new.body ≡ with_pointer self.old.body 0 (text_tree value.now)) }
         ensures left { OnErr result (self.new ≡ self.old) }
         ensures long { result ≡ Err TooLong → 2 ^ 29 ≤ length value.now + 1 }
+        ensures names { self.new.table ≡ self.old.table }
     {
         self.body.set_pointer(0, cp_builder::text_of(alloc, value)?);
         Ok(())
     }
 
     /// Sets `listener`.
-    pub fn set_listener(&mut self, value: u32)
-        ensures { self.new.body ≡ with_pointer self.old.body 1 (cap_tree value) }
+    pub fn set_listener(&mut self, value: ListenerClient) -> Result<(), DraftFault>
+        ensures set { OnOk result (self.new.body ≡ with_pointer self.old.body 1 (pointer_naming self.old.table value.target)) }
+        ensures added { OnOk result (self.new.table ≡ with_named self.old.table value.target) }
+        ensures left { OnErr result (self.new ≡ self.old) }
+        ensures full { result ≡ Err TooLong ↔ 2 ^ 32 ≤ length self.old.table + 1 }
     {
-        self.body.set_pointer(1, cp_builder::cap_of(value));
-    }
-
-    /// Sets `listener`.
-    pub fn set_listener_client(
-        &mut self,
-        table: &mut Table,
-        value: ListenerClient,
-    ) -> Result<(), DraftFault>
-        ensures set { OnOk result (self.new.body ≡ with_pointer self.old.body 1 (pointer_naming table.old value.target)) }
-        ensures added { OnOk result (table.new ≡ with_named table.old value.target) }
-        ensures left { OnErr result ((self.new ≡ self.old) × (table.new ≡ table.old)) }
-        ensures full { result ≡ Err TooLong ↔ 2 ^ 32 ≤ length table.old + 1 }
-    {
-        let pointer = table.add(value.target.into_cap())?;
+        let pointer = self.table.add(value.target.into_cap())?;
         self.body.set_pointer(1, pointer);
         Ok(())
     }

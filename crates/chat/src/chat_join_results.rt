@@ -1,10 +1,10 @@
-//! `chat_join_results` of chat.capnp.
+//! `chat_join_results` of chat.capnp, made by capnpc_rattle.
 
-ghost use Rattle.std.specs.Prelude.{◌≡◌, IfOk, OnOk, OnErr, Err, ◌↔◌, ◌≤◌, ◌^◌, length, ◌+◌};
+ghost use Rattle.std.specs.Prelude.{◌≡◌, IfOk, OnOk, OnErr, Err, ◌↔◌, ◌≤◌, ◌^◌, length, ◌+◌, []};
 ghost use Rattle.cp_tree.specs.Seen.{pointee_of};
 ghost use Rattle.cp_fields.specs.Pointers.{Reads, cap_field, struct_field};
 ghost use Rattle.cp_builder.specs.declared.fault.DraftFault.TheVariants.{TooLong};
-ghost use Rattle.cp_builder.specs.Drafts.{blank, cap_tree, with_pointer};
+ghost use Rattle.cp_builder.specs.Drafts.{blank, with_pointer};
 ghost use Rattle.cp_servants.specs.Naming.{pointer_naming, with_named};
 ghost use Rattle.cp_stubs.specs.Promises.{Finds, promised_cap};
 
@@ -12,7 +12,8 @@ use crate::member_::MemberClient;
 use cp_builder::{DraftFault, StructDraft};
 use cp_fields::{Pointee, StructView, WrongKind};
 use cp_refs::Caps;
-use cp_stubs::{CallTarget, CapFault, Promised, ResultPayload, Results, Table};
+use cp_services::ServiceResults;
+use cp_stubs::{CallTarget, CapFault, Promised, ResultPayload, Table};
 use cp_tree::Whole;
 use std::alloc::{AllocError, Global};
 
@@ -56,47 +57,43 @@ impl<'a> ChatJoinResultsReader<'a> {
 pub struct ChatJoinResultsBuilder {
     /// The struct, by the places of its fields.
     pub body: StructDraft<0, 1>,
+    /// The capabilities that it names.
+    pub table: Table,
 }
 
 impl ChatJoinResultsBuilder {
     /// A struct whose fields are all as by default.
     pub fn new(alloc: Global) -> Result<ChatJoinResultsBuilder, AllocError>
-        ensures { IfOk result (λ d. d.body ≡ blank 0 1) }
+        ensures blank { IfOk result (λ d. d.body ≡ blank 0 1) }
+        ensures names { IfOk result (λ d. d.table ≡ []) }
     {
         Ok(ChatJoinResultsBuilder {
             body: StructDraft::new(alloc)?,
+            table: Table::new(alloc),
         })
     }
 
     /// Sets `member`.
-    pub fn set_member(&mut self, value: u32)
-        ensures { self.new.body ≡ with_pointer self.old.body 0 (cap_tree value) }
+    pub fn set_member(&mut self, value: MemberClient) -> Result<(), DraftFault>
+        ensures set { OnOk result (self.new.body ≡ with_pointer self.old.body 0 (pointer_naming self.old.table value.target)) }
+        ensures added { OnOk result (self.new.table ≡ with_named self.old.table value.target) }
+        ensures left { OnErr result (self.new ≡ self.old) }
+        ensures full { result ≡ Err TooLong ↔ 2 ^ 32 ≤ length self.old.table + 1 }
     {
-        self.body.set_pointer(0, cp_builder::cap_of(value));
-    }
-
-    /// Sets `member`.
-    pub fn set_member_client(
-        &mut self,
-        table: &mut Table,
-        value: MemberClient,
-    ) -> Result<(), DraftFault>
-        ensures set { OnOk result (self.new.body ≡ with_pointer self.old.body 0 (pointer_naming table.old value.target)) }
-        ensures added { OnOk result (table.new ≡ with_named table.old value.target) }
-        ensures left { OnErr result ((self.new ≡ self.old) × (table.new ≡ table.old)) }
-        ensures full { result ≡ Err TooLong ↔ 2 ^ 32 ≤ length table.old + 1 }
-    {
-        let pointer = table.add(value.target.into_cap())?;
+        let pointer = self.table.add(value.target.into_cap())?;
         self.body.set_pointer(0, pointer);
         Ok(())
     }
 }
 
-impl Results for ChatJoinResultsBuilder {
+impl ServiceResults for ChatJoinResultsBuilder {
     ghost content = { λ d. d.body };
 
-    fn into_whole(self) -> Whole {
-        self.body.into_whole()
+    ghost names = { λ d. d.table };
+
+    fn into_parts(self, alloc: Global) -> (Whole, Table) {
+        let _ = alloc;
+        (self.body.into_whole(), self.table)
     }
 }
 

@@ -1,4 +1,4 @@
-//! `listener` of chat.capnp.
+//! `listener` of chat.capnp, made by capnpc_rattle.
 
 ghost use Rattle.std.specs.Prelude.{◌≡◌, IfOk, OnOk, OnErr, []};
 ghost use Rattle.cp_builder.specs.Drafts.{blank, text_tree, with_pointer};
@@ -93,7 +93,7 @@ pub trait ListenerServer: ServiceObject {
         call: &mut ListenerHeardCall<'_>,
         here: &mut Here<Self::Makes>,
     ) -> MethodResult
-        ensures { Answers (λ p. p.body) (λ d. d.body) listener_kind.on_heard (at self.old here.old) call.old call.new result (at self.new here.new) };
+        ensures { Answers (λ p. p.body) (λ d. d.body) (λ d. []) listener_kind.on_heard (at self.old here.old) call.old call.new result (at self.new here.new) };
 }
 
 /// An object of `interface Listener`, as a connection serves it.

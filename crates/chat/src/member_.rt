@@ -1,4 +1,4 @@
-//! `member_` of chat.capnp.
+//! `member_` of chat.capnp, made by capnpc_rattle.
 
 ghost use Rattle.std.specs.Prelude.{◌≡◌, IfOk, OnOk, OnErr, []};
 ghost use Rattle.cp_builder.specs.Drafts.{blank, text_tree, with_pointer};
@@ -84,7 +84,7 @@ pub trait MemberServer: ServiceObject {
 
     /// Says this to all members.
     fn say(&mut self, call: &mut MemberSayCall<'_>, here: &mut Here<Self::Makes>) -> MethodResult
-        ensures { Answers (λ p. p.body) (λ d. d.body) member_kind.on_say (at self.old here.old) call.old call.new result (at self.new here.new) };
+        ensures { Answers (λ p. p.body) (λ d. d.body) (λ d. []) member_kind.on_say (at self.old here.old) call.old call.new result (at self.new here.new) };
 }
 
 /// An object of `interface Member`, as a connection serves it.

@@ -1,4 +1,4 @@
-//! `member_say_params` of chat.capnp.
+//! `member_say_params` of chat.capnp, made by capnpc_rattle.
 
 ghost use Rattle.std.specs.Prelude.{◌≡◌, IfOk, OnOk, OnErr, Err, ◌≤◌, ◌^◌, length, ◌+◌, []};
 ghost use Rattle.cp_tree.specs.Seen.{pointee_of};

@@ -1,12 +1,13 @@
-//! `member_say_results` of chat.capnp.
+//! `member_say_results` of chat.capnp, made by capnpc_rattle.
 
-ghost use Rattle.std.specs.Prelude.{◌≡◌, IfOk};
+ghost use Rattle.std.specs.Prelude.{◌≡◌, IfOk, []};
 ghost use Rattle.cp_fields.specs.Pointers.{Reads, struct_field};
 ghost use Rattle.cp_builder.specs.Drafts.{blank};
 
 use cp_builder::StructDraft;
 use cp_fields::{Pointee, StructView, WrongKind};
-use cp_stubs::{Promised, ResultPayload, Results};
+use cp_services::ServiceResults;
+use cp_stubs::{Promised, ResultPayload, Table};
 use cp_tree::Whole;
 use std::alloc::{AllocError, Global};
 
@@ -46,11 +47,13 @@ impl MemberSayResultsBuilder {
     }
 }
 
-impl Results for MemberSayResultsBuilder {
+impl ServiceResults for MemberSayResultsBuilder {
     ghost content = { λ d. d.body };
 
-    fn into_whole(self) -> Whole {
-        self.body.into_whole()
+    ghost names = { λ d. [] };
+
+    fn into_parts(self, alloc: Global) -> (Whole, Table) {
+        (self.body.into_whole(), Table::new(alloc))
     }
 }
 

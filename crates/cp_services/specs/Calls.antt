@@ -16,16 +16,17 @@ use Rattle.cp_stubs.specs.Replies.{exception_for, given_up, refusal_of}
 use Rattle.cp_services.specs.declared.call.ServiceCall.{ServiceCall}
 
 -- What goes to the peer for a call that its method left so, and returned this. Nothing where memory ran out.
-abbrev pub reply_for : {P R : Type 0} → (R → Node) → List Cap → ServiceCall P R → Result (Unit {0}) MethodFault → Option Reply
-reply_for content named call (Ok done) =
-    let results = outcomes.Results (content call.results) call.table in
+abbrev pub reply_for : {P R : Type 0} → (R → Node) → (R → List Cap) → List Cap → ServiceCall P R → Result (Unit {0}) MethodFault → Option Reply
+reply_for content names named call (Ok done) =
+    let results = outcomes.Results (content call.results) (names call.results) in
     Some (if call.is_later then replies.Later else replies.Now results (given_up call.keeps.items named))
-reply_for content named call (Err fault) = refusal_of named fault
+reply_for content names named call (Err fault) = refusal_of named fault
 
 -- A method left a call so, and returned this: its relation holds of what goes to the peer for that. Nothing is said where memory ran out.
-abbrev pub Answers : {S P R : Type 0} → (P → Node) → (R → Node) → Method S → S → ServiceCall P R → ServiceCall P R → Result (Unit {0}) MethodFault → S → Type 0
-Answers params content method old before after done new =
-    IfSome (reply_for content before.of.now.request.caps after done) (λ reply. method old before.of.now (params before.params) reply new)
+abbrev pub Answers : {S P R : Type 0} → (P → Node) → (R → Node) → (R → List Cap) → Method S
+    → S → ServiceCall P R → ServiceCall P R → Result (Unit {0}) MethodFault → S → Type 0
+Answers params content names method old before after done new =
+    IfSome (reply_for content names before.of.now.request.caps after done) (λ reply. method old before.of.now (params before.params) reply new)
 
 -- A method was called, with these params and the capabilities that they name. Or it wasn't; or its params couldn't be written, and nothing was done.
 abbrev pub MakesOf : {C A F : Type 0} → (A → Promise) → (C → Cap → Request → Result ℕ F → C → Type 0) → C → Cap → ℕ → ℕ → Node → List Cap → Result A F → C → Type 0

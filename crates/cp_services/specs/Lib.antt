@@ -1,3 +1,4 @@
 pub mod Services
 pub mod Promises
 pub mod Calls
+pub mod Lists

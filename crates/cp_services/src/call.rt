@@ -6,9 +6,10 @@ ghost use Rattle.cp_stubs.specs.Replies.{given_up, with_import};
 ghost use Rattle.cp_services.specs.Calls.{reply_for};
 
 use crate::later::LaterCall;
+use crate::results::{Content, ServiceResults};
 use cp_refs::Caps;
 use cp_servants::Reply;
-use cp_stubs::{Answer, CallTarget, MethodCall, MethodFault, Results, Table, given_up, refuse};
+use cp_stubs::{Answer, CallTarget, MethodCall, MethodFault, given_up, refuse};
 use cp_vat_machine::Ids;
 use std::alloc::{AllocError, Global};
 
@@ -19,8 +20,6 @@ pub type MethodResult = Result<(), MethodFault>;
 pub struct ServiceCall<'c, P, R> {
     pub params: P,
     pub results: R,
-    /// The capabilities that the results name.
-    pub table: Table,
     alloc: Global,
     of: &'c MethodCall,
     /// The imports of the params that the object keeps.
@@ -35,12 +34,11 @@ impl<'c, P, R> ServiceCall<'c, P, R> {
         ensures params { result.params ≡ params }
         ensures results { result.results ≡ results }
         ensures call { result.of.now ≡ of.now }
-        ensures nothing { (result.table ≡ []) × (result.keeps.items ≡ []) × (result.is_later ≡ false) }
+        ensures nothing { (result.keeps.items ≡ []) × (result.is_later ≡ false) }
     {
         ServiceCall {
             params,
             results,
-            table: Table::new(alloc),
             alloc,
             of,
             keeps: Vec::new(alloc),
@@ -60,7 +58,7 @@ impl<'c, P, R> ServiceCall<'c, P, R> {
     pub fn keep(&mut self, target: &CallTarget) -> Result<(), AllocError>
         ensures kept { OnOk result (self.new.keeps.items ≡ with_import (import_of target.now) self.old.keeps.items) }
         ensures left { OnErr result (self.new.keeps.items ≡ self.old.keeps.items) }
-        ensures parts { (self.new.params ≡ self.old.params) × (self.new.results ≡ self.old.results) × (self.new.table ≡ self.old.table) }
+        ensures parts { (self.new.params ≡ self.old.params) × (self.new.results ≡ self.old.results) }
         ensures call { (self.new.of.now ≡ self.old.of.now) × (self.new.is_later ≡ self.old.is_later) }
     {
         if let Some(import) = target.import() {
@@ -75,7 +73,7 @@ impl<'c, P, R> ServiceCall<'c, P, R> {
         ensures given_up { IfOk result (λ call. call.gives_up ≡ given_up self.old.keeps.items self.old.of.now.request.caps) }
         ensures later { OnOk result (self.new.is_later ≡ true) }
         ensures left { OnErr result (self.new.is_later ≡ self.old.is_later) }
-        ensures parts { (self.new.params ≡ self.old.params) × (self.new.results ≡ self.old.results) × (self.new.table ≡ self.old.table) }
+        ensures parts { (self.new.params ≡ self.old.params) × (self.new.results ≡ self.old.results) }
         ensures call { (self.new.of.now ≡ self.old.of.now) × (self.new.keeps.items ≡ self.old.keeps.items) }
     {
         let keeps = Ids::new(Vec::from_slice(self.alloc, self.keeps.as_slice())?);
@@ -85,23 +83,23 @@ impl<'c, P, R> ServiceCall<'c, P, R> {
     }
 }
 
-impl<P: Drop, R: Results> ServiceCall<'_, P, R> {
+impl<P: Drop, R: ServiceResults> ServiceCall<'_, P, R> {
     /// What goes to the peer for this call, where its method returned this. `Err`: memory ran out.
     pub fn reply(self, call: &MethodCall, done: MethodResult) -> Result<Reply, AllocError>
-        ensures { IfOk result (λ reply. reply_for R.content call.now.request.caps self.entry done ≡ Some reply) }
+        ensures { IfOk result (λ reply. reply_for R.content R.names call.now.request.caps self.entry done ≡ Some reply) }
     {
         let ServiceCall {
             params,
             results,
-            table,
             alloc,
             of: _,
             keeps,
             is_later,
         } = self;
         drop(params);
+        let (content, table) = results.into_parts(alloc);
         let answer = Answer::Now {
-            results,
+            results: Content(content),
             caps: table.into_caps(),
             keeps: Ids::new(keeps),
         };

@@ -4,9 +4,10 @@ ghost use Rattle.std.specs.Prelude.{◌≡◌, Some, IfOk};
 ghost use Rattle.cp_refs.specs.declared.outcome.Outcome.TheVariants as outcomes;
 ghost use Rattle.cp_services.specs.Calls.{failure_of};
 
+use crate::results::{Content, ServiceResults};
 use cp_refs::Outcome;
 use cp_servants::Settled;
-use cp_stubs::{MethodFault, Results, Table, results as outcome_of};
+use cp_stubs::{MethodFault, results as outcome_of};
 use cp_vat_machine::Ids;
 use std::alloc::{AllocError, Global};
 
@@ -21,11 +22,12 @@ pub struct LaterCall {
 
 impl LaterCall {
     /// It comes to these results.
-    pub fn answer<R: Results>(self, results: R, table: Table) -> Settled
-        ensures { result ≡ record { ticket = self.ticket; outcome = outcomes.Results (R.content results) table; gives_up = self.gives_up } }
+    pub fn answer<R: ServiceResults>(self, alloc: Global, results: R) -> Settled
+        ensures { result ≡ record { ticket = self.ticket; outcome = outcomes.Results (R.content results) (R.names results); gives_up = self.gives_up } }
     {
         let LaterCall { ticket, gives_up } = self;
-        let outcome = outcome_of(results, table);
+        let (content, table) = results.into_parts(alloc);
+        let outcome = outcome_of(Content(content), table);
         Settled {
             ticket,
             outcome,

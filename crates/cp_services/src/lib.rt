@@ -3,10 +3,19 @@
 
 mod call;
 mod later;
+mod lists;
+mod numbers;
 mod object;
 mod resolving;
+mod results;
 
 pub use call::{MethodResult, ServiceCall};
 pub use later::LaterCall;
+pub use lists::{CapListBuilder, DataListBuilder, ListValue, ListsBuilder, TextListBuilder};
+pub use numbers::{
+    Enumerant, enumerants_of, float32_of, float64_of, signed8_of, signed16_of, signed32_of,
+    signed64_of,
+};
 pub use object::ServiceObject;
 pub use resolving::fail;
+pub use results::{NamedResults, ServiceResults};

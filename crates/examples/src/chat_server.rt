@@ -83,8 +83,7 @@ impl ChatServer for Chat {
         };
         let member = here.make(Served::Second(MemberServant { object }))?;
         let member = MemberClient::new(here.alloc(), member);
-        call.results.set_member_client(&mut call.table, member)?;
-        Ok(())
+        Ok(call.results.set_member(member)?)
     }
 }
 

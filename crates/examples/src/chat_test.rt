@@ -9,6 +9,7 @@ use jamdrosek::session::{Session, SessionLimits, SessionOptions};
 use jamdrosek::{Limits, Mode};
 use std::alloc::Global;
 use std::cell::RefCell;
+use std::io::{Read, Write};
 use std::rc::Rc;
 
 /// The objects of a client: what hears.
@@ -102,9 +103,9 @@ fn copied(alloc: Global, heard: &Rc<RefCell<String>>) -> anyhow::Result<String> 
 }
 
 /// Joins a chat, says this if it is anything, and hears the others until the chat ends.
-fn join(
+fn join<R: Read + Drop, W: Write + Drop, H: Hall>(
     alloc: Global,
-    client: &mut Client<&[u8], Vec<u8>, Family<Hearing>>,
+    client: &mut Client<R, W, H>,
     listener: ListenerClient,
     name: &str,
     text: Option<&str>,

@@ -2,7 +2,7 @@
 
 use jamdrosek::client::{Client, Question};
 use jamdrosek::interfaces::{MethodResult, ServiceObject};
-use jamdrosek::server::{Family, Here};
+use jamdrosek::server::{Family, Hall, Here};
 use jamdrosek::{Limits, Mode};
 use notebook::{NotebookClient, WatcherAddedCall, WatcherClient, WatcherServant, WatcherServer};
 use std::alloc::Global;
@@ -42,9 +42,9 @@ pub fn talk<R: Read + Drop, W: Write + Drop>(
 }
 
 /// Watches, reads the page of the next note, adds that note, and gives the page up, in one round trip.
-fn add_and_read<R: Read + Drop, W: Write + Drop>(
+fn add_and_read<R: Read + Drop, W: Write + Drop, H: Hall>(
     alloc: Global,
-    client: &mut Client<R, W, Family<Served>>,
+    client: &mut Client<R, W, H>,
     watcher: WatcherClient,
     heard: &Rc<RefCell<String>>,
 ) -> anyhow::Result<String> {

@@ -19,6 +19,9 @@ use std::rc::Rc;
 pub type Served = Any2<NotebookServant<Notebook>, PageServant<Page>>;
 
 /// What all clients share.
+pub type Shared = Rc<RefCell<Shelf>>;
+
+/// The notes, and who is told of them.
 #[derive(Drop)]
 pub struct Shelf {
     notes: Vec<String>,
@@ -47,17 +50,13 @@ pub fn run(rt: &HostRuntime) -> anyhow::Result<()> {
 }
 
 /// A shelf without notes.
-pub fn new_shelf(alloc: Global) -> anyhow::Result<Rc<RefCell<Shelf>>> {
+pub fn new_shelf(alloc: Global) -> anyhow::Result<Shared> {
     let (notes, wakers) = (Vec::new(alloc), BTreeMap::new(alloc));
     Ok(Rc::new(alloc, RefCell::new(Shelf { notes, wakers }))?)
 }
 
 /// The objects of the connection of this number: a notebook at first.
-pub fn new_objects(
-    alloc: Global,
-    shelf: &Rc<RefCell<Shelf>>,
-    number: u64,
-) -> anyhow::Result<Family<Served>> {
+pub fn new_objects(alloc: Global, shelf: &Shared, number: u64) -> anyhow::Result<Family<Served>> {
     let object = Notebook {
         shelf: shelf.clone()?,
         number,
@@ -72,7 +71,7 @@ pub fn new_objects(
 /// The notes, as one client has them.
 #[derive(Drop)]
 pub struct Notebook {
-    shelf: Rc<RefCell<Shelf>>,
+    shelf: Shared,
     number: u64,
     watchers: Vec<Watching>,
     /// The pages that are promised, by the numbers of their notes.
@@ -124,8 +123,7 @@ impl NotebookServer for Notebook {
 
     fn open_(&mut self, call: &mut NotebookOpenCall<'_>, here: &mut Here<Served>) -> MethodResult {
         let page = new_page(&self.shelf, call.params.id() as usize, here)?;
-        call.results.set_page_client(&mut call.table, page)?;
-        Ok(())
+        Ok(call.results.set_page(page)?)
     }
 
     fn watch(&mut self, call: &mut NotebookWatchCall<'_>, here: &mut Here<Served>) -> MethodResult {
@@ -139,7 +137,7 @@ impl NotebookServer for Notebook {
     fn next(&mut self, call: &mut NotebookNextCall<'_>, here: &mut Here<Served>) -> MethodResult {
         let resolver = PageResolver::new(here)?;
         let page = resolver.client(here.alloc());
-        call.results.set_page_client(&mut call.table, page)?;
+        call.results.set_page(page)?;
         let id = self.shelf.try_borrow()?.notes.len();
         self.awaited.push((id, resolver))?;
         Ok(())
@@ -147,11 +145,7 @@ impl NotebookServer for Notebook {
 }
 
 /// Makes an object for a note.
-fn new_page(
-    shelf: &Rc<RefCell<Shelf>>,
-    id: usize,
-    here: &mut Here<Served>,
-) -> Result<PageClient, MethodFault> {
+fn new_page(shelf: &Shared, id: usize, here: &mut Here<Served>) -> Result<PageClient, MethodFault> {
     let object = Page {
         shelf: shelf.clone()?,
         id,
@@ -163,7 +157,7 @@ fn new_page(
 /// A note, as an object.
 #[derive(Drop)]
 pub struct Page {
-    shelf: Rc<RefCell<Shelf>>,
+    shelf: Shared,
     id: usize,
 }
 
@@ -177,7 +171,6 @@ impl PageServer for Page {
         let Some(note) = shelf.notes.get(self.id) else {
             return Err(MethodFault::from(failed(here.alloc(), "there is no such note")?));
         };
-        call.results.set_text(here.alloc(), note.as_str())?;
-        Ok(())
+        Ok(call.results.set_text(here.alloc(), note.as_str())?)
     }
 }

@@ -1,7 +1,103 @@
-//! Cap'n Proto messages and two-party RPC: parse messages, or view them without copying, write them, serve objects, call objects,
-//! and run one end of a connection. List `jamdrosek` in crates.txt; it re-exports the proved crates below.
+//! Cap'n Proto messages and two-party RPC: serve objects, call objects, read messages in place or whole, write them, and run one end of
+//! a connection. List `jamdrosek` in crates.txt; it re-exports the proved crates below.
 //!
 //! The listings are cut from the programs that they name. `whole` programs can be pasted as a `src/main.rt`.
+//!
+//! # Serve objects
+//!
+//! `./capnpc_rattle X.capnp --services` generates a trait for each interface. Your object implements it (module `interfaces`). A method
+//! gets its call, with the params to read and the results to fill in:
+//!
+//! ```rust crates/examples/src/notebook_server.rt
+//! fn add(&mut self, call: &mut NotebookAddCall<'_>, here: &mut Here<Served>) -> MethodResult {
+//!     let text = call.params.text()?.text(here.alloc())?;
+//!     let mut shelf = self.shelf.try_borrow_mut()?;
+//!     call.results.set_id(u32::try_from(shelf.notes.len())?);
+//!     shelf.notes.push(text)?;
+//! ```
+//!
+//! A `Host` serves many connections in one thread, over TCP or a Unix socket. Give each one its objects when it has come:
+//!
+//! ```rust crates/examples/src/notebook_server.rt
+//! let mut host = Host::new(rt, HostPlan::standard(), listener)?;
+//! ..
+//! for _ in 0..u64::MAX {
+//!     match host.next(rt)? {
+//!         Some(News::Came { number, .. }) => {
+//!             host.admit(new_objects(rt.alloc(), &shelf, number)?)?;
+//!         }
+//!         Some(News::Ended { number, .. }) => {
+//!             let mut shelf = shelf.try_borrow_mut()?;
+//!             let _ = shelf.wakers.remove(&number);
+//!         }
+//!         Some(_) => {}
+//!         None => break,
+//!     }
+//! }
+//! ```
+//!
+//! # Call an object
+//!
+//! A `Client` talks over a reader and a writer; for a `TcpStream`, pass `&stream` as both. The plugin generates a typed client for each
+//! interface, whose methods make the calls. Results can be called before they arrive (pipelining): here the page of a note that isn't there
+//! yet is read, in one round trip.
+//!
+//! ```rust crates/examples/src/notebook_client.rt
+//! let notebook = NotebookClient::new(alloc, client.bootstrap()?.cap(alloc));
+//! ..
+//! let next = notebook.next(client)?;
+//! let read = next.page()?.read(client)?;
+//! notebook.add(client, "hello")?;
+//! ..
+//! let came = client.results(read.question())?;
+//! let text = read.results(&came)?.text()?.text(alloc)?;
+//! ```
+//!
+//! A method takes its params as arguments if they are at most four, and numbers, texts or capabilities. Else it takes a builder of them:
+//! `NotebookAddParamsBuilder::new(alloc)?`, and `set_text` on that.
+//!
+//! # Objects made in calls
+//!
+//! A method also gets a `Here`, by which it makes other objects. What a call made is dropped once its client dropped it:
+//!
+//! ```rust crates/examples/src/notebook_server.rt
+//! let mut objects = Family::new(alloc);
+//! objects.add(Served::First(NotebookServant { object }))?;
+//! ..
+//! fn open_(&mut self, call: &mut NotebookOpenCall<'_>, here: &mut Here<Served>) -> MethodResult {
+//!     let page = new_page(&self.shelf, call.params.id() as usize, here)?;
+//!     Ok(call.results.set_page(page)?)
+//! }
+//! ```
+//!
+//! An object can promise another one, and say later which it is. Calls of it wait, in order:
+//!
+//! ```rust crates/examples/src/notebook_server.rt
+//! let resolver = PageResolver::new(here)?;
+//! let page = resolver.client(here.alloc());
+//! call.results.set_page(page)?;
+//! ```
+//!
+//! # Be called back
+//!
+//! To be called back, make the client with a `Family` of your objects. They answer while the client waits:
+//!
+//! ```rust crates/examples/src/notebook_client.rt
+//! let mut objects = Family::new(alloc);
+//! let watcher = WatcherClient::new(alloc, objects.add(WatcherServant { object })?);
+//! ..
+//! let mut client = Client::with_family(alloc, from, to, Mode::Plain, limits, objects);
+//! ..
+//! notebook.watch(client, watcher)?;
+//! ```
+//!
+//! An object calls back by `ServiceObject::ask`, at a `Host` or at a client.
+//!
+//! # Send a stream of calls
+//!
+//! For `-> stream` methods, a `Stream` keeps up to a window of calls in flight: `Stream::new(alloc, 16)`. If the window is full,
+//! `stream.send(&mut client, &target, request)` waits for the oldest call, and returns its error if it failed.
+//! `stream.end(&mut client)` waits for the rest.
 //!
 //! # Read a stream of messages
 //!
@@ -98,10 +194,14 @@
 //! Ok(write_message(alloc, &mut out, &message, Mode::Packed, limits)?)
 //! ```
 //!
-//! # Serve one connection
+//! # Below
 //!
-//! `./capnpc_rattle X.capnp --interfaces` generates a trait for each interface; implement it (module `interfaces`). `serve` takes a
-//! connection's reader and writer, and the objects that its peer may call:
+//! The rest stands below hosts and clients: one connection at a time, objects without a schema, and event loops of your own.
+//!
+//! ## Serve one connection
+//!
+//! `serve` takes one connection's reader and writer, and the objects that its peer may call. Their list is fixed, so `--interfaces` in place
+//! of `--services` generates their traits:
 //!
 //! ```rust crates/examples/src/serve.rt
 //! let texts = BTreeMap::new(alloc);
@@ -126,32 +226,7 @@
 //! }
 //! ```
 //!
-//! # Serve many connections
-//!
-//! A `Host` serves many connections in one thread, over TCP or a Unix socket. Give each one its objects when it has come:
-//!
-//! ```rust crates/examples/src/notebook_server.rt
-//! let mut host = Host::new(rt, HostPlan::standard(), listener)?;
-//! ..
-//! for _ in 0..u64::MAX {
-//!     match host.next(rt)? {
-//!         Some(News::Came { number, .. }) => {
-//!             host.admit(new_objects(rt.alloc(), &shelf, number)?)?;
-//!         }
-//!         Some(News::Ended { number, .. }) => {
-//!             let mut shelf = shelf.try_borrow_mut()?;
-//!             let _ = shelf.wakers.remove(&number);
-//!         }
-//!         Some(_) => {}
-//!         None => break,
-//!     }
-//! }
-//! ```
-//!
-//! # Call an object
-//!
-//! A `Client` talks over a reader and a writer; for a `TcpStream`, pass `&stream` as both. The plugin generates a typed client for each
-//! interface. This puts a text into the store and gets it back, in one round trip:
+//! A client over that code puts a text into the store and gets it back, in one round trip:
 //!
 //! ```rust crates/examples/src/call.rt whole
 //! #![tactic(auto)]
@@ -203,59 +278,11 @@
 //! }
 //! ```
 //!
-//! Results can be called before they arrive (pipelining): `directory.find(client, params)?.person()?.friend()?` is a client for the friend
-//! of a person who hasn't been found yet.
+
 //!
-//! # Send a stream of calls
+//! With objects that make none (`--interfaces`, or `Box<dyn Servant>`) a client is made by `Client::with_objects`, and `export` adds one.
 //!
-//! For `-> stream` methods, a `Stream` keeps up to a window of calls in flight: `Stream::new(alloc, 16)`. If the window is full,
-//! `stream.send(&mut client, &target, request)` waits for the oldest call, and returns its error if it failed.
-//! `stream.end(&mut client)` waits for the rest.
-//!
-//! # Be called back
-//!
-//! To be called back, make the client with a `Family` of your objects. They answer while the client waits:
-//!
-//! ```rust crates/examples/src/notebook_client.rt
-//! let mut objects = Family::new(alloc);
-//! let watcher = WatcherClient::new(alloc, objects.add(WatcherServant { object })?);
-//! ..
-//! let mut client = Client::with_family(alloc, from, to, Mode::Plain, limits, objects);
-//! ..
-//! notebook.watch(client, watcher)?;
-//! ```
-//!
-//! With objects that make none (`--interfaces`, or `Box<dyn Servant>`) it is `Client::with_objects`, and `export` adds an object.
-//!
-//! An object calls back by `ServiceObject::ask`, or `ServerObject::ask`, at a `Host` or at a client.
-//!
-//! # Objects made in calls
-//!
-//! With `--services` in place of `--interfaces` an object's method gets its call, whose results it writes, and a `Here`, by which it makes
-//! other objects. What a call made is dropped once its client dropped it:
-//!
-//! ```rust crates/examples/src/notebook_server.rt
-//! let mut objects = Family::new(alloc);
-//! objects.add(Served::First(NotebookServant { object }))?;
-//! ..
-//! fn open_(&mut self, call: &mut NotebookOpenCall<'_>, here: &mut Here<Served>) -> MethodResult {
-//!     let page = new_page(&self.shelf, call.params.id() as usize, here)?;
-//!     call.results.set_page_client(&mut call.table, page)?;
-//!     Ok(())
-//! }
-//! ```
-//!
-//! Where the params of a method are numbers, texts and capabilities, a client's method takes these: `notebook.add(client, "hello")?`.
-//!
-//! An object can promise another one, and say later which it is. Calls of it wait, in order:
-//!
-//! ```rust crates/examples/src/notebook_server.rt
-//! let resolver = PageResolver::new(here)?;
-//! let page = resolver.client(here.alloc());
-//! call.results.set_page_client(&mut call.table, page)?;
-//! ```
-//!
-//! # Without a schema
+//! ## Without a schema
 //!
 //! An object may be a `Servant` itself, which takes requests as they come. A `Content` is the struct of its results, or of a call's params.
 //! Each builder method adds one data word or one pointer (text, data, capability, ..):
@@ -280,12 +307,12 @@
 //! `word_in`, `text_in` and `data_in` read the fields of a request's content, or of `results_of` an outcome. `Outcome::at` is the
 //! capability at a path of its pointers. `Question::at` is one that hasn't arrived yet.
 //!
-//! # Filter a connection
+//! ## Filter a connection
 //!
 //! A `Relay` filters one direction of a connection (use two). `feed` it bytes as they arrive. It outputs each complete message that is
 //! valid, and your `Visitor` may reject some.
 //!
-//! # Your own event loop
+//! ## Your own event loop
 //!
 //! A `Connection` is one end with its frames, and no socket. `receive` takes bytes, `outgoing` has those to write, and `next` returns what
 //! happened:

@@ -1,4 +1,4 @@
-//! `notebook` of notebook.capnp.
+//! `notebook` of notebook.capnp, made by capnpc_rattle.
 
 ghost use Rattle.std.specs.Prelude.{◌≡◌, IfOk, OnOk, OnErr, []};
 ghost use Rattle.cp_builder.specs.Drafts.{blank, text_tree, with_pointer, with_uint};
@@ -26,7 +26,7 @@ use cp_makers::{Here, Maker, Resolver};
 use cp_refs::{Cap, Outcome, Request};
 use cp_servants::{Ask, Reply, Settled};
 use cp_services::{MethodResult, ServiceCall, ServiceObject, fail};
-use cp_stubs::{CallTarget, Caller, MethodCall, MethodFault, Table, refuse};
+use cp_stubs::{CallTarget, Caller, MethodCall, MethodFault, refuse};
 use std::alloc::{AllocError, Global};
 
 /// `interface Notebook`.
@@ -113,13 +113,13 @@ impl NotebookClient {
         Ok(self.target.ask(request, mark)?)
     }
 
-    /// A call of `watch @2`, with the table of the capabilities that its params name.
-    pub fn watch_request(&self, params: NotebookWatchParamsBuilder, table: Table) -> Request
-        ensures { result ≡ request_of 0x845bdbd96c36d051 2 params.body table }
+    /// A call of `watch @2`.
+    pub fn watch_request(&self, params: NotebookWatchParamsBuilder) -> Request
+        ensures { result ≡ request_of 0x845bdbd96c36d051 2 params.body params.table }
     {
         let content = params.body.into_whole();
         self.target
-            .request_naming(0x845bdbd96c36d051, 2, content, table)
+            .request_naming(0x845bdbd96c36d051, 2, content, params.table)
     }
 
     /// Tells a watcher of each note that is added from now on.
@@ -130,8 +130,8 @@ impl NotebookClient {
     ) -> Result<NotebookWatchResultsPromise, C::Fault>
         ensures { MakesOf (λ p. p.at) C.asks caller.old self.now.target 0x845bdbd96c36d051 2 (with_pointer (blank 0 1) 0 (pointer_naming [] watcher.target)) (with_named [] watcher.target) result caller.new }
     {
-        let (params, table) = NotebookWatchParamsBuilder::of(self.target.alloc(), watcher)?;
-        let request = self.watch_request(params, table);
+        let params = NotebookWatchParamsBuilder::of(self.target.alloc(), watcher)?;
+        let request = self.watch_request(params);
         Ok(NotebookWatchResultsPromise {
             at: self.target.call(caller, request)?,
         })
@@ -141,8 +141,8 @@ impl NotebookClient {
     pub fn watch_ask(&self, watcher: WatcherClient, mark: u64) -> Result<Ask, DraftFault>
         ensures { IfOk result (λ ask. ask ≡ ask_of self.now.target (request_of 0x845bdbd96c36d051 2 (with_pointer (blank 0 1) 0 (pointer_naming [] watcher.target)) (with_named [] watcher.target)) mark) }
     {
-        let (params, table) = NotebookWatchParamsBuilder::of(self.target.alloc(), watcher)?;
-        let request = self.watch_request(params, table);
+        let params = NotebookWatchParamsBuilder::of(self.target.alloc(), watcher)?;
+        let request = self.watch_request(params);
         Ok(self.target.ask(request, mark)?)
     }
 
@@ -210,7 +210,7 @@ pub trait NotebookServer: ServiceObject {
 
     /// Adds a note, and tells all watchers of it.
     fn add(&mut self, call: &mut NotebookAddCall<'_>, here: &mut Here<Self::Makes>) -> MethodResult
-        ensures { Answers (λ p. p.body) (λ d. d.body) notebook_kind.on_add (at self.old here.old) call.old call.new result (at self.new here.new) };
+        ensures { Answers (λ p. p.body) (λ d. d.body) (λ d. []) notebook_kind.on_add (at self.old here.old) call.old call.new result (at self.new here.new) };
 
     /// Makes an object for a note. It goes once its client drops it.
     fn open_(
@@ -218,7 +218,7 @@ pub trait NotebookServer: ServiceObject {
         call: &mut NotebookOpenCall<'_>,
         here: &mut Here<Self::Makes>,
     ) -> MethodResult
-        ensures { Answers (λ p. p.body) (λ d. d.body) notebook_kind.on_open (at self.old here.old) call.old call.new result (at self.new here.new) };
+        ensures { Answers (λ p. p.body) (λ d. d.body) (λ d. d.table) notebook_kind.on_open (at self.old here.old) call.old call.new result (at self.new here.new) };
 
     /// Tells a watcher of each note that is added from now on.
     fn watch(
@@ -226,7 +226,7 @@ pub trait NotebookServer: ServiceObject {
         call: &mut NotebookWatchCall<'_>,
         here: &mut Here<Self::Makes>,
     ) -> MethodResult
-        ensures { Answers (λ p. p.body) (λ d. d.body) notebook_kind.on_watch (at self.old here.old) call.old call.new result (at self.new here.new) };
+        ensures { Answers (λ p. p.body) (λ d. d.body) (λ d. []) notebook_kind.on_watch (at self.old here.old) call.old call.new result (at self.new here.new) };
 
     /// The page of the note that is added next. Calls of it wait for that note.
     fn next(
@@ -234,7 +234,7 @@ pub trait NotebookServer: ServiceObject {
         call: &mut NotebookNextCall<'_>,
         here: &mut Here<Self::Makes>,
     ) -> MethodResult
-        ensures { Answers (λ p. p.body) (λ d. d.body) notebook_kind.on_next (at self.old here.old) call.old call.new result (at self.new here.new) };
+        ensures { Answers (λ p. p.body) (λ d. d.body) (λ d. d.table) notebook_kind.on_next (at self.old here.old) call.old call.new result (at self.new here.new) };
 }
 
 /// An object of `interface Notebook`, as a connection serves it.

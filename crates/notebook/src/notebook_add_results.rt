@@ -1,13 +1,14 @@
-//! `notebook_add_results` of notebook.capnp.
+//! `notebook_add_results` of notebook.capnp, made by capnpc_rattle.
 
-ghost use Rattle.std.specs.Prelude.{◌≡◌, IfOk};
+ghost use Rattle.std.specs.Prelude.{◌≡◌, IfOk, []};
 ghost use Rattle.cp_fields.specs.Numbers.{plain};
 ghost use Rattle.cp_fields.specs.Pointers.{Reads, struct_field};
 ghost use Rattle.cp_builder.specs.Drafts.{blank, with_uint};
 
 use cp_builder::StructDraft;
 use cp_fields::{Pointee, StructView, WrongKind};
-use cp_stubs::{Promised, ResultPayload, Results};
+use cp_services::ServiceResults;
+use cp_stubs::{Promised, ResultPayload, Table};
 use cp_tree::Whole;
 use std::alloc::{AllocError, Global};
 
@@ -61,11 +62,13 @@ impl NotebookAddResultsBuilder {
     }
 }
 
-impl Results for NotebookAddResultsBuilder {
+impl ServiceResults for NotebookAddResultsBuilder {
     ghost content = { λ d. d.body };
 
-    fn into_whole(self) -> Whole {
-        self.body.into_whole()
+    ghost names = { λ d. [] };
+
+    fn into_parts(self, alloc: Global) -> (Whole, Table) {
+        (self.body.into_whole(), Table::new(alloc))
     }
 }
 

@@ -1,4 +1,4 @@
-//! `notebook_next_params` of notebook.capnp.
+//! `notebook_next_params` of notebook.capnp, made by capnpc_rattle.
 
 ghost use Rattle.std.specs.Prelude.{◌≡◌, IfOk};
 ghost use Rattle.cp_fields.specs.Pointers.{Reads, struct_field};

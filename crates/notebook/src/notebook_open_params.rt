@@ -1,4 +1,4 @@
-//! `notebook_open_params` of notebook.capnp.
+//! `notebook_open_params` of notebook.capnp, made by capnpc_rattle.
 
 ghost use Rattle.std.specs.Prelude.{◌≡◌, IfOk};
 ghost use Rattle.cp_fields.specs.Numbers.{plain};

@@ -1,10 +1,10 @@
-//! `notebook_watch_params` of notebook.capnp.
+//! `notebook_watch_params` of notebook.capnp, made by capnpc_rattle.
 
 ghost use Rattle.std.specs.Prelude.{◌≡◌, IfOk, OnOk, OnErr, Err, ◌↔◌, ◌≤◌, ◌^◌, length, ◌+◌, []};
 ghost use Rattle.cp_tree.specs.Seen.{pointee_of};
 ghost use Rattle.cp_fields.specs.Pointers.{Reads, cap_field, struct_field};
 ghost use Rattle.cp_builder.specs.declared.fault.DraftFault.TheVariants.{TooLong};
-ghost use Rattle.cp_builder.specs.Drafts.{blank, cap_tree, with_pointer};
+ghost use Rattle.cp_builder.specs.Drafts.{blank, with_pointer};
 ghost use Rattle.cp_servants.specs.Naming.{pointer_naming, with_named};
 ghost use Rattle.cp_stubs.specs.Promises.{Finds};
 
@@ -55,51 +55,43 @@ impl<'a> NotebookWatchParamsReader<'a> {
 pub struct NotebookWatchParamsBuilder {
     /// The struct, by the places of its fields.
     pub body: StructDraft<0, 1>,
+    /// The capabilities that it names.
+    pub table: Table,
 }
 
 impl NotebookWatchParamsBuilder {
     /// A struct whose fields are all as by default.
     pub fn new(alloc: Global) -> Result<NotebookWatchParamsBuilder, AllocError>
-        ensures { IfOk result (λ d. d.body ≡ blank 0 1) }
+        ensures blank { IfOk result (λ d. d.body ≡ blank 0 1) }
+        ensures names { IfOk result (λ d. d.table ≡ []) }
     {
         Ok(NotebookWatchParamsBuilder {
             body: StructDraft::new(alloc)?,
+            table: Table::new(alloc),
         })
     }
 
-    /// A struct of these fields, and the table of the capabilities that they name.
+    /// A struct of these fields.
     pub fn of(
         alloc: Global,
         watcher: WatcherClient,
-    ) -> Result<(NotebookWatchParamsBuilder, Table), DraftFault>
-        ensures made { IfOk result (λ d. d.0.body ≡ (with_pointer (blank 0 1) 0 (pointer_naming [] watcher.target))) }
-        ensures named { IfOk result (λ d. d.1 ≡ (with_named [] watcher.target)) }
+    ) -> Result<NotebookWatchParamsBuilder, DraftFault>
+        ensures made { IfOk result (λ d. d.body ≡ (with_pointer (blank 0 1) 0 (pointer_naming [] watcher.target))) }
+        ensures names { IfOk result (λ d. d.table ≡ (with_named [] watcher.target)) }
     {
-        let mut table = Table::new(alloc);
         let mut made = NotebookWatchParamsBuilder::new(alloc)?;
-        made.set_watcher_client(&mut table, watcher)?;
-        Ok((made, table))
+        made.set_watcher(watcher)?;
+        Ok(made)
     }
 
     /// Sets `watcher`.
-    pub fn set_watcher(&mut self, value: u32)
-        ensures { self.new.body ≡ with_pointer self.old.body 0 (cap_tree value) }
+    pub fn set_watcher(&mut self, value: WatcherClient) -> Result<(), DraftFault>
+        ensures set { OnOk result (self.new.body ≡ with_pointer self.old.body 0 (pointer_naming self.old.table value.target)) }
+        ensures added { OnOk result (self.new.table ≡ with_named self.old.table value.target) }
+        ensures left { OnErr result (self.new ≡ self.old) }
+        ensures full { result ≡ Err TooLong ↔ 2 ^ 32 ≤ length self.old.table + 1 }
     {
-        self.body.set_pointer(0, cp_builder::cap_of(value));
-    }
-
-    /// Sets `watcher`.
-    pub fn set_watcher_client(
-        &mut self,
-        table: &mut Table,
-        value: WatcherClient,
-    ) -> Result<(), DraftFault>
-        ensures set { OnOk result (self.new.body ≡ with_pointer self.old.body 0 (pointer_naming table.old value.target)) }
-        ensures added { OnOk result (table.new ≡ with_named table.old value.target) }
-        ensures left { OnErr result ((self.new ≡ self.old) × (table.new ≡ table.old)) }
-        ensures full { result ≡ Err TooLong ↔ 2 ^ 32 ≤ length table.old + 1 }
-    {
-        let pointer = table.add(value.target.into_cap())?;
+        let pointer = self.table.add(value.target.into_cap())?;
         self.body.set_pointer(0, pointer);
         Ok(())
     }

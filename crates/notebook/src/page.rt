@@ -1,4 +1,4 @@
-//! `page` of notebook.capnp.
+//! `page` of notebook.capnp, made by capnpc_rattle.
 
 ghost use Rattle.std.specs.Prelude.{◌≡◌, IfOk, OnOk, OnErr, []};
 ghost use Rattle.cp_builder.specs.Drafts.{blank};
@@ -80,7 +80,7 @@ pub trait PageServer: ServiceObject {
 
     /// The text of the note.
     fn read(&mut self, call: &mut PageReadCall<'_>, here: &mut Here<Self::Makes>) -> MethodResult
-        ensures { Answers (λ p. p.body) (λ d. d.body) page_kind.on_read (at self.old here.old) call.old call.new result (at self.new here.new) };
+        ensures { Answers (λ p. p.body) (λ d. d.body) (λ d. []) page_kind.on_read (at self.old here.old) call.old call.new result (at self.new here.new) };
 }
 
 /// An object of `interface Page`, as a connection serves it.

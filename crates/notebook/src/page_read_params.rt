@@ -1,4 +1,4 @@
-//! `page_read_params` of notebook.capnp.
+//! `page_read_params` of notebook.capnp, made by capnpc_rattle.
 
 ghost use Rattle.std.specs.Prelude.{◌≡◌, IfOk};
 ghost use Rattle.cp_fields.specs.Pointers.{Reads, struct_field};

@@ -1,4 +1,4 @@
-//! `page_read_results` of notebook.capnp.
+//! `page_read_results` of notebook.capnp, made by capnpc_rattle.
 
 ghost use Rattle.std.specs.Prelude.{◌≡◌, IfOk, OnOk, OnErr, Err, ◌≤◌, ◌^◌, length, ◌+◌, []};
 ghost use Rattle.cp_tree.specs.Seen.{pointee_of};
@@ -8,7 +8,8 @@ ghost use Rattle.cp_builder.specs.Drafts.{blank, text_tree, with_pointer};
 
 use cp_builder::{DraftFault, StructDraft};
 use cp_fields::{Pointee, StructView, TextView, WrongKind};
-use cp_stubs::{Promised, ResultPayload, Results};
+use cp_services::ServiceResults;
+use cp_stubs::{Promised, ResultPayload, Table};
 use cp_tree::Whole;
 use std::alloc::{AllocError, Global};
 
@@ -65,11 +66,13 @@ impl PageReadResultsBuilder {
     }
 }
 
-impl Results for PageReadResultsBuilder {
+impl ServiceResults for PageReadResultsBuilder {
     ghost content = { λ d. d.body };
 
-    fn into_whole(self) -> Whole {
-        self.body.into_whole()
+    ghost names = { λ d. [] };
+
+    fn into_parts(self, alloc: Global) -> (Whole, Table) {
+        (self.body.into_whole(), Table::new(alloc))
     }
 }
 

@@ -1,4 +1,4 @@
-//! `watcher` of notebook.capnp.
+//! `watcher` of notebook.capnp, made by capnpc_rattle.
 
 ghost use Rattle.std.specs.Prelude.{◌≡◌, IfOk, OnOk, OnErr, []};
 ghost use Rattle.cp_builder.specs.Drafts.{blank, text_tree, with_pointer};
@@ -92,7 +92,7 @@ pub trait WatcherServer: ServiceObject {
         call: &mut WatcherAddedCall<'_>,
         here: &mut Here<Self::Makes>,
     ) -> MethodResult
-        ensures { Answers (λ p. p.body) (λ d. d.body) watcher_kind.on_added (at self.old here.old) call.old call.new result (at self.new here.new) };
+        ensures { Answers (λ p. p.body) (λ d. d.body) (λ d. []) watcher_kind.on_added (at self.old here.old) call.old call.new result (at self.new here.new) };
 }
 
 /// An object of `interface Watcher`, as a connection serves it.

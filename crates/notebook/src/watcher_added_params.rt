@@ -1,4 +1,4 @@
-//! `watcher_added_params` of notebook.capnp.
+//! `watcher_added_params` of notebook.capnp, made by capnpc_rattle.
 
 ghost use Rattle.std.specs.Prelude.{◌≡◌, IfOk, OnOk, OnErr, Err, ◌≤◌, ◌^◌, length, ◌+◌, []};
 ghost use Rattle.cp_tree.specs.Seen.{pointee_of};

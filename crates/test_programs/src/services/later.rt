@@ -5,7 +5,7 @@ use cp_makers::{Family, Here, Maker};
 use cp_refs::{Outcome, Request};
 use cp_servants::{Ask, Reply, Settled};
 use cp_services::{LaterCall, MethodResult, ServiceCall};
-use cp_stubs::{MethodCall, MethodFault, StreamResultDraft, Table};
+use cp_stubs::{MethodCall, MethodFault, StreamResultDraft};
 use std::alloc::AllocError;
 use std::process::Abort;
 
@@ -53,7 +53,7 @@ impl Maker for Slow {
             return Ok(Some(call.fail(here.alloc(), MethodFault::InUse)?));
         }
         let results = StreamResultDraft::new(here.alloc())?;
-        Ok(Some(call.answer(results, Table::new(here.alloc()))))
+        Ok(Some(call.answer(here.alloc(), results)))
     }
 
     fn ask(&mut self, _here: &mut Here<Slow>) -> Result<Option<Ask>, AllocError> {
