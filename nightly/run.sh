@@ -6,7 +6,8 @@
 #   part      what it runs                                                     what it takes
 #   look      the first look, in a clean copy                                  half a minute
 #   memory    each test of allocation failures, once for each allocation       the proofs of three crates with their tests, and minutes
-#   moves     100 seeds of 120 random moves of two vats                        a minute
+#   moves     random moves of two vats, of two ends that serve tail calls, and of one with a stranger that makes them    the proof of a
+#             program of its own, and half an hour
 #   peers     sessions of C++ clients, and of peers at fault                   15 seconds
 #   matrix    clients and servers of the C++ and the Rust library, each with each   the proofs of two programs of its own, and some minutes
 #   relay     sessions of C++ clients and of peers at fault through a relay    a minute
@@ -30,6 +31,7 @@
 #   served    20 million messages of random sessions, served in memory         a minute, and half of one with the address sanitizer
 #   pieces    sessions, clients' peers and relayed streams, cut at each byte   some three minutes
 #   starved   1,000 random sessions, once for each of their allocations        five minutes
+#   words     4 million texts, calls by name and guarded streams by libFuzzer  the proof of a library of its own, and ten minutes
 #   embed     programs in C, C++, Python and Rust over libjamdrosek            the proofs of its crates, and a minute
 #   fuzz      10 million frames by libFuzzer, and 600,000 with the sanitizer   two minutes on four processors
 #   night     100 million inputs over all these; INPUTS=N has another number,  a quarter of an hour on four idle processors
@@ -41,7 +43,7 @@
 set -u
 here=$(cd "$(dirname "${BASH_SOURCE[0]}")" && pwd)
 root=$(dirname "$here")
-all=(look memory moves peers matrix relay guard fields schemas texts host load callees faults readme interfaces services notebook chat netns sessions crowd served pieces starved embed fuzz edits plants)
+all=(look memory moves peers matrix relay guard fields schemas texts host load callees faults readme interfaces services notebook chat netns sessions crowd served pieces starved embed fuzz words edits plants)
 alone=night # runs only where it is named: it takes as long as all others
 planted=(cp_words cp_tables cp_writing cp_packed cp_frame cp_messages cp_rpc cp_stream cp_refs cp_vat cp_serve)
 
@@ -71,7 +73,9 @@ memory() {
 }
 
 moves() {
-    library && make -s -C "$here/moves" BUILD="$folder" KIT="$kit" "$folder/play" && "$here/moves/moves.py" "$folder/play" --seeds 100 --moves 120
+    library && make -s -C "$here/moves" BUILD="$folder" KIT="$kit" "$folder/play" && "$here/moves/moves.py" "$folder/play" --seeds 100 --moves 120 &&
+        "$here/moves/ends/build.sh" "$folder" && "$here/moves/moves.py" "$folder/ends plain tails" --seeds 100 --moves 120 &&
+        "$here/moves/moves.py" "$folder/ends tails tails" --seeds 100 --moves 120 && "$here/moves/tails.py" "$folder/ends" --seeds 8400 --moves 120
 }
 
 peers() { built && "$here/peers/run.sh" "$server" "$folder"; }
@@ -111,7 +115,10 @@ callees() { built && "$here/callees/run.sh" "$server" "$folder/callees"; }
 
 tails() { mkdir -p "$folder/tails" && "$here/tails/run.sh" "$folder/tails"; }
 
-faults() { built && "$here/faults/run.sh" "$server" "$folder/faults"; }
+faults() {
+    built && "$here/services/serving/build.sh" "$folder/services" &&
+        SERVING=$folder/services/serving "$here/faults/run.sh" "$server" "$folder/faults"
+}
 
 readme() { rm -rf "$folder/readme" && mkdir "$folder/readme" && "$here/readme/follow.py" "$folder/readme"; }
 
@@ -137,9 +144,23 @@ pieces() {
 
 starved() { fuzzers starved && "$folder/starved" 3 1000; }
 
-one_fuzzer() { # PROGRAM NUMBER RUNS
+one_fuzzer() { # PROGRAM NUMBER RUNS [SEEDS [WORD..]]
     mkdir -p "$folder/$1.$2/kept" && cd "$folder/$1.$2" || return 1
-    nice -n 10 "../$1" -seed="$2" -runs="$3" -max_len=2048 -timeout=300 -keep_seed=1 -reduce_inputs=0 kept ../seeds >log 2>&1
+    nice -n 10 "../$1" -seed="$2" -runs="$3" -max_len=2048 -timeout=300 -keep_seed=1 -reduce_inputs=0 "${@:5}" kept "../${4:-seeds}" >log 2>&1
+}
+
+words() {
+    local number processors started=() failed=0
+    "$here/fuzz/words/build.sh" "$folder" && make -s -C "$here/fuzz" B="$folder" KIT="$kit" "$folder/words" "$folder/words-asan" "$folder/word_seeds" || return 1
+    processors=$(nproc)
+    export FUZZ_DATA=$root/crates/test_interop/data
+    for number in $(seq "$processors"); do
+        (one_fuzzer words "$number" "$((4000000 / processors))" word_seeds -dict=../word_seeds.dict) & started+=($!)
+    done
+    for number in "${started[@]}"; do wait "$number" || failed=1; done
+    one_fuzzer words-asan 1 100000 word_seeds -dict=../word_seeds.dict || failed=1
+    grep -h ' tried, ' "$folder"/words*.*/log
+    return "$failed"
 }
 
 fuzz() {

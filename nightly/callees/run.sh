@@ -1,7 +1,7 @@
 #!/usr/bin/env bash
 # run.sh CLI BUILD [CALLS [SESSIONS]]    `CLI call` to a server by the reference library, over TCP and a Unix socket, to peers at fault,
 #                                        and to `CLI serve`; CALLS calls (60,000 by default) in one go, and SESSIONS connections (10,000)
-#                                        one after another
+#                                        one after another. ANSWERING is the program of answering/, if it is built elsewhere
 set -eu
 cli=$1 build=$2 calls=${3:-60000} sessions=${4:-10000}
 port=17201
@@ -113,12 +113,12 @@ expect 0 "> bootstrap q=0
 question:1 results {(;cap:0) caps[import:1]}" "$cli" call --messages "$at" "i=$desk m=0"
 echo "server: each message"
 
-"$here/answering/build.sh" "$build"
+[ -n "${ANSWERING-}" ] || "$here/answering/build.sh" "$build"
 expect 0 "tells: 0
 gives: 1005
 asks: 505
 becomes: 7
-reflects: 0" "$build/answering" "$port" tells gives asks becomes reflects
+reflects: 0" "${ANSWERING:-$build/answering}" "$port" tells gives asks becomes reflects
 echo "server: objects of the client's, called while it waits"
 
 many "i=$trial m=1" "$calls" "$cli" call "$at"

@@ -46,11 +46,12 @@ ERRORS = {
 INTERRUPTED = {
     "call --timeout": naming(errno.EINTR) + "|nothing came for",
     "relay": naming(errno.EINTR),
+    "relay with rules": naming(errno.EINTR),
 }
 # What says that a reader or a peer is gone: the command ends as docs/PROFILE.md says of that, and it isn't a device's fault.
 GONE = {"write": [errno.EPIPE], "recv": [errno.ECONNRESET], "send": [errno.EPIPE, errno.ECONNRESET]}
 # The sessions whose sockets never wait.
-NEVER_WAIT = ["serve --at-once", "call", "call --timeout", "relay"]
+NEVER_WAIT = ["serve --at-once", "call", "call --timeout", "relay", "relay with rules"]
 ENDING = [signal.SIGTERM, signal.SIGINT, signal.SIGKILL]
 LONG = 65536  # (bytes of output, of which some wait to be written while a pipe is full)
 LINES = 1 << 20  # (the room for the lines of many connections)
@@ -78,7 +79,7 @@ def is_left(name, call, whole, outcome):
         return outcome.status == 141 and not told
     if name.startswith("call"):
         return outcome.status == 1 and told == ["the peer's messages ended"]
-    return name == "relay" and outcome.status == whole.status and not told
+    return name.startswith("relay") and outcome.status == whole.status and not told
 
 
 # Trials. Each is of a session: its name, its script, and its outcome without a fault.

@@ -107,11 +107,13 @@ class Run:
         self.stops, self.options = stops, options
         self.environment = dict(os.environ, COUNT=str(self.count), **fault)
         self.port, self.peers, self.listener, self.process, self.given = next(PORTS), [], None, None, None
+        self.tells_ends = False
 
-    def begin(self, *words, given=None):
-        self.given = given
+    def begin(self, *words, given=None, program=None):
+        """Begins the command, or this program, which tells how each connection ended."""
+        self.given, self.tells_ends = given, program is not None
         streams = dict(stdin=subprocess.DEVNULL if given is None else subprocess.PIPE, stdout=subprocess.PIPE, stderr=subprocess.PIPE)
-        self.process = subprocess.Popen([COMMAND, *map(str, words)], env=self.environment, **streams | self.options)
+        self.process = subprocess.Popen([program or COMMAND, *map(str, words)], env=self.environment, **streams | self.options)
         return self
 
     def pause(self):
@@ -160,8 +162,20 @@ class Run:
     def outcome(self):
         """Waits for its end."""
         out, said = self.process.communicate(self.given, timeout=PATIENCE)
-        lines = self.lines(said.decode(errors="replace"))
-        return Outcome(self.process.returncode, out or b"", lines, self.got(), *map(int, self.count.read_text().split()))
+        lines, status = self.lines(said.decode(errors="replace")), self.process.returncode
+        if self.tells_ends:
+            status, out, lines = self.ends(status, out.decode(), lines)
+        return Outcome(status, out or b"", lines, self.got(), *map(int, self.count.read_text().split()))
+
+    def ends(self, status, out, lines):
+        """The ends of connections, as `serve` tells them: a line of each that isn't served to its end, and the status of the first."""
+        ends = re.findall(r"^(\d+) ended: (.*)$", out, re.MULTILINE)
+        lines = [re.sub("^Error", "device", it) for it in lines] + [f"{end} (peer {number})" for number, end in ends if end != "ended"]
+        if status == 0 and sorted(number for number, _ in ends) != [str(place) for place, _ in enumerate(self.peers, 1)]:
+            lines.append("an end isn't told once")
+        if status in (0, 1) and lines:
+            status = 2 if lines[0].startswith("device") else 1
+        return status, b"", lines
 
     def got(self):
         return [it.got for it in self.peers]

@@ -1,12 +1,12 @@
 #!/usr/bin/env python3
 """Random moves of two vats that are connected, and what must hold of them after each: moves.py PLAY [--moves N] [--seeds N] [--first SEED]
 
-PLAY is the program `play`, which keeps two vats and does what its lines tell (play.cpp). An application at each end
-calls, answers, resolves and gives up what it knows of, and takes in the next message that is on the way. Each call bears
+PLAY is the program `play`, which keeps two vats and does what its lines tell (play.cpp); or `ends KIND KIND`, which keeps two ends of
+connections, that serve tail calls or don't (ends/). Nobody makes tail calls here; tails.py does. An application at each end calls, answers, resolves and gives up what it knows of, and takes in the next message that is on the way. Each call bears
 a number of its own as its interface, by which it is known where it arrives. After each move:
 
 - neither vat was at fault or closed, nor did memory run out;
-- with messages that are read in place, all that was answered and sent is the same;
+- with messages that `play` reads in place, all that was answered and sent is the same;
 - each message that was sent is one that its sender may send, and each export's count is what it is owed: what the
   other end holds of it, what messages on the way name of it, and what those on the way back will lower it by;
 - one export's count and one import's are asked of the vats themselves, on copies;
