@@ -2,7 +2,8 @@
 // Usage: load PORT CONNECTIONS CALLS SILENT PID
 // SILENT more connections are opened first, of which each second one sends half a message. Then each of CONNECTIONS makes its next call
 // when the last one was answered, CALLS in all. PID is the server's. Prints: calls a second, microseconds of the median call and of the 99th
-// in a hundred, and the server's kB before the connections and with them.
+// in a hundred, and the server's kB before the connections and with them. Its own memory counts. Pages of its program don't: the first
+// connections bring them in, and all share them.
 #include "../../nightly/connect.hpp"
 #include <capnp/message.h>
 #include <capnp/rpc.capnp.h>
@@ -87,12 +88,12 @@ struct Caller {
   }
 };
 
-long memory(const std::string& pid) {
+long own_memory(const std::string& pid) {
   long kilobytes = 0;
   char line[256];
   FILE* file = fopen(("/proc/" + pid + "/status").c_str(), "r");
   KJ_REQUIRE(file != nullptr, "no such process");
-  while (fgets(line, sizeof line, file)) sscanf(line, "VmRSS: %ld", &kilobytes);
+  while (fgets(line, sizeof line, file)) sscanf(line, "RssAnon: %ld", &kilobytes);
   fclose(file);
   return kilobytes;
 }
@@ -106,7 +107,7 @@ int main(int argc, char** argv) {
   size_t count = atol(argv[2]), calls = atol(argv[3]), silent = atol(argv[4]);
   rlimit most{65536, 65536};
   setrlimit(RLIMIT_NOFILE, &most);
-  long before = memory(argv[5]);
+  long before = own_memory(argv[5]);
   Bytes begin, next;
   put(begin, [](rpc::Message::Builder message) { message.initBootstrap().setQuestionId(0); });
   std::vector<int> others;
@@ -133,7 +134,7 @@ int main(int argc, char** argv) {
     callers[i].write_all(begin);
     for (int frames = 0; frames < 3;) frames += callers[i].frames();
   }
-  long with = memory(argv[5]);
+  long with = own_memory(argv[5]);
 
   std::vector<double> took;
   auto start = Clock::now();
