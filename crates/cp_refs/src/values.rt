@@ -8,7 +8,7 @@ use crate::kept_outcome::KeptOutcome;
 use crate::outcome::null_capability;
 use crate::route::{Gate, Route};
 use crate::walk::{Pace, Walk};
-use cp_tables::Entries;
+use cp_tables::{Entries, Placed};
 use std::alloc::{AllocError, AllocFailed, Global};
 use std::collections::btree_map::Iter;
 use std::marker::Model;
@@ -35,7 +35,7 @@ pub struct Values {
     alloc: Global,
     promises: Entries<Option<Cap>>,
     imports: Entries<Option<Cap>>,
-    answers: Entries<Option<KeptOutcome>>,
+    answers: Placed<Option<KeptOutcome>>,
     questions: Entries<QuestionState>,
 }
 
@@ -76,7 +76,7 @@ impl Values {
             alloc,
             promises: Entries::new(alloc),
             imports: Entries::new(alloc),
-            answers: Entries::new(alloc),
+            answers: Placed::new(alloc),
             questions: Entries::new(alloc),
         }
     }
@@ -121,13 +121,6 @@ impl Values {
         ensures { result ≡ map.entries self.now.imports }
     {
         self.imports.iter()
-    }
-
-    /// What each answer came to, with its number, rising.
-    pub fn answers(&self) -> Iter<'_, u32, Option<KeptOutcome>>
-        ensures { result ≡ map.entries self.now.answers }
-    {
-        self.answers.iter()
     }
 
     /// What each question came to, with its number, rising.

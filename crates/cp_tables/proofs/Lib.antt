@@ -1,3 +1,4 @@
 pub mod CountedLemmas
 pub mod ExchangeLemmas
 pub mod TableLemmas
+pub mod PlacedLemmas

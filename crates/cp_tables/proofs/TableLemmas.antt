@@ -1,5 +1,5 @@
 -- Slabs and ordered maps, seen as finite maps.
-use Rattle.std.proofs.Common.{◌≡◌, ◌≢◌, ◌⊎◌, Less, IsSome, IfSome, inl, inr, MutBor, ℕ, zero, suc, ◌+◌, ◌<◌, ◌≤◌, List, [], ◌∷◌, Option, Some, None, Bool, true, false, cond, get_or, is_some, length, true≢false, refl, sym, ap, ◌∙◌, arith}
+use Rattle.std.proofs.Common.{◌≡◌, ◌≢◌, ◌⊎◌, Less, IsSome, IfSome, inl, inr, MutBor, ℕ, zero, suc, ◌+◌, ◌-◌, ◌<◌, ◌≤◌, List, [], ◌∷◌, Option, Some, None, Bool, true, false, cond, get_or, is_some, length, true≢false, refl, sym, ap, ◌∙◌, arith}
 use Rattle.std.proofs.lemmas.Bool.{cases_eq}
 use Rattle.std.proofs.lemmas.Bool.Decides.{nat_tests}
 use Rattle.std.specs.Ordering.{nat_cmp, eq_by_cmp, is_eq}
@@ -10,7 +10,7 @@ use Rattle.std.specs.List.Sorted.{IsStrictlySortedBy}
 use Rattle.std.specs.Map.{lookup, keys_of}
 use Rattle.std.specs.BTreeMap.{BTreeMap, get_by, is_at, btree_map_len, IsOrdered, Updates}
 use Rattle.std.specs.BTreeMap as tree
-use Rattle.std.specs.FinMap.{find, from_entries, same_map, nat_cmp-IsAntisymmetric, get-from_entries, get-insert, get-remove, len-insert, len-empty, len, insert, remove, put, entries-insert}
+use Rattle.std.specs.FinMap.{find, from_entries, same_map, nat_cmp-IsAntisymmetric, get-from_entries, get-insert, get-remove, len-insert, len-remove, len-empty, len, insert, remove, put, entries-insert}
 use Rattle.std.specs.FinMap as map
 use Rattle.slab.specs.Slab.{Slab, get, entries_from, entries, slab_len, ContainsKey, with_value}
 use Rattle.slab.specs.Slab as slab
@@ -100,6 +100,30 @@ module _ {X : Type 0} where
   pub remove-insert : (m : Table X) (k : ℕ) (v : X) → remove (insert m k v) k ≡ remove m k
   remove-insert m k v = is_remove m _ k (get-remove_same (insert m k v) k) (λ q h. get-remove_other (insert m k v) k q h ∙ get-insert_other m k q v h)
 
+  -- what stood under a number that is put doesn't matter
+  pub insert-remove : (m : Table X) (k : ℕ) (v : X) → insert (remove m k) k v ≡ insert m k v
+  insert-remove m k v = is_insert m _ k v (get-insert_same (remove m k) k v) (λ q h. get-insert_other (remove m k) k q v h ∙ get-remove_other m k q h)
+
+  -- a second write is the one that counts
+  pub insert-insert : (m : Table X) (k : ℕ) (u v : X) → insert (insert m k u) k v ≡ insert m k v
+  insert-insert m k u v = is_insert m _ k v (get-insert_same (insert m k u) k v) (λ q h. get-insert_other (insert m k u) k q v h ∙ get-insert_other m k q u h)
+
+  -- nothing goes where nothing is
+  pub remove-absent : (m : Table X) (k : ℕ) → map.get m k ≡ None → remove m k ≡ m
+  remove-absent m k h = sym (is_remove m m k h (λ q _. refl))
+
+  -- one goes and another comes, in either order
+  pub remove-insert_other : (m : Table X) (k j : ℕ) (v : X) → k ≢ j → remove (insert m k v) j ≡ insert (remove m j) k v
+  remove-insert_other m k j v apart =
+      sym (
+      is_remove (insert m k v) (insert (remove m j) k v) j
+      (get-insert_other (remove m j) k j v (λ e. apart (sym e)) ∙ get-remove_same m j)
+      (λ q h. elim (cases_eq q k) [
+        | inl same ↦ rw (same, get-insert_same (remove m j) k v, get-insert_same m k v) refl
+        | inr other ↦ get-insert_other (remove m j) k q v other ∙ get-remove_other m j q h ∙ sym (get-insert_other m k q v other)
+      ])
+      )
+
   -- the change of an entry that is there
   pub with_change_at : (m : Table X) (k : ℕ) (v : X) (f : X → X) → map.get m k ≡ Some v → insert m k (f v) ≡ with_change m k f
   with_change_at m k v f h = rw h
@@ -156,6 +180,10 @@ module _ {X : Type 0} where
   pub len-seen : (s : Slab X) → len (seen s) ≡ slab_len s
   len-seen s = len-entries_from s.slots 0 ∙ length-entries s
 
+  -- a slab without slots has no entries
+  pub seen-empty : (s : Slab X) → s.slots ≡ [] → seen s ≡ map.empty
+  seen-empty s h = ap (λ slots. from_entries (entries_from 0 slots)) h
+
   -- a slab's new value is a new entry
   pub seen-insert : (old new : Slab X) (k : ℕ) (v : X) → slab.Updates old new k (Some v) → seen new ≡ insert (seen old) k v
   seen-insert old new k v u = is_insert _ _ k v (get-seen new k ∙ u.changed) (λ q h. get-seen new q ∙ u.others q h ∙ sym (get-seen old q))
@@ -163,6 +191,10 @@ module _ {X : Type 0} where
   -- a slab's value that goes is an entry that goes
   pub seen-remove : (old new : Slab X) (k : ℕ) → slab.Updates old new k None → seen new ≡ remove (seen old) k
   seen-remove old new k u = is_remove _ _ k (get-seen new k ∙ u.changed) (λ q h. get-seen new q ∙ u.others q h ∙ sym (get-seen old q))
+
+  -- a slab with the same values has the same entries
+  pub seen-same : (old new : Slab X) → slab.SameValues old new → seen new ≡ seen old
+  seen-same old new same = same_table _ _ (λ q. get-seen new q ∙ same q ∙ sym (get-seen old q))
 
   -- ---- how many entries
   -- to write an entry again adds none
@@ -172,6 +204,22 @@ module _ {X : Type 0} where
   -- a new entry adds one
   pub len-insert_new : (m : Table X) (k : ℕ) (v : X) → map.get m k ≡ None → len (insert m k v) ≡ len m + 1
   len-insert_new m k v h = rw (len-insert nat_cmp_total m k v, h)
+
+  -- a written entry leaves as many as there were
+  pub few-insert_held : (m : Table X) (k n : ℕ) (u v : X) → Some u ≡ map.get m k → len m ≤ n → len (insert m k v) ≤ n
+  few-insert_held m k n u v h few = rw (len-insert_held m k u v (sym h)) few
+
+  -- where there is room for one, a new entry leaves no more than there may be
+  pub few-insert_new : (m : Table X) (k n : ℕ) (v : X) → map.get m k ≡ None → len m ≢ n → len m ≤ n → len (insert m k v) ≤ n
+  few-insert_new m k n v h room few = rw (len-insert_new m k v h) (omega arith)
+
+  -- an entry that goes leaves no more than there were
+  pub few-remove : (m : Table X) (k n : ℕ) → len m ≤ n → len (remove m k) ≤ n
+  few-remove m k n few = rw (len-remove nat_cmp_total m k) (no_more (is_some (map.get m k)))
+    where
+      no_more : (b : Bool) → cond b (len m - 1) (len m) ≤ n
+      no_more true = omega (arith, few)
+      no_more false = few
 
   -- a write to an entry of a slab
   pub seen-with_value : (s : Slab X) (k : ℕ) (v : X) → ContainsKey s k → seen (with_value s k v) ≡ insert (seen s) k v

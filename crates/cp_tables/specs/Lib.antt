@@ -1,3 +1,4 @@
 pub mod Table
 pub mod Exchange
 pub mod Counted
+pub mod Placed

@@ -8,7 +8,7 @@ ghost use Rattle.std.specs.FinMap as map;
 use crate::LIMIT;
 use crate::exchange::{Exchange, Stage};
 use crate::fault::TableFault;
-use crate::keyed::Keyed;
+use crate::placed::Placed;
 use std::alloc::Global;
 use std::marker::Model;
 
@@ -18,7 +18,7 @@ use std::marker::Model;
 /// A number is in use until both the Return and the Finish of its answer were noted.
 #[derive(Drop)]
 pub struct Answers<T> {
-    entries: Keyed<Exchange<T>>,
+    entries: Placed<Exchange<T>>,
 }
 
 impl<T> Model for Answers<T> {
@@ -32,7 +32,12 @@ impl<T> Model for Answers<T> {
 
     ghost coded = { map.code coded_ℕ (exchange_code T.code) };
 
+    ghost use Rattle.std.specs.Prelude.{◌≤◌};
+    ghost use Rattle.cp_tables.specs.declared.TheConstants.{LIMIT};
+
     ghost view = { λ a. a.entries };
+
+    ghost invariant = { λ a. map.len a.entries ≤ LIMIT };
 }
 
 impl<T: Drop> Answers<T> {
@@ -44,7 +49,7 @@ impl<T: Drop> Answers<T> {
         ensures { result ≡ map.empty }
     {
         Answers {
-            entries: Keyed::new(alloc),
+            entries: Placed::new(alloc),
         }
     }
 
@@ -96,17 +101,31 @@ impl<T: Drop> Answers<T> {
         ensures else_opened { map.get self.old id ≡ None → map.len self.old ≢ LIMIT → IsOkUnless result TableFault.OutOfMemory }
         ensures err { OnErr result (self.new ≡ self.old) }
     {
-        // `Taken` is reported before `Full`.
-        if self.entries.contains(id) {
-            return Err(TableFault::Taken);
+        if self.entries.len() == LIMIT {
+            return Err(self.refusal(id, TableFault::Full));
         }
-        self.entries.open(
-            id,
-            Exchange {
-                stage: Stage::Open,
-                kept,
-            },
-        )
+        let entry = Exchange {
+            stage: Stage::Open,
+            kept,
+        };
+        match self.entries.put_new(id, entry) {
+            Ok(()) => Ok(()),
+            Err(back) => {
+                drop(back);
+                Err(self.refusal(id, TableFault::OutOfMemory))
+            }
+        }
+    }
+
+    /// Why an answer doesn't open: `Taken` is reported before any other fault.
+    fn refusal(&self, id: u32, otherwise: TableFault) -> TableFault
+        ensures taken { IsSome (map.get self.now id) → result ≡ TableFault.Taken }
+        ensures free { map.get self.now id ≡ None → result ≡ otherwise }
+    {
+        match self.entries.get(id) {
+            Some(_) => TableFault::Taken,
+            None => otherwise,
+        }
     }
 
     /// Notes that the answer's Return was sent. Where its Finish was noted, its number is free again.

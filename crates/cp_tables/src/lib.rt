@@ -16,6 +16,7 @@ mod exports;
 mod fault;
 mod imports;
 mod keyed;
+mod placed;
 mod questions;
 mod slots;
 
@@ -27,6 +28,7 @@ pub use exchange::{Exchange, Stage};
 pub use exports::Exports;
 pub use fault::TableFault;
 pub use imports::Imports;
+pub use placed::Placed;
 pub use questions::Questions;
 
 /// How many entries a table holds at most.

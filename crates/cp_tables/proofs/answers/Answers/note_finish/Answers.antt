@@ -1,5 +1,6 @@
 use Rattle.std.proofs.lemmas.Result.{err_from_is_err_and}
-use Rattle.cp_tables.proofs.TableLemmas.{remove-insert}
+use Rattle.cp_tables.specs.declared.TheConstants.{LIMIT}
+use Rattle.cp_tables.proofs.TableLemmas.{few-insert_held, few-remove, remove-insert}
 use Rattle.cp_tables.proofs.ExchangeLemmas.{refused_finish, note_refused, note_first}
 use Rattle.cp_tables.proofs.answers.Answers.note_finish.Goals as goal
 
@@ -16,3 +17,12 @@ returns-then-branch-clause-gone g c = λ _. rw (c.remove.ensures.removed, ← c.
 pub returns-else-branch-clause-noted : goal.returns-else-branch-clause-noted
 returns-else-branch-clause-noted g c = λ was.
     rw (← c.self.view_is) (note_first c.self.inside.entries c.args.id c.in-Some.answer.now c.note_finish.new.self _ c.note_finish.ensures.noted c.in-Some.ensures.value (rw (← c.self.view_is) at was))
+
+pub invariant_of-self-in_err-note_finish : goal.invariant_of-self-in_err-note_finish
+invariant_of-self-in_err-note_finish g c = few-insert_held c.self.inside.entries c.args.id LIMIT c.in-Some.answer.now c.note_finish.new.self c.in-Some.ensures.value c.self.invariant
+
+pub invariant_of-self-then-branch : goal.invariant_of-self-then-branch
+invariant_of-self-then-branch g c = rw c.remove.ensures.removed (few-remove _ c.args.id LIMIT (few-insert_held c.self.inside.entries c.args.id LIMIT c.in-Some.answer.now c.note_finish.new.self c.in-Some.ensures.value c.self.invariant))
+
+pub invariant_of-self-else-branch : goal.invariant_of-self-else-branch
+invariant_of-self-else-branch g c = few-insert_held c.self.inside.entries c.args.id LIMIT c.in-Some.answer.now c.note_finish.new.self c.in-Some.ensures.value c.self.invariant
