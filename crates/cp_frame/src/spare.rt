@@ -40,10 +40,16 @@ impl Spare {
         self.words.capacity()
     }
 
-    /// Keeps a list's buffer, without its words, if it has more capacity than what is kept, and no more than may be.
+    /// Keeps a list's buffer, without its words, if it has more capacity than what is kept. Of a larger one than may be kept
+    /// the front stays.
     pub fn keep(&mut self, mut list: Vec<u64>) {
-        if self.words.capacity() < list.capacity() && list.capacity() <= MOST_KEPT {
-            list.clear();
+        if list.capacity().min(MOST_KEPT) <= self.words.capacity() {
+            return;
+        }
+        list.clear();
+        // With its whole buffer given back, the C library gives the pages of a large message back to the system, call by call.
+        list.shrink_to(MOST_KEPT);
+        if list.capacity() <= MOST_KEPT {
             self.words = list;
         }
     }
