@@ -1,9 +1,10 @@
 //! Bytes as hexadecimal digits, many at a time.
 
 use std::alloc::AllocError;
+use std::simd::prelude::*;
 
-/// How many bytes are written at once.
-const BLOCK: usize = 64;
+/// How many words are written at once.
+const BLOCK: usize = 8;
 
 /// How many characters these take at the most: an element of two bytes has four digits and a comma.
 const ROOM: usize = 160;
@@ -17,17 +18,17 @@ pub(crate) fn push_bytes(
     length: usize,
 ) -> Result<(), AllocError> {
     let mut left = length;
-    for (i, block) in words.chunks(BLOCK / 8).enumerate() {
-        let mut bytes = [0u8; BLOCK];
-        for (place, word) in bytes.as_chunks_mut::<8>().0.iter_mut().zip(block) {
-            *place = word.to_le_bytes();
-        }
-        let taken = left.min(BLOCK);
-        left -= taken;
+    for (i, block) in words.chunks(BLOCK).enumerate() {
         let mut characters = [0u8; ROOM];
-        let size = put_elements(&mut characters, &bytes[..taken], width);
+        let each = count_characters(8, width).max(1);
+        for (place, word) in characters.chunks_mut(each).zip(block) {
+            put_word(place, *word, width);
+        }
+        let taken = left.min(8 * BLOCK);
+        left -= taken;
         // No comma stands before the first element.
         let first = if i == 0 && width > 1 { 1 } else { 0 };
+        let size = count_characters(taken, width);
         line.push_str(text_at(&characters, first, size))?;
     }
     Ok(())
@@ -50,30 +51,61 @@ pub(crate) fn push_bits(line: &mut String, words: &[u64], count: u32) -> Result<
     Ok(())
 }
 
-/// Writes elements over the front of a block, a comma before each that has more than a byte: how many characters they take.
-fn put_elements(block: &mut [u8], bytes: &[u8], width: usize) -> usize {
+/// How many characters the elements of so many bytes take, a comma before each that has more than a byte.
+fn count_characters(bytes: usize, width: usize) -> usize {
+    let digits = bytes.saturating_mul(2);
     if width <= 1 {
-        put_digits(block, bytes);
-        return bytes.len().saturating_mul(2);
+        digits
+    } else {
+        digits.saturating_add(bytes / width)
     }
-    let each = width.saturating_mul(2).saturating_add(1);
-    let mut size = 0_usize;
-    for (place, element) in block.chunks_mut(each).zip(bytes.chunks(width)) {
-        if let Some((comma, digits)) = place.split_first_mut() {
-            *comma = b',';
-            put_digits(digits, element);
-        }
-        size = size.saturating_add(each);
-    }
-    size
 }
 
-/// Writes the digits of bytes over the front of a block, which has room for them.
-fn put_digits(block: &mut [u8], bytes: &[u8]) {
-    if let Some(front) = block.get_mut(..bytes.len().saturating_mul(2)) {
-        // It fails at other lengths alone.
-        let _ = hex::encode_to_slice(bytes, front);
+/// Writes a word's elements over the front of a block, which has room for them.
+fn put_word(block: &mut [u8], word: u64, width: usize) {
+    let digits = digits_of(word);
+    if width <= 1 {
+        put_front(block, &digits);
+    } else if width == 8 {
+        put_element(block, &digits);
+    } else {
+        let size = width.saturating_mul(2);
+        for (place, element) in block
+            .chunks_mut(size.saturating_add(1))
+            .zip(digits.chunks(size))
+        {
+            put_element(place, element);
+        }
     }
+}
+
+/// Writes a comma and an element's digits over the front of a block, which has room for them.
+fn put_element(block: &mut [u8], digits: &[u8]) {
+    if let Some((comma, place)) = block.split_first_mut() {
+        *comma = b',';
+        put_front(place, digits);
+    }
+}
+
+/// Writes digits over the front of a block, which has room for them.
+fn put_front(block: &mut [u8], digits: &[u8]) {
+    if let Some(front) = block.get_mut(..digits.len()) {
+        front.copy_from_slice(digits);
+    }
+}
+
+/// The digits of a word's bytes, the lowest byte first.
+fn digits_of(word: u64) -> [u8; 16] {
+    let bytes = u8x8::from_array(word.to_le_bytes());
+    let halves = (bytes >> u8x8::splat(4)).shuffle(
+        bytes,
+        [0, 8, 1, 9, 2, 10, 3, 11, 4, 12, 5, 13, 6, 14, 7, 15],
+    );
+    let halves = halves & u8x16::splat(15);
+    let letters = halves
+        .simd_ge(u8x16::splat(10))
+        .select(u8x16::splat(b'a' - b'0' - 10), u8x16::splat(0));
+    (halves + u8x16::splat(b'0') + letters).to_array()
 }
 
 /// Characters of a block, all of ASCII.
