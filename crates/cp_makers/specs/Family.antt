@@ -1,5 +1,5 @@
 -- The objects of a connection, with those that they make.
-use Rattle.std.specs.Prelude.{◌≡◌, ℕ, ◌+◌, ◌-◌, ◌==◌, ◌&&◌, ◌||◌, Bool, if◌then◌else◌, nat_lt, not, List, [], ◌∷◌, ◌++◌, Option, Some, None, is_some}
+use Rattle.std.specs.Prelude.{◌≡◌, ◌≢◌, ℕ, ◌+◌, ◌-◌, ◌==◌, ◌&&◌, ◌||◌, Bool, if◌then◌else◌, nat_lt, not, List, [], ◌∷◌, ◌++◌, drop, slice_get, Option, Some, None, is_some}
 use Rattle.std.specs.List.{list_any}
 use Rattle.std.specs.Option.{option_map_or}
 use Rattle.std.specs.FinMap.{get, insert, remove, empty, values, entries}
@@ -22,7 +22,7 @@ use Rattle.cp_makers.specs.declared.waker.Waker.{Waker}
 use Rattle.cp_makers.specs.declared.family.Family.{Family}
 use Rattle.cp_makers.specs.Here.{Place, begun, place_of}
 use Rattle.cp_makers.specs.Maker.{MakerKind}
-use Rattle.cp_makers.specs.Members.{earlier, is_later, newborn, one_more}
+use Rattle.cp_makers.specs.Members.{asks_of, earlier, is_later, newborn, to_call}
 use Rattle.cp_makers.specs.Numbers.{Numbers, is_among, is_number, without, without_each}
 use Rattle.cp_makers.specs.Promises.{Promised, named, none_promised, promised_of, promising, resolving, with_outcome, with_request}
 
@@ -125,6 +125,7 @@ module _ {A : Type 0} where
   following number (deeds.WakeAt time) kin =
       record (changing number (λ m. record m { alarm = Some time }) kin) { first_alarm = Some (earlier kin.first_alarm time) }
   following number (deeds.Resolve promise value) kin = promised_so (resolving promise value kin.promised) kin
+  following number (deeds.Call ask) kin = changing number (to_call ask) kin
 
   abbrev pub followed : ℕ → List Deed → Kin A → Kin A
   followed number [] kin = kin
@@ -146,10 +147,14 @@ module _ {A : Type 0} where
   noting number ticket (replies.Now outcome gives_up) kin = changing number (λ m. record m { holds = without_each gives_up m.holds }) kin
   noting number ticket replies.Later kin = record kin { owed = insert kin.owed ticket number }
 
-  -- a call of the object's own is noted, if it makes one
+  -- a call that the object asks for is noted, if it does
   abbrev pub asking : ℕ → Option Ask → Kin A → Kin A
   asking number None kin = kin
-  asking number (Some ask) kin = changing number (λ m. record m { asked = one_more m.asked }) kin
+  asking number (Some ask) kin = changing number (to_call ask) kin
+
+  -- The call that it is to make first is handed out, if there is one, and the others are left.
+  abbrev pub HandsAsk : ℕ → Option Ask → Kin A → Kin A → Type 0
+  HandsAsk number ask old new = (ask ≡ slice_get (asks_of number old.members) 0) × (new ≡ changing number (λ m. record m { asks = drop 1 m.asks }) old)
 
   -- what the object of this number settled is owed no more
   abbrev pub answering : ℕ → Settled → Kin A → Kin A
@@ -253,14 +258,20 @@ module _ {A : Type 0} (kind : MakerKind A A) where
     pub goes_on : GoesOn number object (leaving place (placing number (record before { object = object }) old)) given rest
     pub is : new ≡ settled number rest
 
-  -- It says which call it makes next, which is noted, and what it did beside is done.
-  pub record Asks (number : ℕ) (ask : Option Ask) (old new : Kin A) : Type 0 where
+  -- It is asked for a call, which it is to make before those that it tells meanwhile. What it did beside is done.
+  pub record IsAsked (number : ℕ) (old new : Kin A) : Type 0 where
     pub before : Member A
     pub object : A
     pub place : Place A
+    pub said : Option Ask
     pub was : get old.members number ≡ Some before
-    pub asks : kind.asks before.object (entered number old) ask place object
-    pub is : new ≡ settled number (asking number ask (leaving place (placing number (record before { object = object }) old)))
+    pub asks : kind.asks before.object (entered number old) said place object
+    pub is : new ≡ settled number (asking number said (leaving place (placing number (record before { object = object }) old)))
+
+  -- The next call of the object of this number is the first of those that it is yet to make. Where there is none, it is asked before.
+  pub data Asks (number : ℕ) (ask : Option Ask) (old new : Kin A) : Type 0 where
+    has_one : asks_of number old.members ≢ [] → HandsAsk number ask old new → Asks number ask old new
+    has_none : (mid : Kin A) → asks_of number old.members ≡ [] → IsAsked number old mid → HandsAsk number ask mid new → Asks number ask old new
 
   -- It is told what a call of its own came to, and given the imports of that. It is to be polled, and what it did beside is done.
   pub record Tells (number mark : ℕ) (outcome : Outcome) (old new : Kin A) : Type 0 where

@@ -4,9 +4,10 @@ use Rattle.std.specs.FinMap.{get, len}
 use Rattle.std.specs.FinSet as set
 use Rattle.cp_makers.specs.declared.family.Family.{Family}
 use Rattle.cp_makers.specs.declared.waker.Waker.{Waker}
-use Rattle.cp_makers.specs.Family.{Kin, kin_of, Calls, Polls, Asks, Tells, idle_of, loose_of, losing, held_by, promised_so, waking, woken}
+use Rattle.cp_makers.specs.Family.{Kin, kin_of, Calls, Polls, Asks, Tells, changing, idle_of, loose_of, losing, held_by, promised_so, waking, woken}
 use Rattle.cp_makers.specs.Hall.{HallKind}
 use Rattle.cp_makers.specs.Maker.{MakerKind}
+use Rattle.cp_makers.specs.Members.{without_asks}
 use Rattle.cp_makers.specs.Numbers.{Numbers, IsFirst}
 use Rattle.cp_makers.specs.Promises.{HandsPledge, forgetting, keeping_promise, meant, with_ask, with_outcome}
 
@@ -26,6 +27,7 @@ grown kind = record {
   calls = λ number ticket request reply old new. Calls kind number ticket request reply (kin_of old) (kin_of new);
   polls = λ number given old new. Polls kind number given (kin_of old) (kin_of new);
   asks = λ number ask old new. Asks kind number ask (kin_of old) (kin_of new);
+  drops_asks = λ number old new. kin_of new ≡ changing number without_asks (kin_of old);
   tells = λ number mark outcome old new. Tells kind number mark outcome (kin_of old) (kin_of new);
   is_next = λ from next f. IsFirst from next (kin_of f).awake;
   may_go_on = λ f. IsAwake (kin_of f).awake;

@@ -16,6 +16,7 @@ listed kind = record {
   calls = λ number ticket request reply old new. CallsAt kind number ticket request reply old.items new.items;
   polls = λ number settled old new. PollsAt kind number settled old.items new.items;
   asks = λ number ask old new. AsksAt kind number ask old.items new.items;
+  drops_asks = λ number old new. new ≡ old;
   tells = λ number mark outcome old new. TellsAt kind number mark outcome old.items new.items;
   is_next = λ from next v. IsListed from next v.items;
   may_go_on = λ v. SomeMaySayMore kind v.items;

@@ -6,14 +6,14 @@ ghost use Rattle.cp_vat_machine.specs.InUse.{caps_of};
 ghost use Rattle.cp_servants.specs.declared.servant.Settled.{Settled};
 ghost use Rattle.cp_servants.specs.Outcomes.{named_imports};
 ghost use Rattle.cp_servants.specs.Requests.{request_of};
-ghost use Rattle.cp_makers.specs.Family.{Asks, Calls, Polls, Tells, adding, alone, answering, asking, awoken, followed, following, held_by, joining, kin_of, losing, noting, own_of, placing, resting, settled, waking, with_those_made};
-ghost use Rattle.cp_makers.specs.Members.{earlier, newborn};
+ghost use Rattle.cp_makers.specs.Family.{Asks, Calls, IsAsked, Polls, Tells, adding, alone, answering, asking, awoken, changing, followed, following, held_by, joining, kin_of, losing, noting, own_of, placing, resting, settled, waking, with_those_made};
+ghost use Rattle.cp_makers.specs.Members.{earlier, newborn, without_asks};
 ghost use Rattle.cp_makers.specs.declared.here.Deed.TheVariants as deeds;
 
 use crate::here::{Deed, Here, Newcomer};
 use crate::maker::Maker;
 use crate::member::Member;
-use crate::members::{give_up, keep, let_go, note_ask, set_alarm};
+use crate::members::{add_ask, drop_asks, give_up, has_ask, keep, let_go, next_ask, set_alarm};
 use crate::number_set::NumberSet;
 use crate::owed::Owed;
 use crate::promises::Promises;
@@ -33,7 +33,7 @@ use std::collections::VecDeque;
 /// What the program adds stays. Any other object is dropped once
 ///
 /// - nothing of its connection refers to it: the vat doesn't, and no call of it waits to be taken;
-/// - it owes no answer, and waits for the outcome of no call of its own;
+/// - it owes no answer, and waits for the outcome of no call of its own, made or yet to be made;
 /// - each promise that it made is resolved;
 /// - no object keeps it (`Here::keep`).
 ///
@@ -168,17 +168,16 @@ impl<O: Maker<Makes = O>> Family<O> {
         Ok(given)
     }
 
-    /// The next call of an object.
+    /// The next call of an object: the first that it is yet to make. Where there is none, it is asked before.
     pub(crate) fn ask(&mut self, number: u32) -> Result<Option<Ask>, AllocError>
         requires { IsSome (maps.get self.old.members number) }
         ensures { IfOk result (λ ask. Asks O.makes number ask (kin_of self.old) (kin_of self.new)) }
     {
-        self.here.enter(number);
-        let member = self.members.entry_mut(number);
-        let ask = member.object.ask(&mut self.here)?;
-        self.note_call(number, &ask);
-        self.settle(number)?;
-        Ok(ask)
+        if has_ask(&self.members, number) {
+            return Ok(next_ask(&mut self.members, number));
+        }
+        self.ask_object(number)?;
+        Ok(next_ask(&mut self.members, number))
     }
 
     /// Tells an object what a call of its own came to.
@@ -200,6 +199,13 @@ impl<O: Maker<Makes = O>> Family<O> {
         member.object.told(mark, outcome, &mut self.here)?;
         self.awake.insert(number)?;
         self.settle(number)
+    }
+
+    /// The calls that an object is yet to make aren't made.
+    pub(crate) fn drop_asks(&mut self, number: u32)
+        ensures { kin_of self.new ≡ changing number without_asks (kin_of self.old) }
+    {
+        drop_asks(self.alloc, &mut self.members, number);
     }
 
     /// Has an object polled, if it is there.
@@ -274,13 +280,25 @@ impl<O: Maker<Makes = O>> Family<O> {
         }
     }
 
-    /// Notes a call of an object's own, if it makes one.
-    fn note_call(&mut self, number: u32, ask: &Option<Ask>)
-        ensures { kin_of self.new ≡ asking number ask.now (kin_of self.old) }
+    /// Asks an object for a call, which it is to make before those that it tells meanwhile.
+    fn ask_object(&mut self, number: u32) -> Result<(), AllocError>
+        requires { IsSome (maps.get self.old.members number) }
+        ensures { OnOk result (IsAsked O.makes number (kin_of self.old) (kin_of self.new)) }
     {
-        match ask {
-            Some(_) => note_ask(&mut self.members, number),
-            None => {}
+        self.here.enter(number);
+        let member = self.members.entry_mut(number);
+        let said = member.object.ask(&mut self.here)?;
+        self.note_call(number, said)?;
+        self.settle(number)
+    }
+
+    /// Notes a call that an object asks for, if it does.
+    fn note_call(&mut self, number: u32, said: Option<Ask>) -> Result<(), AllocError>
+        ensures { OnOk result (kin_of self.new ≡ asking number said (kin_of self.old)) }
+    {
+        match said {
+            Some(ask) => add_ask(&mut self.members, number, ask),
+            None => Ok(()),
         }
     }
 
@@ -320,6 +338,7 @@ impl<O: Maker<Makes = O>> Family<O> {
                 Ok(())
             }
             Deed::Resolve(promise, value) => self.promises.resolve(promise, value),
+            Deed::Call(ask) => add_ask(&mut self.members, number, ask),
         }
     }
 

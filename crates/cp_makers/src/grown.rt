@@ -41,6 +41,10 @@ impl<O: Maker<Makes = O>> Hall for Family<O> {
         self.ask(number)
     }
 
+    fn drop_asks(&mut self, number: u32) {
+        Family::drop_asks(self, number);
+    }
+
     fn tell_at(&mut self, number: u32, mark: u64, outcome: Outcome) -> Result<(), AllocError> {
         self.tell(number, mark, outcome)
     }

@@ -46,6 +46,10 @@ pub trait Hall: Drop {
         requires { hall.holds number self.old }
         ensures { IfOk result (λ ask. hall.asks number ask self.old self.new) };
 
+    /// The calls that an object is yet to make aren't made.
+    fn drop_asks(&mut self, number: u32)
+        ensures { hall.drops_asks number self.old self.new };
+
     /// Tells an object what a call of its own came to.
     fn tell_at(&mut self, number: u32, mark: u64, outcome: Outcome) -> Result<(), AllocError>
         requires { hall.holds number self.old }

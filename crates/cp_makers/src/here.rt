@@ -9,6 +9,7 @@ ghost use Rattle.cp_makers.specs.declared.here.Deed.TheVariants as deeds;
 use crate::resolver::Resolver;
 use crate::waker::Waker;
 use cp_refs::Cap;
+use cp_servants::Ask;
 use std::alloc::{AllocError, Global};
 use std::mem;
 
@@ -32,6 +33,8 @@ pub(crate) enum Deed {
     WakeAt(u64),
     /// The promise of this number comes to this.
     Resolve(u32, Cap),
+    /// It makes this call.
+    Call(Ask),
 }
 
 /// Where an object is while it is called, polled, asked or told: what it may do there beside what it answers. `M` is the one type of
@@ -98,6 +101,16 @@ impl<M: Drop> Here<M> {
         ensures err { OnErr result (place_of self.new ≡ place_of self.old) }
     {
         self.note(Deed::Resolve(resolver.number, value))
+    }
+
+    /// Makes a call, as an `.._ask` of a client gives it, once what the object answers went out. Those that it tells so are made in order,
+    /// each once, before it is asked for more (`Maker::ask`). It is told what each came to (`Maker::told`), by the mark, and stays until
+    /// then. Once the connection ended, and where its objects may not call, none is made.
+    pub fn tell(&mut self, ask: Ask) -> Result<(), AllocError>
+        ensures noted { OnOk result (place_of self.new ≡ with_deed (place_of self.old) (deeds.Call ask)) }
+        ensures err { OnErr result (place_of self.new ≡ place_of self.old) }
+    {
+        self.note(Deed::Call(ask))
     }
 
     /// The object itself.

@@ -3,6 +3,7 @@
 
 mod alarms;
 mod any;
+mod ask_queue;
 mod family;
 mod grown;
 mod hall;

@@ -43,6 +43,8 @@ impl<O: Servant> Hall for Vec<O> {
         ask_at(self.as_mut_slice(), number as usize)
     }
 
+    fn drop_asks(&mut self, _number: u32) {}
+
     fn tell_at(&mut self, number: u32, mark: u64, outcome: Outcome) -> Result<(), AllocError> {
         tell_at(self.as_mut_slice(), number as usize, mark, outcome)
     }

@@ -55,7 +55,7 @@ pub trait Maker: Drop {
         false
     }
 
-    /// The next call that the object makes, if it makes one more.
+    /// The next call that the object makes, if it makes one more. It is asked once all that it told (`Here::tell`) is called.
     fn ask(&mut self, here: &mut Here<Self::Makes>) -> Result<Option<Ask>, AllocError>
         ensures { IfOk result (λ ask. makes.asks self.old (place_of here.old) ask (place_of here.new) self.new) };
 

@@ -3,6 +3,7 @@
 ghost use Rattle.std.specs.Prelude.{◌≡◌, [], None};
 ghost use Rattle.cp_makers.specs.Members.{newborn};
 
+use crate::ask_queue::AskQueue;
 use crate::numbers::Numbers;
 use cp_vat_machine::Ids;
 use std::alloc::Global;
@@ -11,8 +12,10 @@ use std::alloc::Global;
 #[derive(Drop)]
 pub(crate) struct Member<O> {
     pub(crate) object: O,
-    /// How many calls it made whose outcome it isn't told yet.
+    /// How many calls it made, or is yet to make, whose outcome it isn't told yet.
     pub(crate) asked: u64,
+    /// The calls that it is yet to make, in order.
+    pub(crate) asks: AskQueue,
     /// The imports that it was given and didn't give up.
     pub(crate) holds: Numbers,
     /// The objects that it keeps.
@@ -29,6 +32,7 @@ impl<O: Drop> Member<O> {
         Member {
             object,
             asked: 0,
+            asks: AskQueue::new(alloc),
             holds: Numbers::new(alloc),
             keeps: Numbers::new(alloc),
             alarm: None,
@@ -42,6 +46,7 @@ impl<O: Drop> Member<O> {
         let Member {
             object,
             asked: _,
+            asks: _,
             holds,
             keeps: _,
             alarm: _,

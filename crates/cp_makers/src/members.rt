@@ -1,13 +1,16 @@
 //! What changes of the objects of a family.
 
-ghost use Rattle.std.specs.Prelude.{◌≡◌, ◌∷◌, ◌++◌, [], OnOk};
+ghost use Rattle.std.specs.Prelude.{◌≡◌, ◌≢◌, ◌∷◌, ◌++◌, [], true, false, OnOk, drop, slice_get};
 ghost use Rattle.cp_tables.specs.Table.{with_change};
-ghost use Rattle.cp_makers.specs.Members.{one_more};
+ghost use Rattle.cp_makers.specs.Members.{asks_of, to_call, without_asks};
 ghost use Rattle.cp_makers.specs.Numbers.{without, without_each};
 
+use crate::ask_queue::AskQueue;
 use crate::member::Member;
+use cp_servants::Ask;
 use cp_tables::Entries;
-use std::alloc::AllocError;
+use std::alloc::{AllocError, Global};
+use std::mem;
 
 /// An object keeps another once more.
 pub(crate) fn keep<O>(
@@ -41,12 +44,56 @@ pub(crate) fn let_go<O>(members: &mut Entries<Member<O>>, number: u32, imports: 
     }
 }
 
-/// An object made a call.
-pub(crate) fn note_ask<O>(members: &mut Entries<Member<O>>, number: u32)
-    ensures { members.new ≡ with_change members.old number (λ m. record m { asked = one_more m.asked }) }
+/// An object is to make one call more.
+pub(crate) fn add_ask<O>(
+    members: &mut Entries<Member<O>>,
+    number: u32,
+    ask: Ask,
+) -> Result<(), AllocError>
+    ensures { OnOk result (members.new ≡ with_change members.old number (to_call ask)) }
+{
+    match members.get_mut(number) {
+        Some(member) => {
+            member.asked = member.asked.saturating_add(1);
+            member.asks.push(ask)
+        }
+        None => {
+            drop(ask);
+            Ok(())
+        }
+    }
+}
+
+/// Whether an object is yet to make a call.
+pub(crate) fn has_ask<O>(members: &Entries<Member<O>>, number: u32) -> bool
+    ensures some { result ≡ true → asks_of number members.now ≢ [] }
+    ensures none { result ≡ false → asks_of number members.now ≡ [] }
+{
+    match members.get(number) {
+        Some(member) => !member.asks.is_empty(),
+        None => false,
+    }
+}
+
+/// Takes out the call that an object is to make first, if there is one.
+pub(crate) fn next_ask<O>(members: &mut Entries<Member<O>>, number: u32) -> Option<Ask>
+    ensures first { result ≡ slice_get (asks_of number members.old) 0 }
+    ensures rest { members.new ≡ with_change members.old number (λ m. record m { asks = drop 1 m.asks }) }
+{
+    match members.get_mut(number) {
+        Some(member) => member.asks.pop(),
+        None => None,
+    }
+}
+
+/// The calls that an object is yet to make aren't made, so it waits for no outcome of these.
+pub(crate) fn drop_asks<O>(alloc: Global, members: &mut Entries<Member<O>>, number: u32)
+    ensures { members.new ≡ with_change members.old number without_asks }
 {
     if let Some(member) = members.get_mut(number) {
-        member.asked = member.asked.saturating_add(1);
+        let asks = mem::replace(&mut member.asks, AskQueue::new(alloc));
+        member.asked = member.asked.saturating_sub(asks.len() as u64);
+        drop(asks);
     }
 }
 

@@ -32,11 +32,12 @@ module _ {H : Type 0} (hall : HallKind H) where
     by_object : Holds (caps_of outcome) old new → hall.tells number mark outcome objects others → Hears number mark outcome old new objects others
     by_none : Lacks number objects → new ≡ old → others ≡ objects → Hears number mark outcome old new objects others
 
-  -- The object of this number says which call it makes next, and did something of promises perhaps. If it isn't asked, it makes none.
+  -- The object of this number says which call it makes next, and did something of promises perhaps. If it isn't asked, it makes none, and none of those that it
+  -- was yet to make.
   pub data NextCall (number : ℕ) (old : Work) (ask : Option Ask) (new : Work) (objects others : H) : Type 0 where
     asks : {between : H} (link : Link) → old.may_call ≡ true → old.link.fault ≡ None → hall.asks number ask objects between
         → KeepsPledges hall old.link link between others → new ≡ record old { link = link } → NextCall number old ask new objects others
-    is_unasked : IsUnasked number old objects → ask ≡ None → new ≡ old → others ≡ objects → NextCall number old ask new objects others
+    is_unasked : IsUnasked number old objects → ask ≡ None → new ≡ old → hall.drops_asks number objects others → NextCall number old ask new objects others
 
   -- A call of the object of this number is made: it is a question, whose outcome the object will be told; or the vat refuses it, and the object is told so; or
   -- the connection had ended.

@@ -68,8 +68,9 @@ use std::mem;
 /// # Objects that call
 ///
 /// Made by `that_call`, it asks each object for the calls that it makes (`Servant::ask`) after each call, poll and outcome
-/// that the object got. What a call came to goes to its object (`Servant::told`), and the question is finished; it is no
-/// notice. Where the vat refuses the call, the object is told of the exception `call refused`.
+/// that the object got. An object of a family may also tell them at once (`Here::tell`): those are made first, in order, each once.
+/// What a call came to goes to its object (`Servant::told`), and the question is finished; it is no notice. Where the vat refuses the
+/// call, the object is told of the exception `call refused`.
 ///
 /// So an object may keep an import that others were given too. Made by `that_call`, it counts the holders of each import:
 /// an object holds one once for each call, and each outcome of its own calls, whose table names it. The import is
@@ -389,7 +390,8 @@ impl Objects {
         Err(AllocError)
     }
 
-    /// The next call of an object: none where objects may not call, and once the connection ended.
+    /// The next call of an object. Where objects may not call, and once the connection ended, it makes none, and none of those that it
+    /// was yet to make.
     fn next_call<H: Hall>(
         &self,
         connection: &mut Connection,
@@ -400,6 +402,8 @@ impl Objects {
         ensures lives { Lives connection.old connection.new }
     {
         if !self.may_call || !objects.has(number) || has_ended(connection) {
+            // Nothing would bound them.
+            objects.drop_asks(number);
             return Ok(None);
         }
         let ask = objects.ask_at(number)?;

@@ -52,7 +52,6 @@ use Rattle.cp_servants.specs.declared.servant.Reply.TheVariants as replies
 use Rattle.cp_servants.specs.declared.servant.Settled.{Settled}
 use Rattle.cp_servants.specs.Outcomes.{bad_outcome, no_such_object}
 use Rattle.cp_servants.specs.Servant.{Kind}
-use Rattle.cp_makers.specs.Hall.{HallKind}
 use Rattle.cp_makers.specs.Listed.{listed}
 use Rattle.cp_objects.specs.declared.asker.Asker.{Asker}
 use Rattle.cp_objects.specs.declared.notice.Notice.{Notice}
@@ -465,13 +464,13 @@ follows_settles {base = base} {w = w} {o = o} h settled gave (rounds.is_awaited 
 
 -- ---- objects that may not call make no calls
 
-module _ {H : Type 0} {hall : HallKind H} where
-  next_none : {number : ℕ} {o new : objects.Work} {ask : Option Ask} {seen others : H} → o.may_call ≡ false → calling.NextCall hall number o ask new seen others
+module _ {A : Type 0} {kind : Kind A} where
+  next_none : {number : ℕ} {o new : objects.Work} {ask : Option Ask} {seen others : Vec A} → o.may_call ≡ false → calling.NextCall (listed kind) number o ask new seen others
       → (ask ≡ None) × (new ≡ o) × (others ≡ seen)
   next_none off (calling.asks link may still asked kept is) = absurd (true≢false (sym may ∙ off))
   next_none off (calling.is_unasked why none still same) = (none, still, same)
 
-  no_calls : {number : ℕ} {o new : objects.Work} {seen others : H} → o.may_call ≡ false → calling.MakesCalls hall number o new seen others → (new ≡ o) × (others ≡ seen)
+  no_calls : {number : ℕ} {o new : objects.Work} {seen others : Vec A} → o.may_call ≡ false → calling.MakesCalls (listed kind) number o new seen others → (new ≡ o) × (others ≡ seen)
   no_calls off (calling.makes_none next) = let none = next_none off next in (none.1, none.2)
   no_calls off (calling.makes_one ask next made more) = none_out (sym (next_none off next).0)
 

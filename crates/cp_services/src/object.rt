@@ -9,8 +9,8 @@ use cp_refs::Outcome;
 use cp_servants::{Ask, Settled};
 use cp_stubs::MethodFault;
 
-/// An object that has the methods of an interface, and what else a `Maker` may do. An object that answers each call at once, and makes
-/// no calls, has `impl ServiceObject for .. { type Makes = ..; }`. A fault of what isn't a call ends the serving.
+/// An object that has the methods of an interface, and what else a `Maker` may do. An object that does nothing but in its methods has
+/// `impl ServiceObject for .. { type Makes = ..; }`. A fault of what isn't a call ends the serving.
 pub trait ServiceObject: Drop {
     /// The one type of all objects of the connection.
     type Makes: Drop;
@@ -35,7 +35,7 @@ pub trait ServiceObject: Drop {
         false
     }
 
-    /// The next call that the object makes, if it makes one more.
+    /// The next call that the object makes, if it makes one more: it is asked once all that it told (`Here::tell`) is called.
     fn ask(&mut self, here: &mut Here<Self::Makes>) -> Result<Option<Ask>, MethodFault>
         ensures { IfOk result (λ ask. Asks kind (at self.old here.old) ask (at self.new here.new)) }
     {
@@ -43,7 +43,7 @@ pub trait ServiceObject: Drop {
         Ok(None)
     }
 
-    /// What a call of the object's came to, with the call's mark.
+    /// What a call of the object's came to, with the call's mark. It is dropped here.
     fn told(
         &mut self,
         mark: u64,

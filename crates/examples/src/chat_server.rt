@@ -6,7 +6,7 @@ use chat::{
 };
 use jamdrosek::host::{Host, HostPlan, Listener, News};
 use jamdrosek::interfaces::{MethodFault, MethodResult, ServiceObject};
-use jamdrosek::server::{Any2, Ask, Family, Here, Waker};
+use jamdrosek::server::{Any2, Family, Here, Settled, Waker};
 use std::alloc::Global;
 use std::cell::RefCell;
 use std::collections::BTreeMap;
@@ -115,14 +115,14 @@ impl Drop for Member {
 impl ServiceObject for Member {
     type Makes = Served;
 
-    fn ask(&mut self, here: &mut Here<Served>) -> Result<Option<Ask>, MethodFault> {
+    fn poll(&mut self, here: &mut Here<Served>) -> Result<Option<Settled>, MethodFault> {
         let mut room = self.room.try_borrow_mut()?;
         room.members.insert(self.number, here.waker())?;
-        let Some((name, text)) = room.lines.get(self.told) else {
-            return Ok(None);
-        };
-        self.told = self.told.saturating_add(1);
-        Ok(Some(self.listener.heard_ask(name.as_str(), text.as_str(), 0)?))
+        for (name, text) in room.lines.iter().skip(self.told) {
+            here.tell(self.listener.heard_ask(name.as_str(), text.as_str(), 0)?)?;
+        }
+        self.told = room.lines.len();
+        Ok(None)
     }
 }
 

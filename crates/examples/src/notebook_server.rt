@@ -2,7 +2,7 @@
 
 use jamdrosek::host::{Host, HostPlan, Listener, News};
 use jamdrosek::interfaces::{MethodFault, MethodResult, ServiceObject, failed};
-use jamdrosek::server::{Any2, Ask, Family, Here, Waker};
+use jamdrosek::server::{Any2, Family, Here, Settled, Waker};
 use notebook::{
     NotebookAddCall, NotebookNextCall, NotebookOpenCall, NotebookServant, NotebookServer,
     NotebookWatchCall, PageClient, PageReadCall, PageResolver, PageServant, PageServer,
@@ -61,7 +61,8 @@ pub fn new_objects(alloc: Global, shelf: &Shared, number: u64) -> anyhow::Result
         shelf: shelf.clone()?,
         number,
         watchers: Vec::new(alloc),
-        awaited: Vec::new(alloc),
+        promised: Vec::new(alloc),
+        told: shelf.try_borrow()?.notes.len(),
     };
     let mut objects = Family::new(alloc);
     objects.add(Served::First(NotebookServant { object }))?;
@@ -73,38 +74,37 @@ pub fn new_objects(alloc: Global, shelf: &Shared, number: u64) -> anyhow::Result
 pub struct Notebook {
     shelf: Shared,
     number: u64,
-    watchers: Vec<Watching>,
-    /// The pages that are promised, by the numbers of their notes.
-    awaited: Vec<(usize, PageResolver)>,
+    watchers: Vec<WatcherClient>,
+    /// The pages of the next note that are promised.
+    promised: Vec<PageResolver>,
+    /// How many notes the watchers were told of.
+    told: usize,
 }
 
-/// A watcher, and how many notes it was told of.
-#[derive(Drop)]
-struct Watching {
-    watcher: WatcherClient,
-    told: usize,
+impl Notebook {
+    /// Tells the watchers of each note that was added, and makes the pages of it that were promised.
+    fn tell_all(&mut self, here: &mut Here<Served>) -> MethodResult {
+        let mut shelf = self.shelf.try_borrow_mut()?;
+        shelf.wakers.insert(self.number, here.waker())?;
+        for note in shelf.notes.iter().skip(self.told) {
+            for watcher in &self.watchers {
+                here.tell(watcher.added_ask(note.as_str(), 0)?)?;
+            }
+            for resolver in mem::replace(&mut self.promised, Vec::new(here.alloc())) {
+                let page = new_page(&self.shelf, self.told, here)?;
+                resolver.resolve(here, page)?;
+            }
+            self.told = self.told.saturating_add(1);
+        }
+        Ok(())
+    }
 }
 
 impl ServiceObject for Notebook {
     type Makes = Served;
 
-    fn ask(&mut self, here: &mut Here<Served>) -> Result<Option<Ask>, MethodFault> {
-        let mut shelf = self.shelf.try_borrow_mut()?;
-        shelf.wakers.insert(self.number, here.waker())?;
-        for (id, resolver) in mem::replace(&mut self.awaited, Vec::new(here.alloc())) {
-            if id < shelf.notes.len() {
-                let page = new_page(&self.shelf, id, here)?;
-                resolver.resolve(here, page)?;
-            } else {
-                self.awaited.push((id, resolver))?;
-            }
-        }
-        for watching in &mut self.watchers {
-            if let Some(note) = shelf.notes.get(watching.told) {
-                watching.told = watching.told.saturating_add(1);
-                return Ok(Some(watching.watcher.added_ask(note.as_str(), 0)?));
-            }
-        }
+    fn poll(&mut self, here: &mut Here<Served>) -> Result<Option<Settled>, MethodFault> {
+        self.tell_all(here)?;
         Ok(None)
     }
 }
@@ -129,8 +129,8 @@ impl NotebookServer for Notebook {
     fn watch(&mut self, call: &mut NotebookWatchCall<'_>, here: &mut Here<Served>) -> MethodResult {
         let watcher = call.params.watcher_client(here.alloc(), call.caps())?;
         call.keep(&watcher.target)?;
-        let told = self.shelf.try_borrow()?.notes.len();
-        self.watchers.push(Watching { watcher, told })?;
+        self.tell_all(here)?;
+        self.watchers.push(watcher)?;
         Ok(())
     }
 
@@ -138,8 +138,8 @@ impl NotebookServer for Notebook {
         let resolver = PageResolver::new(here)?;
         let page = resolver.client(here.alloc());
         call.results.set_page(page)?;
-        let id = self.shelf.try_borrow()?.notes.len();
-        self.awaited.push((id, resolver))?;
+        self.tell_all(here)?;
+        self.promised.push(resolver)?;
         Ok(())
     }
 }

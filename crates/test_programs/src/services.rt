@@ -2,6 +2,7 @@
 
 mod ends;
 mod later;
+mod lists;
 mod model;
 mod notebook;
 mod pages;

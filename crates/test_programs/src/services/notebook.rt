@@ -8,7 +8,6 @@ use cp_servants::{
 use cp_vat_machine::Ids;
 use std::alloc::{AllocError, Global};
 use std::cell::RefCell;
-use std::collections::VecDeque;
 use std::mem;
 use std::rc::Rc;
 
@@ -16,7 +15,8 @@ use std::rc::Rc;
 pub(crate) const NOTES: u64 = 0xe5a1_0000_0000_0007;
 
 /// Methods of a notebook: a new page of a number, a watcher more, a note more, and a word after some milliseconds. Then a page that is
-/// promised, what it comes to (the capability that is named, or a page of a number), that it comes to nothing, and what was named.
+/// promised, what it comes to (the capability that is named, or a page of a number), that it comes to nothing, and what was named. Then to
+/// tell a watcher of a number and of three more, and how often it heard what came of that.
 pub(crate) const OPEN: u16 = 0;
 
 pub(crate) const WATCH: u16 = 1;
@@ -32,6 +32,10 @@ pub(crate) const RESOLVE: u16 = 5;
 pub(crate) const BREAK: u16 = 6;
 
 pub(crate) const SAME: u16 = 7;
+
+pub(crate) const TELL: u16 = 8;
+
+pub(crate) const HEARD: u16 = 9;
 
 /// Methods of a page: its number, to make a page that it keeps, that page, to keep it no more, to make one that it only names, how
 /// often it was counted before, and to promise one.
@@ -77,7 +81,10 @@ pub(crate) struct Book {
     watcher: Option<u32>,
     /// How many notes its watcher was told of.
     told: usize,
-    asks: VecDeque<Ask>,
+    /// The word that it asks for a call with.
+    next: Option<u64>,
+    /// How many outcomes it heard.
+    heard: u64,
     /// What it says when it is woken next.
     reminder: Option<(u64, u64)>,
     vow: Vow,
@@ -101,12 +108,13 @@ struct Vow {
 }
 
 /// The notebook of a session.
-pub(crate) fn new_book(alloc: Global, notes: &Shared) -> Result<Served, AllocError> {
+pub(crate) fn new_book(notes: &Shared) -> Result<Served, AllocError> {
     Ok(Served::First(Book {
         notes: Rc::clone(notes)?,
         watcher: None,
         told: 0,
-        asks: VecDeque::new(alloc),
+        next: None,
+        heard: 0,
         reminder: None,
         vow: Vow::none(),
     }))
@@ -251,6 +259,14 @@ impl Book {
                 done(alloc, caps)
             }
             SAME => named(alloc, first_of(alloc, caps)?, caps),
+            TELL => {
+                self.tell_four(word, here)?;
+                done(alloc, caps)
+            }
+            HEARD => {
+                let outcome = outcome_of(alloc, Content::new(alloc).word(self.heard))?;
+                now(alloc, outcome, caps)
+            }
             _ => refused(alloc, caps),
         }
     }
@@ -297,35 +313,49 @@ impl Book {
         added
     }
 
-    /// Has a watcher told of a word.
-    fn tell(&mut self, alloc: Global, word: u64) -> Result<(), AllocError> {
-        let Some(watcher) = self.watcher else {
-            return Ok(());
-        };
+    /// A call that tells its watcher of a word. Where it has none, it is a call of an import that isn't there.
+    fn telling(&self, alloc: Global, word: u64) -> Result<Ask, AllocError> {
         let Ok(content) = Content::new(alloc).word(word) else {
             return Err(AllocError);
         };
-        Ok(
-            self.asks.push_back(Ask {
-                cap: Cap::Import(watcher),
-                request: content.request(NOTES, ADD),
-                mark: word,
-            })?,
-        )
+        Ok(Ask {
+            cap: Cap::Import(self.watcher.unwrap_or(u32::MAX)),
+            request: content.request(NOTES, ADD),
+            mark: word,
+        })
     }
 
-    /// Has its watcher told of the notes that it wasn't told of.
-    fn tell_all(&mut self, alloc: Global) -> Result<(), AllocError> {
-        let words = self.words_to_tell(alloc)?;
-        let told = self.tell_each(alloc, &words);
+    /// Tells its watcher of a word, if it has one.
+    fn tell(&self, word: u64, here: &mut Here<Served>) -> Result<(), AllocError> {
+        if self.watcher.is_none() {
+            return Ok(());
+        }
+        let ask = self.telling(here.alloc(), word)?;
+        here.tell(ask)
+    }
+
+    /// Tells a watcher of a word and of the next one at once, and of two more when it is asked.
+    fn tell_four(&mut self, word: u64, here: &mut Here<Served>) -> Result<(), AllocError> {
+        let first = self.telling(here.alloc(), word)?;
+        here.tell(first)?;
+        let second = self.telling(here.alloc(), word.saturating_add(1))?;
+        here.tell(second)?;
+        self.next = Some(word.saturating_add(2));
+        Ok(())
+    }
+
+    /// Tells its watcher of the notes that it wasn't told of.
+    fn tell_all(&mut self, here: &mut Here<Served>) -> Result<(), AllocError> {
+        let words = self.words_to_tell(here.alloc())?;
+        let told = self.tell_each(&words, here);
         drop(words);
         told
     }
 
-    fn tell_each(&mut self, alloc: Global, words: &[u64]) -> Result<(), AllocError> {
+    fn tell_each(&mut self, words: &[u64], here: &mut Here<Served>) -> Result<(), AllocError> {
         for word in words {
             self.told = self.told.saturating_add(1);
-            self.tell(alloc, *word)?;
+            self.tell(*word, here)?;
         }
         Ok(())
     }
@@ -358,19 +388,24 @@ impl Maker for Book {
     }
 
     fn poll(&mut self, here: &mut Here<Served>) -> Result<Option<Settled>, AllocError> {
-        self.tell_all(here.alloc())?;
+        self.tell_all(here)?;
         self.vow.keep_in_time(here)?;
         if let Some((at, word)) = self.reminder {
             if at <= here.now() {
                 self.reminder = None;
-                self.tell(here.alloc(), word)?;
+                self.tell(word, here)?;
             }
         }
         Ok(None)
     }
 
-    fn ask(&mut self, _here: &mut Here<Served>) -> Result<Option<Ask>, AllocError> {
-        Ok(self.asks.pop_front())
+    fn ask(&mut self, here: &mut Here<Served>) -> Result<Option<Ask>, AllocError> {
+        let Some(word) = self.next.take() else {
+            return Ok(None);
+        };
+        let last = self.telling(here.alloc(), word.saturating_add(1))?;
+        here.tell(last)?;
+        Ok(Some(self.telling(here.alloc(), word)?))
     }
 
     fn told(
@@ -379,6 +414,7 @@ impl Maker for Book {
         outcome: Outcome,
         _here: &mut Here<Served>,
     ) -> Result<(), AllocError> {
+        self.heard = self.heard.saturating_add(1);
         drop(outcome);
         Ok(())
     }

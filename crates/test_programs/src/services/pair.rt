@@ -69,7 +69,7 @@ impl Pair {
         let words = Vec::new(alloc);
         let watchers = Vec::from_array(alloc, [Watcher { alloc, words }]).expect(rt, "memory");
         let mut family = Family::new(alloc);
-        let root = new_book(alloc, &notes).expect(rt, "a book");
+        let root = new_book(&notes).expect(rt, "a book");
         drop(family.add(root).expect(rt, "a first object"));
         let mut pair = Pair {
             ends: Ends::new(alloc, watchers, family, session),

@@ -1,7 +1,7 @@
-//! Watchers are told of what others did, and of the time, while they are silent.
+//! Watchers are told of what others did, and of the time, while they are silent; and of what an object tells, in order.
 
 use crate::services::ends::{Step, With};
-use crate::services::notebook::{ADD, REMIND, WATCH};
+use crate::services::notebook::{ADD, HEARD, REMIND, TELL, WATCH};
 use crate::services::pair::{Pair, WATCHER};
 use std::alloc::Global;
 use std::process::Abort;
@@ -41,5 +41,24 @@ fn a_time_is_told(rt: HostRuntime) {
     check!(&rt; pair.words().is_empty());
     pair.act(&rt, Step::Pass(1));
     check!(&rt; pair.words() == [250].as_slice());
+    drop(pair);
+}
+
+#[test]
+fn what_is_told_is_called_in_order_and_heard_once(rt: HostRuntime) {
+    let mut pair = watching(&rt, rt.alloc());
+    let book = pair.book;
+    pair.call(&rt, book, TELL, With::Word(30));
+    check!(&rt; pair.call(&rt, book, HEARD, With::Word(0)).word == 4);
+    check!(&rt; pair.words() == [30, 31, 32, 33].as_slice());
+    drop(pair);
+}
+
+#[test]
+fn what_is_told_and_refused_is_heard(rt: HostRuntime) {
+    let mut pair = Pair::new(&rt, rt.alloc(), 1);
+    let book = pair.book;
+    pair.call(&rt, book, TELL, With::Word(30));
+    check!(&rt; pair.call(&rt, book, HEARD, With::Word(0)).word == 4);
     drop(pair);
 }
