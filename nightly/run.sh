@@ -75,7 +75,8 @@ memory() {
 moves() {
     library && make -s -C "$here/moves" BUILD="$folder" KIT="$kit" "$folder/play" && "$here/moves/moves.py" "$folder/play" --seeds 100 --moves 120 &&
         "$here/moves/ends/build.sh" "$folder" && "$here/moves/moves.py" "$folder/ends plain tails" --seeds 100 --moves 120 &&
-        "$here/moves/moves.py" "$folder/ends tails tails" --seeds 100 --moves 120 && "$here/moves/tails.py" "$folder/ends" --seeds 8400 --moves 120
+        "$here/moves/moves.py" "$folder/ends tails tails" --seeds 100 --moves 120 && "$here/moves/tails.py" "$folder/ends" --seeds 8400 --moves 120 &&
+        "$here/moves/corrupt.py" "$folder/ends"
 }
 
 peers() { built && "$here/peers/run.sh" "$server" "$folder"; }

@@ -4,6 +4,7 @@
 //   window       64 calls of Cell.add under way at a time
 //   pipeline     Desk.now, and Cell.add on what it will give, in one round trip; each counts as one call
 //   large        one call of Cell.add after another, whose params hold 1 MiB that the Cell doesn't read
+//   large-N      the same with N MB
 //   large-results   one call of Blob.get after another, whose results hold 1 MiB that the client doesn't read; the server offers a Blob
 //   raw-seq      as seq, by frames made beforehand over a bare socket, so that nearly all the time is the server's
 //   raw-window   as window, by such frames
@@ -30,6 +31,8 @@ namespace rpc = capnp::rpc;
 
 constexpr uint64_t DESK = 0xe5a1000000000001, CELL = 0xe5a1000000000002;
 constexpr size_t LARGE = 1 << 20;
+
+static bool is_large(const std::string& mode) { return mode.rfind("large", 0) == 0; }
 
 class Timer {
   std::chrono::steady_clock::time_point start = std::chrono::steady_clock::now();
@@ -73,9 +76,9 @@ static void by_library(unsigned port, const std::string& mode, uint64_t calls) {
     request.setAmount(1);
     return request.send();
   };
-  std::vector<kj::byte> bytes(LARGE, 0x5a);
+  std::vector<kj::byte> bytes(is_large(mode) && mode != "large" ? 1000000 * std::stoull(mode.substr(6)) : LARGE, 0x5a);
   auto add_large = [&] {
-    auto request = cell.typelessRequest(CELL, 0, capnp::MessageSize{LARGE / 8 + 8, 0});
+    auto request = cell.typelessRequest(CELL, 0, capnp::MessageSize{bytes.size() / 8 + 8, 0});
     auto params = request.initAsAnyStruct(1, 2);
     uint64_t one = 1;
     memcpy(params.getDataSection().begin(), &one, 8);
@@ -98,7 +101,7 @@ static void by_library(unsigned port, const std::string& mode, uint64_t calls) {
     adds = calls / 2;
     for (uint64_t i = 0; i < adds; i++) last = add(desk.nowRequest(capnp::MessageSize{4, 0}).send().getCell()).wait(wait).getValue();
   } else {
-    KJ_REQUIRE(mode == "large", "no such mode");
+    KJ_REQUIRE(is_large(mode), "no such mode");
     for (uint64_t i = 0; i < calls; i++) {
       auto response = add_large().wait(wait);
       memcpy(&last, response.getAs<capnp::AnyStruct>().getDataSection().begin(), 8);
@@ -275,7 +278,7 @@ static void by_frames(unsigned port, uint32_t window, uint32_t kept, uint64_t ca
 
 int main(int argc, char** argv) {
   if (argc != 4) {
-    fprintf(stderr, "usage: client PORT seq|window|pipeline|large|large-results|raw-seq|raw-window|raw-full CALLS\n");
+    fprintf(stderr, "usage: client PORT seq|window|pipeline|large|large-N|large-results|raw-seq|raw-window|raw-full CALLS\n");
     return 2;
   }
   unsigned port = atoi(argv[1]);
@@ -285,6 +288,6 @@ int main(int argc, char** argv) {
   else if (mode == "raw-window") by_frames(port, 64, 0, calls);
   else if (mode == "raw-full") by_frames(port, 1, 60000, calls);
   else if (mode == "large-results") large_results(port, calls);
-  else by_library(port, mode, (calls + 63) / 64 * 64);
+  else by_library(port, mode, is_large(mode) ? calls : (calls + 63) / 64 * 64);
   return 0;
 }

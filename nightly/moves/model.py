@@ -44,7 +44,7 @@ class Call:
     def __init__(self, lane, target, params):
         self.lane, self.target, self.params = lane, target, params
         self.outcome, self.passed_to = None, None
-        self.has_come = self.is_given_up = self.bounced = False
+        self.has_come = self.is_given_up = self.bounced = self.came_back = False
 
 
 class Model:
@@ -90,10 +90,34 @@ class Model:
         one, other = self.deep(one), self.deep(other)
         return one == other or ANY in (one, other)
 
+    def is_by_promise(self, ref):
+        """Whether this came to a promise of our end first."""
+        while ref[0] in "TR":
+            if ref[0] == "T":
+                ref = self.values.get(ref) or NONE
+            elif self.calls[ref[1]].passed_to is not None:
+                ref = ("R", self.calls[ref[1]].passed_to, ref[2])
+            else:
+                outcome = self.calls[ref[1]].outcome or NONE
+                ref = outcome[2][ref[2]] if outcome[0] == "results" and ref[2] < len(outcome[2]) else NONE
+        return ref[0] == "P"
+
     def leads_to(self, ref, goal):
-        """Whether what this comes to waits for the goal, a promise or a call."""
-        ref = self.deep(ref)
-        return ref == goal or ref[0] == "R" and (ref[1] == goal or self.leads_to(self.calls[ref[1]].target, goal))
+        """Whether what this comes to waits for the goal, a promise or a call. (A call that was given up still waits for what it is on.)"""
+        while ref != goal and ref[:2] != ("R", goal):
+            call = self.calls[ref[1]] if ref[0] == "R" else None
+            if call is None and not self.values.get(ref):
+                return False
+            if call is None:
+                ref = self.values[ref]
+            elif call.passed_to is not None:
+                ref = ("R", call.passed_to, ref[2])
+            elif call.outcome is None:
+                ref = call.target
+            else:
+                caps = call.outcome[2] if call.outcome[0] == "results" else []
+                ref = caps[ref[2]] if ref[2] < len(caps) else NONE
+        return True
 
 
 class Player:

@@ -84,7 +84,8 @@ class OurEnd:
             expect(self.imports[number] >= 0, f"released too often: {line}")
         elif kind == "resolve":
             number, how, value = RESOLVE.match(line).groups()
-            refs = [self.export_refs.get(int(number), ANY)]
+            # (An export that kept results alone name isn't known.)
+            refs = [self.export_refs[int(number)] if self.exports[int(number)] else ANY]
             if how == "cap":
                 self.describes([value], refs, line)
         else:

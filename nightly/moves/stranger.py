@@ -143,6 +143,7 @@ class Stranger:
             self.unpin(answer)
         elif cap[0] in ("import", "path"):
             self.model.calls[answer.call].bounced |= cap[0] == "path"
+            self.model.calls[answer.call].came_back = True
             self.pass_on(number, cap)
         else:
             self.unpin(answer)
@@ -239,11 +240,14 @@ class Stranger:
         answer = self.its_answers[number]
         asked = self.its_questions[question]
         call = self.model.calls[answer.call]
-        if not self.is_still and self.random.random() < 0.15:
+        # (What the tail call is on may lead to this very call by now.)
+        is_circle = self.model.leads_to(("R", asked.call, 0), answer.call)
+        if is_circle or not self.is_still and self.random.random() < 0.15:
             # The results are given up, and the call is answered otherwise.
             call.outcome = ("failed",)
             asked.passes = None
-            self.its_finish(question)
+            if not self.is_still:
+                self.its_finish(question)
             self.its_return(number, "failed")
         else:
             call.passed_to = asked.call

@@ -54,6 +54,7 @@ class Session {
   Trial::Client trial;
   std::vector<Handle> handles;
   std::vector<kj::Promise<void>> open;
+  bool is_awaited = false;  // whether a Cell is to come later
 
   Trial::Client bootstrap() {
     capnp::MallocMessageBuilder message(8);
@@ -85,6 +86,7 @@ class Session {
   void settle() {
     for (auto& each : open) each.wait(scope);
     open.clear();
+    is_awaited = false;
   }
 
   size_t any() { return draw(handles.size()); }
@@ -100,9 +102,11 @@ class Session {
 
   void makes() {
     totals.made++;
-    bool is_later = draw(200) == 0;
-    if (is_later) add(trial.laterRequest().send().getCell(), 100);
-    else add(trial.nowRequest().send().getCell(), 0);
+    if (draw(200) != 0) return add(trial.nowRequest().send().getCell(), 0);
+    auto sent = trial.laterRequest().send();
+    add(sent.getCell(), 100);
+    keep(sent.ignoreResult());
+    is_awaited = true;
   }
 
   void calls(Handle& handle) {
@@ -143,6 +147,8 @@ class Session {
   }
 
   void promises(Handle handle) {
+    // (A path of an open answer that is given to our server is a promise there, which stays with what it came to while the connection does.)
+    if (is_awaited) settle();
     totals.promised++;
     auto request = trial.becomeRequest();
     request.setMilliseconds(draw(4));
@@ -158,6 +164,8 @@ class Session {
   }
 
   void echoes(Handle handle) {
+    // (What came to nothing may come back as no capability at all, and then this library can't read the results.)
+    if (handle.object->is_nothing) return;
     settle();
     auto request = trial.echoRequest();
     request.getContent().setAs<Cell>(handle.cap);
@@ -232,7 +240,8 @@ class Session {
     settle();
     totals.longest = kj::max(totals.longest, handles.size());
     handles.clear();
-    for (int turn = 0; turn < 500 && (own > 0 || cells() > 0); turn++)
+    // (Asked each time: our server gives a Cell of this end's that it kept for a promise up with its next answer.)
+    for (int turn = 0; turn < 500 && (cells() > 0 || own > 0); turn++)
       io.provider->getTimer().afterDelay(10 * kj::MILLISECONDS).wait(scope);
     KJ_REQUIRE(own == 0 && cells() == 0, "Cells are left", own, cells());
   }
