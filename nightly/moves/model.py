@@ -1,8 +1,8 @@
 """What tails.py knows of references and calls, and the messages that it reads and writes."""
 import re
 import struct
-import subprocess
 
+from program import Program, expect
 
 CALL = re.compile(r"call q=(\d+) to=(\w+):(\d+)(?:\[([\d,]*)\])? i=([0-9a-f]{16}) m=\d+ results=(\w+) params=(.*)$")
 RETURN = re.compile(r"return a=(\d+) releaseParamCaps=false (\S+)(.*)$")
@@ -14,15 +14,6 @@ SETTLED = re.compile(r"! settled question:(\d+) (.*)$")
 ALLOWED = ("refused PromiseCycle", "refused Unsettled", "refused InUse")
 NONE, BROKEN, ANY = ("none",), ("broken",), ("any",)
 FIRST_PROMISE = 100  # of the stranger's exports; those below are its objects
-
-
-class Difference(Exception):
-    """Something that must hold doesn't."""
-
-
-def expect(holds, text):
-    if not holds:
-        raise Difference(text)
 
 
 def tag_of(content):
@@ -120,21 +111,11 @@ class Model:
         return True
 
 
-class Player:
+class Player(Program):
     """The program that keeps our end."""
 
     def __init__(self, command):
-        self.process = subprocess.Popen([command, "tails"], stdin=subprocess.PIPE, stdout=subprocess.PIPE, text=True)
-
-    def tell(self, line):
-        self.process.stdin.write(line + "\n")
-        self.process.stdin.flush()
-        lines = []
-        for told in self.process.stdout:
-            if told == ".\n":
-                return lines
-            lines.append(told.rstrip("\n"))
-        raise Difference(f"the program ended at: {line}")
+        super().__init__([command, "tails"])
 
     def play(self, end, event):
         """What an event gives: its answer, and the lines of its effects."""

@@ -19,25 +19,14 @@ export is left.
 
 It prints what was done, and ends with status 1 at the first difference, with the seed's history up to there.
 """
-import argparse
 import random
 import re
-import subprocess
-import sys
 from collections import Counter, defaultdict
 
+from program import Difference, Program, expect, play_seeds
 
 # What may be refused to an application that names only what there is.
 ALLOWED = ("refused PromiseCycle", "refused Unsettled", "refused InUse")
-
-
-class Difference(Exception):
-    """Something that must hold doesn't."""
-
-
-def expect(holds, text):
-    if not holds:
-        raise Difference(text)
 
 
 def content(count):
@@ -201,21 +190,8 @@ class End:
         return imports, promises, [q for q, question in sorted(self.questions.items()) if not question.is_finished]
 
 
-class Player:
+class Player(Program):
     """The program that keeps both vats."""
-
-    def __init__(self, command):
-        self.process = subprocess.Popen(command, stdin=subprocess.PIPE, stdout=subprocess.PIPE, text=True)
-
-    def tell(self, line):
-        self.process.stdin.write(line + "\n")
-        self.process.stdin.flush()
-        lines = []
-        for told in self.process.stdout:
-            if told == ".\n":
-                return lines
-            lines.append(told.rstrip("\n"))
-        raise Difference(f"the program ended at: {line}")
 
     def play(self, ends, event):
         """What an event gives: its answer, and the lines of its effects."""
@@ -463,6 +439,8 @@ class World:
         end = self.random.choice(list(self.ends.values()))
         self.check_export(end, self.random.randrange(max(end.ledger.exports, default=0) + 2))
         self.check_import(end, self.random.randrange(max(end.ledger.imports, default=0) + 2))
+        if self.is_still:
+            self.check_lanes(False)
 
     def place_of(self, end, cap):
         """The end where a capability's calls arrive, if it is an object's or a hosted import's."""
@@ -556,30 +534,4 @@ class World:
                     self.check_export(end, export)
 
 
-def main():
-    parser = argparse.ArgumentParser()
-    parser.add_argument("play")
-    parser.add_argument("--moves", type=int, default=120)
-    parser.add_argument("--seeds", type=int, default=20)
-    parser.add_argument("--first", type=int, default=1)
-    options = parser.parse_args()
-    player, done = Player(options.play.split()), Counter()
-    for seed in range(options.first, options.first + options.seeds):
-        world = World(player, seed, seed % 2 == 0)
-        try:
-            for _ in range(options.moves):
-                world.step()
-                world.spot_check()
-                if world.is_still:
-                    world.check_lanes(False)
-            world.end()
-        except Difference as difference:
-            print("\n".join(world.history))
-            print(f"seed {seed}: {difference}")
-            sys.exit(1)
-        done += world.done
-    print(f"seeds {options.first} to {options.first + options.seeds - 1}, {options.moves} moves each: no difference")
-    print(", ".join(f"{name} {count}" for name, count in sorted(done.items())))
-
-
-main()
+play_seeds("play", lambda words: Player(words.split()), World)

@@ -2,8 +2,9 @@
 import re
 from collections import Counter
 
-from model import ALLOWED, ANY, BROKEN, FIRST_PROMISE, NONE, Difference, Question, expect, payload, tag_of
+from model import ALLOWED, ANY, BROKEN, FIRST_PROMISE, NONE, Question, payload, tag_of
 from model import CALL, DELIVER, FINISH, RESOLVE, RETURN, SETTLED
+from program import Difference, expect
 
 
 class OurEnd:

@@ -2,7 +2,8 @@
 import re
 from collections import Counter
 
-from model import ANY, CALL, DISEMBARGO, FINISH, FIRST_PROMISE, NONE, RESOLVE, RETURN, Answer, Question, expect, payload, tag_of
+from model import ANY, CALL, DISEMBARGO, FINISH, FIRST_PROMISE, NONE, RESOLVE, RETURN, Answer, Question, payload, tag_of
+from program import expect
 
 
 class Stranger:

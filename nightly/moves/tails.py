@@ -15,13 +15,12 @@ was answered. After each move:
 Of every second seed nothing is given up: the calls on one reference come in order then, and at the end all have come. Of the others all is given
 up at the end, and nothing is left.
 """
-import argparse
 import random
-import sys
 from collections import Counter, defaultdict
 
-from model import ANY, BROKEN, NONE, Call, Difference, Model, Player, expect
+from model import ANY, BROKEN, NONE, Call, Model, Player
 from our_end import OurEnd
+from program import Difference, expect, play_seeds
 from stranger import Stranger
 
 
@@ -180,29 +179,5 @@ class World(OurEnd, Stranger):
         expect(not any(self.its_exports.values()), f"the stranger's exports are left: {self.its_exports}")
 
 
-def main():
-    parser = argparse.ArgumentParser()
-    parser.add_argument("ends")
-    parser.add_argument("--moves", type=int, default=120)
-    parser.add_argument("--seeds", type=int, default=20)
-    parser.add_argument("--first", type=int, default=1)
-    options = parser.parse_args()
-    player, done = Player(options.ends), Counter()
-    for seed in range(options.first, options.first + options.seeds):
-        world = World(player, seed, seed % 2 == 0)
-        try:
-            for _ in range(options.moves):
-                world.step()
-                world.spot_check()
-            world.end()
-        except Difference as difference:
-            print("\n".join(world.history))
-            print(f"seed {seed}: {difference}")
-            sys.exit(1)
-        done += world.done
-    print(f"seeds {options.first} to {options.first + options.seeds - 1}, {options.moves} moves each: no difference")
-    print(", ".join(f"{name} {count}" for name, count in sorted(done.items())))
-
-
 if __name__ == "__main__":
-    main()
+    play_seeds("ends", Player, World)
