@@ -27,7 +27,8 @@ use Rattle.cp_makers.specs.Numbers.{Numbers, is_among, is_number, without, witho
 use Rattle.cp_makers.specs.Promises.{Promised, named, none_promised, promised_of, promising, resolving, with_outcome, with_request}
 
 -- The objects by their numbers; where they are, and which number the next one gets; below which number they stay; which are to be polled; who owes the answer
--- of which call; their promises; who is to be woken elsewhere, in order; and the time before which none is to be woken here.
+-- of which call; their promises; the imports that they gave up beside what they answered, in order; who is to be woken elsewhere, in order; and the time
+-- before which none is to be woken here.
 pub record Kin (A : Type 0) : Type 0 where
   pub members : Table (Member A)
   pub here : Place A
@@ -35,6 +36,7 @@ pub record Kin (A : Type 0) : Type 0 where
   pub awake : Numbers
   pub owed : Table ℕ
   pub promised : Promised
+  pub given_up : List ℕ
   pub wakes : List Waker
   pub first_alarm : Option ℕ
 
@@ -46,13 +48,14 @@ kin_of f = record {
   awake = f.awake;
   owed = f.owed;
   promised = promised_of f.promises;
+  given_up = f.given_up;
   wakes = f.wakes.items;
   first_alarm = f.first_alarm;
 }
 
 -- no objects
 abbrev pub alone : {A : Type 0} → Kin A
-alone = record { members = empty; here = begun; stays = 0; awake = set.empty; owed = empty; promised = none_promised; wakes = []; first_alarm = None }
+alone = record { members = empty; here = begun; stays = 0; awake = set.empty; owed = empty; promised = none_promised; given_up = []; wakes = []; first_alarm = None }
 
 -- the first time that is to come
 abbrev pub first_of : ℕ → Option ℕ → Option ℕ → Option ℕ
@@ -116,10 +119,23 @@ module _ {A : Type 0} where
   abbrev pub waking : ℕ → Kin A → Kin A
   waking number kin = option_map_or (λ member. awoken number kin) (get kin.members number) kin
 
+  -- the imports that the object of this number holds
+  abbrev pub held_by : ℕ → Kin A → List ℕ
+  held_by number kin = option_map_or (λ member. member.holds) (get kin.members number) []
+
+  -- An import that one object holds is held by another in its place, if that is there.
+  abbrev pub handing_over : ℕ → ℕ → ℕ → Kin A → Kin A
+  handing_over from to i kin =
+      if is_some (get kin.members to) && is_among i (held_by from kin)
+      then changing to (λ m. record m { holds = m.holds ++ i ∷ [] }) (changing from (λ m. record m { holds = without i m.holds }) kin) else kin
+
   -- what the object of this number did is done
   abbrev pub following : ℕ → Deed → Kin A → Kin A
-  following number (deeds.Keep kept) kin = changing number (λ m. record m { keeps = m.keeps ++ kept ∷ [] }) kin
+  following number (deeds.Keep keeper kept) kin = changing keeper (λ m. record m { keeps = m.keeps ++ kept ∷ [] }) kin
+  following number (deeds.HandOver keeper i) kin = handing_over number keeper i kin
   following number (deeds.GiveUp kept) kin = changing number (λ m. record m { keeps = without kept m.keeps }) kin
+  following number (deeds.GiveUpImport i) kin =
+      record (changing number (λ m. record m { holds = without i m.holds }) kin) { given_up = kin.given_up ++ i ∷ [] }
   following number (deeds.Wake waker) kin =
       if waker.session == kin.here.this.session then waking waker.object kin else record kin { wakes = kin.wakes ++ waker ∷ [] }
   following number (deeds.WakeAt time) kin =
@@ -197,10 +213,6 @@ module _ {A : Type 0} where
   -- the object of this number is gone
   abbrev pub losing : ℕ → Kin A → Kin A
   losing number kin = record kin { members = remove kin.members number; awake = set.remove kin.awake number }
-
-  -- the imports that it held
-  abbrev pub held_by : ℕ → Kin A → List ℕ
-  held_by number kin = option_map_or (λ member. member.holds) (get kin.members number) []
 
   -- the objects whose time has come, in order
   abbrev pub due_among : ℕ → List (ℕ × Member A) → List ℕ

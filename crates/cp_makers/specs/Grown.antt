@@ -40,6 +40,7 @@ grown kind = record {
   wakes = λ number old new. kin_of new ≡ waking number (kin_of old);
   deadline = λ f. (kin_of f).first_alarm;
   hands_on = λ waker old new. HandsOn waker (kin_of old) (kin_of new);
+  hands_given_up = λ imports old new. (imports ≡ (kin_of old).given_up) × (kin_of new ≡ record (kin_of old) { given_up = [] });
   hands_pledge = λ pledge old new.
       HandsPledge pledge (kin_of old).promised (kin_of new).promised × (kin_of new ≡ promised_so (kin_of new).promised (kin_of old));
   promise_of = λ number f. get (kin_of f).promised.ids number;

@@ -11,8 +11,8 @@ use Rattle.cp_makers.specs.declared.waker.Waker.{Waker}
 -- Which numbers have an object. What it does to them that one is called under a ticket, is polled, says which call it makes next, makes none of those that it
 -- is yet to make, and is told what its call of a mark came to. Which is polled first of those from a number on, and when one may give more though nothing more
 -- comes. How many may go, which go unless the connection refers to them, and what it does that one goes, which held these imports. What it does that their
--- session has a number, that it is a time, that those are woken whose time has come, and that one is woken; when one is to be woken first; and who is to be
--- woken elsewhere. Of promises: what is to be done first, which the vat made for a number, and what it does that it made this; what an outcome and a call of
+-- session has a number, that it is a time, that those are woken whose time has come, and that one is woken; when one is to be woken first; who is to be woken
+-- elsewhere; and which imports they gave up beside what they answered. Of promises: what is to be done first, which the vat made for a number, and what it does that it made this; what an outcome and a call of
 -- theirs mean to the vat; which of its promises go unless it uses them, and what it does that it forgot one.
 pub record HallKind (H : Type 0) : Type 1 where
   pub holds : ℕ → H → Type 0
@@ -32,6 +32,7 @@ pub record HallKind (H : Type 0) : Type 1 where
   pub wakes : ℕ → H → H → Type 0
   pub deadline : H → Option ℕ
   pub hands_on : Option Waker → H → H → Type 0
+  pub hands_given_up : List ℕ → H → H → Type 0
   pub hands_pledge : Option Pledge → H → H → Type 0
   pub promise_of : ℕ → H → Option ℕ
   pub keeps_promise : ℕ → ℕ → H → H → Type 0

@@ -38,13 +38,21 @@ module _ {M : Type 0} where
   abbrev pub with_deed : Place M → Deed → Place M
   with_deed place deed = record place { deeds = place.deeds ++ deed ∷ [] }
 
-  -- an object of this end or a promise of one is kept, or given up
+  -- an object of this end or a promise of one is kept
   abbrev pub keeping : Cap → Place M → Place M
-  keeping (caps.Object k) place = with_deed place (deeds.Keep k)
+  keeping (caps.Object k) place = with_deed place (deeds.Keep place.this.object k)
   keeping other place = place
 
+  -- one of these is kept by an object, or an import is handed over to it
+  abbrev pub keeping_for : Cap → Cap → Place M → Place M
+  keeping_for (caps.Object keeper) (caps.Object k) place = with_deed place (deeds.Keep keeper k)
+  keeping_for (caps.Object keeper) (caps.Import i) place = with_deed place (deeds.HandOver keeper i)
+  keeping_for object other place = place
+
+  -- one of these is kept once less, or an import is given up
   abbrev pub giving_up : Cap → Place M → Place M
   giving_up (caps.Object k) place = with_deed place (deeds.GiveUp k)
+  giving_up (caps.Import i) place = with_deed place (deeds.GiveUpImport i)
   giving_up other place = place
 
 -- the time this much later, if there is one

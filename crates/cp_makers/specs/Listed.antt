@@ -9,7 +9,7 @@ abbrev pub IsListed : {A : Type 0} → ℕ → Option ℕ → List A → Type 0
 IsListed from (Some number) objects = (number ≡ from) × (from < length objects)
 IsListed from None objects = length objects ≤ from
 
--- What is done to the list is done to the object at a place of it. None goes, none is woken, and none makes promises.
+-- What is done to the list is done to the object at a place of it. None goes, none is woken, none makes promises, and none gives imports up beside what it answers.
 abbrev pub listed : {A : Type 0} → Kind A → HallKind (Vec A)
 listed kind = record {
   holds = λ number v. number < length v.items;
@@ -29,6 +29,7 @@ listed kind = record {
   wakes = λ number old new. new ≡ old;
   deadline = λ v. None;
   hands_on = λ waker old new. (waker ≡ None) × (new ≡ old);
+  hands_given_up = λ imports old new. (imports ≡ []) × (new ≡ old);
   hands_pledge = λ pledge old new. (pledge ≡ None) × (new ≡ old);
   promise_of = λ number v. None;
   keeps_promise = λ number id old new. new ≡ old;

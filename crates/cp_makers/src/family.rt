@@ -6,15 +6,19 @@ ghost use Rattle.cp_vat_machine.specs.InUse.{caps_of};
 ghost use Rattle.cp_servants.specs.declared.servant.Settled.{Settled};
 ghost use Rattle.cp_servants.specs.Outcomes.{named_imports};
 ghost use Rattle.cp_servants.specs.Requests.{request_of};
-ghost use Rattle.cp_makers.specs.Family.{Asks, Calls, IsAsked, Polls, Tells, adding, alone, answering, asking, awoken, changing, followed, following, held_by, joining, kin_of, losing, noting, own_of, placing, resting, settled, waking, with_those_made};
+ghost use Rattle.cp_makers.specs.Family.{Asks, Calls, IsAsked, Polls, Tells, adding, alone, answering, asking, awoken, changing, followed, following, handing_over, held_by, joining, kin_of, losing, noting, own_of, placing, resting, settled, waking, with_those_made};
 ghost use Rattle.cp_makers.specs.Members.{earlier, newborn, without_asks};
 ghost use Rattle.cp_makers.specs.declared.here.Deed.TheVariants as deeds;
 
 use crate::here::{Deed, Here, Newcomer};
 use crate::maker::Maker;
 use crate::member::Member;
-use crate::members::{add_ask, drop_asks, give_up, has_ask, keep, let_go, next_ask, set_alarm};
+use crate::members::{
+    add_ask, drop_asks, give_up, give_up_import, has_ask, hold, holds, keep, let_go, next_ask,
+    set_alarm,
+};
 use crate::number_set::NumberSet;
+use crate::numbers::Numbers;
 use crate::owed::Owed;
 use crate::promises::Promises;
 use crate::waker::Waker;
@@ -35,7 +39,7 @@ use std::collections::VecDeque;
 /// - nothing of its connection refers to it: the vat doesn't, and no call of it waits to be taken;
 /// - it owes no answer, and waits for the outcome of no call of its own, made or yet to be made;
 /// - each promise that it made is resolved;
-/// - no object keeps it (`Here::keep`).
+/// - no object keeps it (`Here::keep`, `Here::keep_for`).
 ///
 /// Then its time to be woken goes with it, and what it kept; and the imports that it held are given up.
 ///
@@ -56,6 +60,8 @@ pub struct Family<O> {
     pub(crate) awake: NumberSet,
     pub(crate) owed: Owed,
     pub(crate) promises: Promises,
+    /// The imports that objects gave up by deeds, in order.
+    pub(crate) given_up: Numbers,
     /// The objects of other sessions that are to be woken, in order.
     pub(crate) wakes: VecDeque<Waker>,
     /// No object is to be woken before this time.
@@ -75,6 +81,7 @@ impl<O: Maker<Makes = O>> Family<O> {
             awake: NumberSet::new(alloc),
             owed: Owed::new(alloc),
             promises: Promises::new(alloc),
+            given_up: Numbers::new(alloc),
             wakes: VecDeque::new(alloc),
             first_alarm: None,
         }
@@ -326,10 +333,15 @@ impl<O: Maker<Makes = O>> Family<O> {
         ensures { OnOk result (kin_of self.new ≡ following number deed (kin_of self.old)) }
     {
         match deed {
-            Deed::Keep(kept) => keep(&mut self.members, number, kept),
+            Deed::Keep { keeper, kept } => keep(&mut self.members, keeper, kept),
+            Deed::HandOver { keeper, import } => self.hand_over(number, keeper, import),
             Deed::GiveUp(kept) => {
                 give_up(&mut self.members, number, kept);
                 Ok(())
+            }
+            Deed::GiveUpImport(import) => {
+                give_up_import(&mut self.members, number, import);
+                self.given_up.add(import)
             }
             Deed::Wake(waker) => self.pass_on(waker),
             Deed::WakeAt(time) => {
@@ -340,6 +352,17 @@ impl<O: Maker<Makes = O>> Family<O> {
             Deed::Resolve(promise, value) => self.promises.resolve(promise, value),
             Deed::Call(ask) => add_ask(&mut self.members, number, ask),
         }
+    }
+
+    /// Has another object hold an import in place of one that holds it, if it is there.
+    fn hand_over(&mut self, number: u32, keeper: u32, import: u32) -> Result<(), AllocError>
+        ensures { OnOk result (kin_of self.new ≡ handing_over number keeper import (kin_of self.old)) }
+    {
+        if self.members.contains(keeper) && holds(&self.members, number, import) {
+            give_up_import(&mut self.members, number, import);
+            return hold(&mut self.members, keeper, import);
+        }
+        Ok(())
     }
 
     /// Has an object woken, here or in another session.

@@ -3,12 +3,14 @@
 use crate::family::Family;
 use crate::hall::Hall;
 use crate::maker::Maker;
+use crate::numbers::Numbers;
 use crate::pledge::Pledge;
 use crate::waker::Waker;
 use cp_refs::{Outcome, PromiseId, Request};
 use cp_servants::{Ask, Reply, RequestView, Settled};
 use cp_vat_machine::Ids;
 use std::alloc::{AllocError, Global};
+use std::mem;
 
 impl<O: Maker<Makes = O>> Hall for Family<O> {
     ghost use Rattle.cp_makers.specs.Grown.{grown};
@@ -91,6 +93,10 @@ impl<O: Maker<Makes = O>> Hall for Family<O> {
 
     fn next_wake(&mut self) -> Option<Waker> {
         self.wakes.pop_front()
+    }
+
+    fn take_given_up(&mut self, alloc: Global) -> Ids {
+        mem::replace(&mut self.given_up, Numbers::new(alloc)).into_ids()
     }
 
     fn next_pledge(&mut self) -> Option<Pledge> {

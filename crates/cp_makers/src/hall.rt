@@ -99,6 +99,10 @@ pub trait Hall: Drop {
     fn next_wake(&mut self) -> Option<Waker>
         ensures { hall.hands_on result self.old self.new };
 
+    /// Takes out the imports that objects gave up beside what they answered, in order.
+    fn take_given_up(&mut self, alloc: Global) -> Ids
+        ensures { hall.hands_given_up result self.old self.new };
+
     /// Takes out what is to be done first of the promises of objects.
     fn next_pledge(&mut self) -> Option<Pledge>
         ensures { hall.hands_pledge result self.old self.new };

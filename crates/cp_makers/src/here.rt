@@ -2,7 +2,7 @@
 
 ghost use Rattle.std.specs.Prelude.{◌≡◌, ◌+◌, [], IfOk, IfSome, OnOk, OnErr};
 ghost use Rattle.cp_refs.specs.declared.cap.Cap.TheVariants as caps;
-ghost use Rattle.cp_makers.specs.Here.{begun, giving_up, keeping, next_number, place_of, time_after, with_deed, with_made, with_promise};
+ghost use Rattle.cp_makers.specs.Here.{begun, giving_up, keeping, keeping_for, next_number, place_of, time_after, with_deed, with_made, with_promise};
 ghost use Rattle.cp_makers.specs.declared.here.Deed.{Deed};
 ghost use Rattle.cp_makers.specs.declared.here.Deed.TheVariants as deeds;
 
@@ -24,10 +24,14 @@ pub(crate) enum Newcomer<M> {
 /// What an object did beside what it answered.
 #[derive(Drop)]
 pub(crate) enum Deed {
-    /// It keeps this object or promise.
-    Keep(u32),
+    /// An object keeps this object or promise.
+    Keep { keeper: u32, kept: u32 },
+    /// That object holds this import in its place.
+    HandOver { keeper: u32, import: u32 },
     /// It keeps this one once less.
     GiveUp(u32),
+    /// It holds this import once less.
+    GiveUpImport(u32),
     Wake(Waker),
     /// It is to be woken at this time.
     WakeAt(u64),
@@ -164,18 +168,44 @@ impl<M: Drop> Here<M> {
         ensures err { OnErr result (place_of self.new ≡ place_of self.old) }
     {
         match cap {
-            Cap::Object(number) => self.note(Deed::Keep(*number)),
+            Cap::Object(number) => self.note(Deed::Keep {
+                keeper: self.this.object,
+                kept: *number,
+            }),
             _ => Ok(()),
         }
     }
 
-    /// Keeps an object or a promise once less.
+    /// Has another object of the connection, as one that was made just now, keep what it stores until it is dropped: an object or a promise
+    /// once more; an import in place of this object, which kept it past its answer. So an import is given up as that object is dropped.
+    /// Nothing is done where that object isn't there, or this one doesn't hold the import.
+    pub fn keep_for(&mut self, object: &Cap, kept: &Cap) -> Result<(), AllocError>
+        ensures noted { OnOk result (place_of self.new ≡ keeping_for object.now kept.now (place_of self.old)) }
+        ensures err { OnErr result (place_of self.new ≡ place_of self.old) }
+    {
+        match (object, kept) {
+            (Cap::Object(keeper), Cap::Object(kept)) => self.note(Deed::Keep {
+                keeper: *keeper,
+                kept: *kept,
+            }),
+            (Cap::Object(keeper), Cap::Import(import)) => self.note(Deed::HandOver {
+                keeper: *keeper,
+                import: *import,
+            }),
+            _ => Ok(()),
+        }
+    }
+
+    /// Keeps an object or a promise once less; or gives up an import that the object kept past its answer, as that of a client's target
+    /// (`CallTarget::cap`). An import is given up once for each call or outcome that named it, by this or with an answer
+    /// (`Reply::Now`, `Settled`): then it is released, once the vat doesn't use it either.
     pub fn give_up(&mut self, cap: &Cap) -> Result<(), AllocError>
         ensures noted { OnOk result (place_of self.new ≡ giving_up cap.now (place_of self.old)) }
         ensures err { OnErr result (place_of self.new ≡ place_of self.old) }
     {
         match cap {
             Cap::Object(number) => self.note(Deed::GiveUp(*number)),
+            Cap::Import(import) => self.note(Deed::GiveUpImport(*import)),
             _ => Ok(()),
         }
     }

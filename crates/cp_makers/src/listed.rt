@@ -89,6 +89,10 @@ impl<O: Servant> Hall for Vec<O> {
         None
     }
 
+    fn take_given_up(&mut self, alloc: Global) -> Ids {
+        Ids::new(Vec::new(alloc))
+    }
+
     fn next_pledge(&mut self) -> Option<Pledge> {
         None
     }

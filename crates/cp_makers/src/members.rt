@@ -1,9 +1,11 @@
 //! What changes of the objects of a family.
 
 ghost use Rattle.std.specs.Prelude.{◌≡◌, ◌≢◌, ◌∷◌, ◌++◌, [], true, false, OnOk, drop, slice_get};
+ghost use Rattle.std.specs.FinMap.{get};
+ghost use Rattle.std.specs.Option.{option_map_or};
 ghost use Rattle.cp_tables.specs.Table.{with_change};
 ghost use Rattle.cp_makers.specs.Members.{asks_of, to_call, without_asks};
-ghost use Rattle.cp_makers.specs.Numbers.{without, without_each};
+ghost use Rattle.cp_makers.specs.Numbers.{is_among, without, without_each};
 
 use crate::ask_queue::AskQueue;
 use crate::member::Member;
@@ -41,6 +43,39 @@ pub(crate) fn let_go<O>(members: &mut Entries<Member<O>>, number: u32, imports: 
 {
     if let Some(member) = members.get_mut(number) {
         member.holds.remove_each(imports);
+    }
+}
+
+/// Whether an object holds an import.
+pub(crate) fn holds<O>(members: &Entries<Member<O>>, number: u32, import: u32) -> bool
+    ensures { result ≡ is_among import (option_map_or (λ m. m.holds) (get members.now number) []) }
+{
+    match members.get(number) {
+        Some(member) => member.holds.contains(import),
+        None => false,
+    }
+}
+
+/// An object holds an import once more.
+pub(crate) fn hold<O>(
+    members: &mut Entries<Member<O>>,
+    number: u32,
+    import: u32,
+) -> Result<(), AllocError>
+    ensures { OnOk result (members.new ≡ with_change members.old number (λ m. record m { holds = m.holds ++ import ∷ [] })) }
+{
+    match members.get_mut(number) {
+        Some(member) => member.holds.add(import),
+        None => Ok(()),
+    }
+}
+
+/// An object holds an import once less.
+pub(crate) fn give_up_import<O>(members: &mut Entries<Member<O>>, number: u32, import: u32)
+    ensures { members.new ≡ with_change members.old number (λ m. record m { holds = without import m.holds }) }
+{
+    if let Some(member) = members.get_mut(number) {
+        member.holds.remove(import);
     }
 }
 

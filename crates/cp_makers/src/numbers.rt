@@ -1,7 +1,7 @@
 //! Numbers in a list.
 
 ghost use Rattle.std.specs.Prelude.{◌≡◌, ◌∷◌, ◌++◌, [], OnOk, OnErr};
-ghost use Rattle.cp_makers.specs.Numbers.{without, without_each};
+ghost use Rattle.cp_makers.specs.Numbers.{is_among, without, without_each};
 
 use cp_vat_machine::Ids;
 use std::alloc::{AllocError, Global};
@@ -50,6 +50,13 @@ impl Numbers {
     {
         let Numbers { numbers } = self;
         Ids::new(numbers)
+    }
+
+    /// Whether this is one of them.
+    pub(crate) fn contains(&self, number: u32) -> bool
+        ensures { result ≡ is_among number self.now }
+    {
+        self.numbers.contains(&number)
     }
 
     /// One more.

@@ -8,7 +8,7 @@ use Rattle.cp_connection.specs.declared.fault.ConnectionFault.TheVariants as fau
 use Rattle.cp_connection.specs.Link.{Link}
 use Rattle.cp_connection.specs.Doing.{Acts}
 use Rattle.cp_makers.specs.Hall.{HallKind}
-use Rattle.cp_objects.specs.Work.{Work, GivesUp}
+use Rattle.cp_objects.specs.Work.{Work, GivesUp, Releases}
 
 module _ {H : Type 0} (hall : HallKind H) where
   -- An object goes if the vat doesn't refer to it, and the imports that it held are given up; else it stays.
@@ -35,8 +35,8 @@ module _ {H : Type 0} (hall : HallKind H) where
   ForgetsEach (id ∷ more) old new objects others = (mid : Link) × (between : H) × Forgets id old mid objects between × ForgetsEach more mid new between others
 
   -- Where all that happened was worked off, the promises are looked at that go unless the vat uses them, in order, and then the objects that go unless the
-  -- connection refers to them.
+  -- connection refers to them. Then the imports that were given up are tried.
   pub data DropsIdle (old new : Work) (objects others : H) : Type 0 where
     looks_at_none : old.link.happened ≢ [] → new ≡ old → others ≡ objects → DropsIdle old new objects others
-    looks_at_each : (link : Link) (between : H) → old.link.happened ≡ [] → ForgetsEach (hall.loose objects) old.link link objects between
-        → LosesEach (hall.idle between) (record old { link = link }) new between others → DropsIdle old new objects others
+    looks_at_each : (link : Link) (left : Work) (between : H) → old.link.happened ≡ [] → ForgetsEach (hall.loose objects) old.link link objects between
+        → LosesEach (hall.idle between) (record old { link = link }) left between others → Releases left new → DropsIdle old new objects others

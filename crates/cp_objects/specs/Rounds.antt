@@ -1,5 +1,5 @@
 -- What a connection asks of its objects, and what they give.
-use Rattle.std.specs.Prelude.{◌≡◌, ℕ, ◌+◌, Bool, true, false, ◌||◌, IsSome, [], ◌∷◌, Option, Some, None}
+use Rattle.std.specs.Prelude.{◌≡◌, ℕ, ◌+◌, Bool, true, false, ◌||◌, IsSome, List, [], ◌∷◌, Option, Some, None}
 use Rattle.std.specs.FinMap.{get, remove}
 use Rattle.cp_refs.specs.declared.call.Origin.{Origin}
 use Rattle.cp_refs.specs.declared.call.Request.{Request}
@@ -62,11 +62,16 @@ module _ {H : Type 0} (hall : HallKind H) where
         → MakesCalls hall number mid called kept asked → WorksOff called done asked last → PollsFrom (number + 1) done more new last others → gave ≡ (first || more)
         → PollsFrom from old gave new objects others
 
-  -- A round: each object is polled once that is to be, in order; then the imports that were given up are tried, and what that leads to is worked off.
+  -- What objects gave up beside what they answered is given up.
+  abbrev pub GivesUpBeside : Work → Work → H → H → Type 0
+  GivesUpBeside old new objects others = (imports : List ℕ) × hall.hands_given_up imports objects others × GivesUp imports old new
+
+  -- A round: each object is polled once that is to be, in order; then the imports that were given up are tried, with those that objects gave up beside what they
+  -- answered, and what that leads to is worked off.
   pub data Rounds (old : Work) (gave : Bool) (new : Work) (objects others : H) : Type 0 where
     has_ended : PollsFrom 0 old gave new objects others → IsSome new.link.fault → Rounds old gave new objects others
-    releases : (mid released : Work) (between : H) → PollsFrom 0 old gave mid objects between → mid.link.fault ≡ None → Releases mid released
-        → WorksOff released new between others → Rounds old gave new objects others
+    releases : (mid given released : Work) (between left : H) → PollsFrom 0 old gave mid objects between → mid.link.fault ≡ None
+        → GivesUpBeside mid given between left → Releases given released → WorksOff released new left others → Rounds old gave new objects others
 
 -- the first notice that wasn't taken is handed out, if there is one
 abbrev pub HandsOver : Work → Option Notice → Work → Type 0

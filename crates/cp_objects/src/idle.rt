@@ -13,8 +13,8 @@ use std::alloc::AllocError;
 
 impl Objects {
     /// Forgets each promise of objects that is resolved and that nothing refers to. Then drops each object that may go and that nothing
-    /// of the connection refers to; the imports that it held are given up. Nothing is done while something that happened wasn't worked
-    /// off, as that may be a call of an object, or name a promise.
+    /// of the connection refers to, and tries to release the imports that were given up, with those that it held. Nothing is done while
+    /// something that happened wasn't worked off, as that may be a call of an object, or name a promise.
     pub fn drop_idle<H: Hall>(
         &mut self,
         connection: &mut Connection,
@@ -29,7 +29,8 @@ impl Objects {
         let loose = objects.loose_promises(self.alloc)?;
         forget_each(connection, objects, loose.ids())?;
         let idle = objects.idle(self.alloc)?;
-        self.drop_each(connection, objects, idle.ids())
+        self.drop_each(connection, objects, idle.ids())?;
+        self.release_all(connection)
     }
 
     /// Drops each of these objects that nothing of the connection refers to.

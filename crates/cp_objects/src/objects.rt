@@ -10,7 +10,7 @@ ghost use Rattle.cp_servants.specs.Outcomes.{bad_outcome, no_such_object};
 ghost use Rattle.cp_servants.specs.declared.servant.Reply.TheVariants.{Now};
 ghost use Rattle.cp_objects.specs.Work.{begun, Answers, Frees, GivesUp, Holds, IsDone, LetsGo, Lives, Notes, Releases, Replies, Stays, Tries, TriesEach, TriesUnheld};
 ghost use Rattle.cp_objects.specs.Calling.{HandsBack, Hears, MakesCall, MakesCalls, NextCall};
-ghost use Rattle.cp_objects.specs.Rounds.{Gives, Handles, HandsOver, PollsFrom, Rounds, Settles, WorksOff};
+ghost use Rattle.cp_objects.specs.Rounds.{Gives, GivesUpBeside, Handles, HandsOver, PollsFrom, Rounds, Settles, WorksOff};
 ghost use Rattle.cp_objects.specs.Idle.{ReleasesIdle};
 ghost use Rattle.cp_objects.specs.Noticed.{noticed_memory};
 ghost use Rattle.cp_objects.specs.Receiving.{GivesLent, HandlesLent, IsCutShort, Receives};
@@ -177,8 +177,9 @@ impl Objects {
         Err(AllocError)
     }
 
-    /// Polls each object once that is to be polled, in order, and tries to release the imports that were given up; what each poll and the
-    /// releases lead to is worked off. Says whether an object gave an outcome that was awaited.
+    /// Polls each object once that is to be polled, in order, and tries to release the imports that were given up, with an answer or
+    /// beside it (`Here::give_up`); what each poll and the releases lead to is worked off. Says whether an object gave an outcome that
+    /// was awaited.
     pub fn round<H: Hall>(
         &mut self,
         connection: &mut Connection,
@@ -191,6 +192,7 @@ impl Objects {
         if has_ended(connection) {
             return Ok(gave);
         }
+        self.give_up_beside(objects)?;
         self.release_all(connection)?;
         self.work_off(connection, objects)?;
         Ok(gave)
@@ -528,6 +530,14 @@ impl Objects {
         Ok(())
     }
 
+    /// Notes which imports objects gave up beside what they answered.
+    fn give_up_beside<H: Hall>(&mut self, objects: &mut H) -> Result<(), AllocError>
+        ensures { OnOk result ((link : Link) → GivesUpBeside H.hall (work_of self.old link) (work_of self.new link) objects.old objects.new) }
+    {
+        let imports = objects.take_given_up(self.alloc);
+        self.give_up(&imports)
+    }
+
     /// Notes that an object gives an import up, which is to be released unless others hold it.
     fn let_go(&mut self, import: u32) -> Result<(), AllocError>
         ensures { OnOk result ((link : Link) → LetsGo import (work_of self.old link) (work_of self.new link)) }
@@ -599,7 +609,7 @@ impl Objects {
     }
 
     /// Tries to release each import that was given up and isn't held again. One that is still in use stays.
-    fn release_all(&mut self, connection: &mut Connection) -> Result<(), AllocError>
+    pub(crate) fn release_all(&mut self, connection: &mut Connection) -> Result<(), AllocError>
         ensures done { OnOk result (Releases (work_of self.old connection.old) (work_of self.new connection.new)) }
         ensures lives { Lives connection.old connection.new }
     {

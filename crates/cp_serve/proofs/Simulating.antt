@@ -664,17 +664,22 @@ follows_releases : {base : Link} {w : Work} {o new : objects.Work} → Matches b
 follows_releases {base = base} {w = w} {o = o} {new = new} h releases =
     follows_each w.given_up (owes base w o h w.awaited o.awaited [] [] h.awaited refl) (subst (λ (x : List ℕ). objects.TriesEach (record o { given_up = [] }) x new) h.given_up releases)
 
+-- the objects of a list give nothing up beside what they answer
+gives_up_none : {A : Type 0} (kind : Kind A) (o new : objects.Work) (seen others : Vec A) → rounds.GivesUpBeside (listed kind) o new seen others → new ≡ o
+gives_up_none kind o new seen others beside = subst (λ (is : List ℕ). objects.GivesUp is o new) beside.1.0 beside.2
+
 module _ {A : Type 0} {kind : Kind A} where
   pub follows_round : {base : Link} {o new : objects.Work} {seen others : Vec A} {gave : Bool} → rounds.Rounds (listed kind) o gave new seen others → (w : Work) → Matches base w o → w.effects ≡ []
       → (next : Work) × Rounds kind w seen.items gave next others.items × Matches base next new × (next.effects ≡ [])
   follows_round {base = base} {new = new} (rounds.has_ended polled some) w h rest =
       let one = follows_polls polled w h rest in
       (one.0, service.is_closed one.1 (closed_work base one.0 new one.2 some one.3), one.2, one.3)
-  follows_round {base = base} (rounds.releases mid released between polled still tried off) w h rest =
+  follows_round {base = base} {others = others} (rounds.releases mid given released between left polled still given_up tried off) w h rest =
       let one = follows_polls polled w h rest in
-      let two = follows_releases one.2 tried in
+      let two = follows_releases (subst (λ (x : objects.Work). Matches base one.0 x) (sym (gives_up_none kind mid given between left given_up)) one.2) tried in
       let three = follows_works_off off two.0 two.2 in
-      (three.0, service.releases one.0 two.0 between.items one.1 (open_work base one.0 mid one.2 still).0 two.1 three.1, three.2, three.3)
+      let off_left = subst (λ (x : Vec A). WorksOff kind two.0 x.items three.0 others.items) given_up.1.1 three.1 in
+      (three.0, service.releases one.0 two.0 between.items one.1 (open_work base one.0 mid one.2 still).0 two.1 off_left, three.2, three.3)
 
   -- a message is taken
   pub follows_message : {base : Link} {o mid new : objects.Work} {seen between others : Vec A} (m : Message) (link : Link) (gave : Bool) → Does o.link (events.Receive m) (Ok values.Nothing) link

@@ -53,8 +53,8 @@ impl<'c, P, R> ServiceCall<'c, P, R> {
         self.of.caps()
     }
 
-    /// The object keeps this capability of the params. All others are given up with the answer: if they were kept until the object
-    /// says so, each call could leak.
+    /// The object keeps this capability of the params, until it says `Here::give_up` of it, or another keeps it in its place
+    /// (`Here::keep_for`). All others are given up with the answer: if they were kept until the object says so, each call could leak.
     pub fn keep(&mut self, target: &CallTarget) -> Result<(), AllocError>
         ensures kept { OnOk result (self.new.keeps.items ≡ with_import (import_of target.now) self.old.keeps.items) }
         ensures left { OnErr result (self.new.keeps.items ≡ self.old.keeps.items) }

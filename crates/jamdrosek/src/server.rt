@@ -17,10 +17,11 @@
 //! A call on a number past the list fails with `no such object`, and one whose answer the vat refuses with `bad outcome`.
 //!
 //! An object that makes others is a `Maker`: what it does gets a `Here`. `Here::make` gives the capability of a new object, which is dropped
-//! once nothing of its connection refers to it, and `Here::keep` keeps one that the object stores. `Here::tell` has a call made once the
-//! object answered. `Here::wake` has another object polled, and `Here::wake_after` the object itself, some milliseconds later. A `Family`
-//! is the objects of one connection with all that they make, and an `Any2` is one of two types. A `Session`, a `Host` and a `Client` take a
-//! `Family` where they take a list.
+//! once nothing of its connection refers to it, and `Here::keep` keeps one that the object stores. `Here::give_up` takes that back, and lets
+//! an import go that the object kept past its answer. `Here::keep_for` has another object keep what it stores. `Here::tell` has a call made
+//! once the object answered. `Here::wake` has another object polled, and `Here::wake_after` the object itself, some milliseconds later. A
+//! `Family` is the objects of one connection with all that they make, and an `Any2` is one of two types. A `Session`, a `Host` and a
+//! `Client` take a `Family` where they take a list.
 //!
 //! `Content` builds results field by field, and `outcome_of` makes the call's outcome of them. The call fails if they are too long for a
 //! message. `word_in`, `text_in` and `data_in` read the fields of the request's content.

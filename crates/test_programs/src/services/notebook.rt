@@ -16,7 +16,8 @@ pub(crate) const NOTES: u64 = 0xe5a1_0000_0000_0007;
 
 /// Methods of a notebook: a new page of a number, a watcher more, a note more, and a word after some milliseconds. Then a page that is
 /// promised, what it comes to (the capability that is named, or a page of a number), that it comes to nothing, and what was named. Then to
-/// tell a watcher of a number and of three more, and how often it heard what came of that.
+/// tell a watcher of a number and of three more, how often it heard what came of that, to give its watcher up after some milliseconds, and
+/// a new page that keeps a watcher.
 pub(crate) const OPEN: u16 = 0;
 
 pub(crate) const WATCH: u16 = 1;
@@ -36,6 +37,10 @@ pub(crate) const SAME: u16 = 7;
 pub(crate) const TELL: u16 = 8;
 
 pub(crate) const HEARD: u16 = 9;
+
+pub(crate) const LEAVE: u16 = 10;
+
+pub(crate) const JOIN: u16 = 11;
 
 /// Methods of a page: its number, to make a page that it keeps, that page, to keep it no more, to make one that it only names, how
 /// often it was counted before, and to promise one.
@@ -87,6 +92,8 @@ pub(crate) struct Book {
     heard: u64,
     /// What it says when it is woken next.
     reminder: Option<(u64, u64)>,
+    /// When it gives its watcher up.
+    leaves_at: Option<u64>,
     vow: Vow,
 }
 
@@ -116,6 +123,7 @@ pub(crate) fn new_book(notes: &Shared) -> Result<Served, AllocError> {
         next: None,
         heard: 0,
         reminder: None,
+        leaves_at: None,
         vow: Vow::none(),
     }))
 }
@@ -145,6 +153,15 @@ pub(crate) fn done(alloc: Global, caps: &Caps) -> Result<Reply, AllocError> {
     now(alloc, outcome_of(alloc, Ok(Content::new(alloc)))?, caps)
 }
 
+/// The same of a word.
+fn counted(alloc: Global, word: u64, caps: &Caps) -> Result<Reply, AllocError> {
+    now(
+        alloc,
+        outcome_of(alloc, Content::new(alloc).word(word))?,
+        caps,
+    )
+}
+
 /// The same of a capability.
 fn named(alloc: Global, cap: Cap, caps: &Caps) -> Result<Reply, AllocError> {
     now(
@@ -157,6 +174,12 @@ fn named(alloc: Global, cap: Cap, caps: &Caps) -> Result<Reply, AllocError> {
 /// The same of a method that there isn't.
 fn refused(alloc: Global, caps: &Caps) -> Result<Reply, AllocError> {
     now(alloc, no_such_method(alloc)?, caps)
+}
+
+/// The time after some milliseconds, when the object is woken.
+fn time_after(milliseconds: u64, here: &mut Here<Served>) -> Result<u64, AllocError> {
+    here.wake_after(milliseconds)?;
+    Ok(here.now().saturating_add(milliseconds))
 }
 
 impl Vow {
@@ -174,8 +197,7 @@ impl Vow {
         let cap = resolver.cap();
         drop(mem::replace(&mut self.resolver, Some(resolver)));
         if after > 0 {
-            here.wake_after(after)?;
-            self.at = Some(here.now().saturating_add(after));
+            self.at = Some(time_after(after, here)?);
         }
         Ok(cap)
     }
@@ -213,6 +235,27 @@ fn first_of(alloc: Global, caps: &Caps) -> Result<Cap, AllocError> {
     }
 }
 
+/// Makes a page that keeps the first capability of a table.
+fn join(caps: &Caps, here: &mut Here<Served>) -> Result<Reply, AllocError> {
+    let alloc = here.alloc();
+    let page = here.make(new_page(0))?;
+    let kept = match caps.caps().first() {
+        Some(watcher) => here.keep_for(&page, watcher),
+        None => Ok(()),
+    };
+    let outcome = outcome_of(alloc, Content::new(alloc).cap(page))?;
+    match kept {
+        Ok(()) => Ok(Reply::Now {
+            outcome,
+            gives_up: Ids::new(Vec::new(alloc)),
+        }),
+        Err(error) => {
+            drop(outcome);
+            Err(error)
+        }
+    }
+}
+
 /// A capability whose calls fail.
 fn broken(alloc: Global) -> Result<Cap, AllocError> {
     match no_such_method(alloc)? {
@@ -243,13 +286,17 @@ impl Book {
         match request.method {
             OPEN => named(alloc, here.make(new_page(word))?, caps),
             WATCH => self.watch(caps, here),
+            JOIN => join(caps, here),
             ADD => {
                 self.add(word, here)?;
                 done(alloc, caps)
             }
             REMIND => {
-                here.wake_after(word)?;
-                self.reminder = Some((here.now().saturating_add(word), word));
+                self.reminder = Some((time_after(word, here)?, word));
+                done(alloc, caps)
+            }
+            LEAVE => {
+                self.leaves_at = Some(time_after(word, here)?);
                 done(alloc, caps)
             }
             PROMISE => named(alloc, self.vow.make(word, here)?, caps),
@@ -263,10 +310,7 @@ impl Book {
                 self.tell_four(word, here)?;
                 done(alloc, caps)
             }
-            HEARD => {
-                let outcome = outcome_of(alloc, Content::new(alloc).word(self.heard))?;
-                now(alloc, outcome, caps)
-            }
+            HEARD => counted(alloc, self.heard, caps),
             _ => refused(alloc, caps),
         }
     }
@@ -301,6 +345,21 @@ impl Book {
             outcome: outcome_of(alloc, Ok(Content::new(alloc)))?,
             gives_up: Ids::new(Vec::new(alloc)),
         })
+    }
+
+    /// Gives its watcher up, if it has one and it is time for that.
+    fn leave_in_time(&mut self, here: &mut Here<Served>) -> Result<(), AllocError> {
+        let Some(at) = self.leaves_at else {
+            return Ok(());
+        };
+        if here.now() < at {
+            return Ok(());
+        }
+        self.leaves_at = None;
+        match self.watcher.take() {
+            Some(import) => here.give_up(&Cap::Import(import)),
+            None => Ok(()),
+        }
     }
 
     /// Adds a note for all.
@@ -396,6 +455,7 @@ impl Maker for Book {
                 self.tell(word, here)?;
             }
         }
+        self.leave_in_time(here)?;
         Ok(None)
     }
 
@@ -426,10 +486,7 @@ impl Page {
         let (alloc, caps) = (here.alloc(), &request.caps);
         let word = word_in(&request.content, 0);
         match request.method {
-            READ => {
-                let outcome = outcome_of(alloc, Content::new(alloc).word(self.number))?;
-                now(alloc, outcome, caps)
-            }
+            READ => counted(alloc, self.number, caps),
             KEEP => {
                 self.give_up(here)?;
                 self.keep(word, here)?;
@@ -447,9 +504,9 @@ impl Page {
             }
             VOW => named(alloc, self.vow.make(word, here)?, caps),
             COUNT => {
-                let outcome = outcome_of(alloc, Content::new(alloc).word(self.counted))?;
+                let reply = counted(alloc, self.counted, caps);
                 self.counted = self.counted.saturating_add(1);
-                now(alloc, outcome, caps)
+                reply
             }
             _ => refused(alloc, caps),
         }

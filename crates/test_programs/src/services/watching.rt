@@ -1,7 +1,7 @@
 //! Watchers are told of what others did, and of the time, while they are silent; and of what an object tells, in order.
 
 use crate::services::ends::{Step, With};
-use crate::services::notebook::{ADD, HEARD, REMIND, TELL, WATCH};
+use crate::services::notebook::{ADD, HEARD, JOIN, LEAVE, REMIND, TELL, WATCH};
 use crate::services::pair::{Pair, WATCHER};
 use std::alloc::Global;
 use std::process::Abort;
@@ -60,5 +60,33 @@ fn what_is_told_and_refused_is_heard(rt: HostRuntime) {
     let book = pair.book;
     pair.call(&rt, book, TELL, With::Word(30));
     check!(&rt; pair.call(&rt, book, HEARD, With::Word(0)).word == 4);
+    drop(pair);
+}
+
+#[test]
+fn a_watcher_that_is_given_up_is_released_at_once(rt: HostRuntime) {
+    let mut pair = Pair::new(&rt, rt.alloc(), 1);
+    let book = pair.book;
+    let before = pair.act(&rt, Step::Pass(0)).kept;
+    check!(&rt; !pair.call(&rt, book, WATCH, WATCHER).is_failed);
+    pair.call(&rt, book, LEAVE, With::Word(250));
+    check!(&rt; pair.act(&rt, Step::Pass(249)).kept > before);
+    // Nobody is answered from now on.
+    check!(&rt; pair.act(&rt, Step::Pass(1)).kept == before);
+    pair.call(&rt, book, ADD, With::Word(5));
+    check!(&rt; pair.words().is_empty());
+    drop(pair);
+}
+
+#[test]
+fn a_page_that_is_dropped_releases_its_watcher_at_once(rt: HostRuntime) {
+    let mut pair = Pair::new(&rt, rt.alloc(), 1);
+    let book = pair.book;
+    let before = pair.act(&rt, Step::Pass(0)).kept;
+    let joined = pair.call(&rt, book, JOIN, WATCHER);
+    let page = joined.import.expect(&rt, "a page");
+    check!(&rt; pair.objects() == 2);
+    check!(&rt; pair.act(&rt, Step::Release(page)).kept == before);
+    check!(&rt; pair.objects() == 1);
     drop(pair);
 }

@@ -16,7 +16,10 @@ returns-in_err-work_off-clause-lives g c = lives_both (lives_both c.poll_each.en
 
 pub returns-clause-done : goal.returns-clause-done
 returns-clause-done g c =
-    releases (work_of c.poll_each.new.self c.poll_each.new.connection) (work_of c.release_all.new.self c.release_all.new.connection) _ c.in_ok-gave.ensures.done (not_some _ false c.if-has_ended.ensures refl) c.in_ok-release_all.ensures.done c.in_ok-work_off.ensures.done
+    let link = c.poll_each.new.connection in
+    releases (work_of c.poll_each.new.self link) (work_of c.give_up_beside.new.self link) (work_of c.release_all.new.self c.release_all.new.connection) _ c.give_up_beside.new.objects
+    c.in_ok-gave.ensures.done (not_some _ false c.if-has_ended.ensures refl)
+    (c.in_ok-give_up_beside.ensures link) c.in_ok-release_all.ensures.done c.in_ok-work_off.ensures.done
 
 pub returns-clause-lives : goal.returns-clause-lives
 returns-clause-lives g c = lives_both (lives_both c.poll_each.ensures.lives c.release_all.ensures.lives) c.work_off.ensures.lives
