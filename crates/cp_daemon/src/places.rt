@@ -128,7 +128,7 @@ fn hear<E: Write>(alloc: Global, host: &mut Host<Vec<Sample>>, news: &News, err:
             Ok(()) => ACCEPTED,
             Err(error) => report(&End::Failed(error), *peer, err),
         },
-        News::Refused { .. } => ACCEPTED,
+        News::Refused { .. } | News::Woken => ACCEPTED,
         News::Ended { peer, end, .. } => report(end, *peer, err),
     }
 }

@@ -27,7 +27,7 @@ fn main(rt: HostRuntime) -> anyhow::Result<()> {
     }
 }
 
-/// Runs all examples that need no socket.
+/// Runs all examples that need no other program.
 fn run_all(rt: &HostRuntime) -> anyhow::Result<()> {
     heading(rt, "count")?;
     count::run(rt)?;

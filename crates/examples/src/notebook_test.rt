@@ -1,10 +1,16 @@
-//! Tests `notebook_client` and `notebook_server` in memory: what one sends, the other receives.
+//! Tests `notebook_client` and `notebook_server` in memory: what one sends, the other receives. Then two clients of one host, each of which
+//! is told what the other adds.
 
 use crate::notebook_client::talk;
-use crate::notebook_server::{new_objects, new_shelf};
+use crate::notebook_server::{Served, new_objects, new_shelf};
+use anyhow::anyhow;
+use jamdrosek::host::{Host, HostPlan, Listener, News};
+use jamdrosek::server::Family;
 use jamdrosek::session::{Session, SessionLimits, SessionOptions};
 use jamdrosek::{Limits, Mode};
 use std::alloc::Global;
+use std::io::{Read, Write};
+use std::net::{Ipv4Addr, Shutdown, SocketAddr, TcpStream};
 
 pub fn run(rt: &HostRuntime) -> anyhow::Result<()> {
     let alloc = rt.alloc();
@@ -15,6 +21,8 @@ pub fn run(rt: &HostRuntime) -> anyhow::Result<()> {
     let (_, most, left) = answers_to(alloc, &calls)?;
     println!(rt; "{}", said?.as_str())?;
     println!(rt; "{most} objects, and {left} once the page is dropped")?;
+    let (first, second) = hellos(rt, &calls)?;
+    println!(rt; "hello {first} times to the first client, {second} times to the second")?;
     Ok(())
 }
 
@@ -45,4 +53,56 @@ fn answers_to(alloc: Global, bytes: &[u8]) -> anyhow::Result<(Vec<u8>, usize, us
     let left = server.hall().len();
     drop(server);
     Ok((sent?, most, left))
+}
+
+/// How often a host sends a note's text to each of two clients that add it, one after another. The page says it, and the watcher is told of
+/// it. The first one's is told of the second one's too.
+fn hellos(rt: &HostRuntime, calls: &[u8]) -> anyhow::Result<(usize, usize)> {
+    let listener = Listener::bind(rt, SocketAddr::from((Ipv4Addr::LOCALHOST, 0)))?;
+    let address = listener.address()?.ok_or_else(|| anyhow!("no address"))?;
+    let (first, second) = (client(rt, address, calls)?, client(rt, address, calls)?);
+    second.shutdown(Shutdown::Write)?;
+    let mut host = Host::new(rt, HostPlan::standard(), listener)?;
+    serve_both(rt, &mut host, &first)?;
+    drop(host);
+    Ok((hellos_to(rt, first)?, hellos_to(rt, second)?))
+}
+
+/// A client that has sent these calls.
+fn client(rt: &HostRuntime, address: SocketAddr, calls: &[u8]) -> anyhow::Result<TcpStream> {
+    let mut client = TcpStream::connect(rt, address)?;
+    client.write_all(calls)?;
+    Ok(client)
+}
+
+/// Serves one shelf until the second client has ended, and then the first, which was silent meanwhile.
+fn serve_both(
+    rt: &HostRuntime,
+    host: &mut Host<Family<Served>>,
+    first: &TcpStream,
+) -> anyhow::Result<()> {
+    let shelf = new_shelf(rt.alloc())?;
+    for _ in 0..u64::MAX {
+        match host.next(rt)? {
+            Some(News::Came { number, .. }) => {
+                host.admit(new_objects(rt.alloc(), &shelf, number)?)?;
+            }
+            Some(News::Ended { number: 2, .. }) => first.shutdown(Shutdown::Write)?,
+            Some(News::Ended { .. }) | None => break,
+            Some(_) => {}
+        }
+    }
+    Ok(())
+}
+
+/// How often a client that was closed had been sent the text.
+fn hellos_to(rt: &HostRuntime, mut client: TcpStream) -> anyhow::Result<usize> {
+    let mut bytes = Vec::new(rt.alloc());
+    client.read_to_end(&mut bytes)?;
+    Ok(
+        bytes
+            .windows(5)
+            .filter(|text| *text == b"hello".as_slice())
+            .count(),
+    )
 }

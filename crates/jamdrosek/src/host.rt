@@ -7,7 +7,8 @@
 //! A `HostPlan` says how a host serves: whether packed, how many connections come, and the `HostLimits`. `HostPlan::standard` serves for
 //! ever and unpacked. It allows 1,000 connections at once, and 4 GiB for all of them together. `Crowd` says what becomes of one more.
 //!
-//! An object wakes one of another connection by its `server::Waker` (`Here::wake`). That one is polled at once, and can call its peer.
+//! An object wakes one of another connection by its `server::Waker` (`Here::wake`), and so does the program (`Host::wake`). That one is
+//! polled at once, and can call its peer. After `wake_after(ms)` the program's `next` returns `Woken`.
 
 pub use cp_session::{Limit, SessionLimits};
 pub use net_host::{Crowd, End, Host, HostLimits, HostPlan, News};

@@ -90,6 +90,7 @@ module _ {H : Type 0} (hall : HallKind H) where
   told old new None h all = subst (λ (f : Floor H). AwaitsAll hall f) (sym h) all
   told old new (Some (all_news.Came n peer)) h all = subst (λ (f : Floor H). AwaitsAll hall f) (sym h) all
   told old new (Some (all_news.Refused peer)) h all = subst (λ (f : Floor H). AwaitsAll hall f) (sym h) all
+  told old new (Some all_news.Woken) h all = subst (λ (f : Floor H). AwaitsAll hall f) (sym h) all
   told old new (Some (all_news.Ended n peer end)) h all = same_each old.due new.due old.served new.served (λ key. ap (λ f. f key) h.0) h.4 all
 
   pub reports_awaited : ReportsAwaited hall

@@ -124,6 +124,7 @@ pub tells_accepted : {H : Type 0} (old new : Roster) (news : News) (floor next :
 tells_accepted old new (all_news.Came number peer) floor next accepts e = e
 tells_accepted old new (all_news.Refused peer) floor next accepts e = e
 tells_accepted old new (all_news.Ended number peer end) floor next accepts e = absurd accepts
+tells_accepted old new all_news.Woken floor next accepts e = absurd accepts
 
 -- there was no news of an end to give
 pub rests_unended : {H : Type 0} (old new : EventLoop H) → new.guests ≡ old.guests → new.budget ≡ old.budget → new.wakes ≡ old.wakes → new.time ≡ old.time → old.ended.items ≡ new.ended.items

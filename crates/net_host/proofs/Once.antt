@@ -172,18 +172,21 @@ module _ {H : Type 0} where
   once_tells old new None number h once = subst (λ (x : Floor H). IsOnce x number) (sym h) once
   once_tells old new (Some (all_news.Came n peer)) number h once = subst (λ (x : Floor H). IsOnce x number) (sym h) once
   once_tells old new (Some (all_news.Refused peer)) number h once = subst (λ (x : Floor H). IsOnce x number) (sym h) once
+  once_tells old new (Some all_news.Woken) number h once = subst (λ (x : Floor H). IsOnce x number) (sym h) once
   once_tells old new (Some (all_news.Ended n peer end)) number h once = once_told old new number _ h.0 h.1 once
 
   pub gone_tells : (old new : Floor H) (news : Option News) (number : ℕ) → Tells old news new → IsGone old number → IsGone new number
   gone_tells old new None number h gone = subst (λ (x : Floor H). IsGone x number) (sym h) gone
   gone_tells old new (Some (all_news.Came n peer)) number h gone = subst (λ (x : Floor H). IsGone x number) (sym h) gone
   gone_tells old new (Some (all_news.Refused peer)) number h gone = subst (λ (x : Floor H). IsGone x number) (sym h) gone
+  gone_tells old new (Some all_news.Woken) number h gone = subst (λ (x : Floor H). IsGone x number) (sym h) gone
   gone_tells old new (Some (all_news.Ended n peer end)) number h gone = gone_told old new number _ h.0 h.1 gone
 
   pub reported_tells : (old new : Floor H) (news : Option News) (number : ℕ) → Tells old news new → IsOnce old number → IsGoneBy news number new
   reported_tells old new None number h once = tt
   reported_tells old new (Some (all_news.Came n peer)) number h once = tt
   reported_tells old new (Some (all_news.Refused peer)) number h once = tt
+  reported_tells old new (Some all_news.Woken) number h once = tt
   reported_tells old new (Some (all_news.Ended n peer end)) number h once = λ named. gone_reported old new number _ h.0 h.1 named once
 
 module _ {H : Type 0} {hall : HallKind H} where

@@ -26,6 +26,7 @@ module _ {H : Type 0} where
   told old new None h within = same old.budget new.budget (ap (λ (f : Floor H). f.budget) h) within
   told old new (Some (all_news.Came n peer)) h within = same old.budget new.budget (ap (λ (f : Floor H). f.budget) h) within
   told old new (Some (all_news.Refused peer)) h within = same old.budget new.budget (ap (λ (f : Floor H). f.budget) h) within
+  told old new (Some all_news.Woken) h within = same old.budget new.budget (ap (λ (f : Floor H). f.budget) h) within
   told old new (Some (all_news.Ended n peer end)) h within = same old.budget new.budget h.2 within
 
 module _ {H : Type 0} {hall : HallKind H} where

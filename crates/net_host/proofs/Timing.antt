@@ -16,6 +16,10 @@ comes_at time at first b there by = (
 pub comes_none : (time : Option ℕ) (at : ℕ) → None ≡ time → IsTrue false ↔ ComesBy at time
 comes_none time at none = (λ t. absurd (false≢true t), λ comes. absurd (grind (arith, none, comes.1)))
 
+-- a time didn't come by this one where it is the one that was tested
+pub not_come : (time : Option ℕ) (now at : ℕ) → (ComesBy now time → IsTrue false) → now ≡ at → ComesBy at time → ⊥
+not_come time now at test same comes = false≢true (test (subst (λ x. ComesBy x time) (sym same) comes))
+
 -- a time is this one, or none is there
 pub is_at : (time : Option ℕ) (at last : ℕ) (b : Bool) → b ≡ (last == at) → Some last ≡ time → IsTrue b ↔ (time ≡ Some at)
 is_at time at last b is there = (

@@ -27,6 +27,7 @@ module _ {H : Type 0} where
   told old new None h none = unfailed_same old.served new.served (ap (λ (f : Floor H). f.served) h) none
   told old new (Some (all_news.Came n peer)) h none = unfailed_same old.served new.served (ap (λ (f : Floor H). f.served) h) none
   told old new (Some (all_news.Refused peer)) h none = unfailed_same old.served new.served (ap (λ (f : Floor H). f.served) h) none
+  told old new (Some all_news.Woken) h none = unfailed_same old.served new.served (ap (λ (f : Floor H). f.served) h) none
   told old new (Some (all_news.Ended n peer end)) h none = unfailed_same old.served new.served h.0 none
 
 module _ {H : Type 0} {hall : HallKind H} where

@@ -107,6 +107,10 @@ module _ {H : Type 0} where
     pub there : floor.served (key_of waker.session) ≡ Some one
     pub named : session_of one.number (key_of waker.session) ≡ waker.session
 
+  -- one object more is to be woken, after the others
+  abbrev pub waking : Floor H → Waker → Floor H
+  waking floor waker = record floor { wakes = floor.wakes ++ waker ∷ [] }
+
   -- news of its end is to come, with its number and peer
   abbrev pub QueuesEnd : Floor H → Served H → End → Floor H → Type 0
   QueuesEnd old one end new = new.ended ≡ old.ended ++ record { number = one.number; peer = one.peer; end = end } ∷ []

@@ -1,6 +1,7 @@
--- What a host knows of the number of its connections.
+-- What a host knows of the number of its connections, and when its program is to be told that its time has come.
 use Rattle.std.specs.Prelude.{◌≡◌, ◌⊎◌, ℕ, ◌+◌, ◌≤◌, Option, Some, None}
 use Rattle.net_host.specs.Limits.{HasRoom}
+use Rattle.net_host.specs.Timing.{ComesBy}
 use Rattle.net_sockets.specs.Incoming.{most}
 use Rattle.net_host.specs.declared.host.News.{News}
 use Rattle.net_host.specs.declared.host.News.TheVariants as all_news
@@ -9,17 +10,19 @@ use Rattle.net_host.specs.declared.host.Look.TheVariants as looks
 use Rattle.net_host.specs.declared.limits.Crowd.TheVariants as crowds
 use Rattle.net_host.specs.declared.plan.HostPlan.{HostPlan}
 
--- The plan, how many are to come, how many came, how many are served, and the number of the one that waits for its objects.
+-- The plan, how many are to come, how many came, how many are served, and the number of the one that waits for its objects. Then the time that the program named,
+-- if it is still to be told of it.
 pub record Roster : Type 0 where
   pub plan : HostPlan
   pub count : ℕ
   pub came : ℕ
   pub served : ℕ
   pub awaits : Option ℕ
+  pub alarm : Option ℕ
 
 -- no connection came
 abbrev pub begun : HostPlan → Roster
-begun plan = record { plan = plan; count = most plan.count; came = 0; served = 0; awaits = None }
+begun plan = record { plan = plan; count = most plan.count; came = 0; served = 0; awaits = None; alarm = None }
 
 -- None came, and none waits for its objects. No more are served.
 pub record GoesOn (old new : Roster) : Type 0 where
@@ -55,7 +58,14 @@ abbrev pub Hears : Roster → Option News → Roster → Type 0
 Hears old (Some (all_news.Came number peer)) new = Comes old number new
 Hears old (Some (all_news.Refused peer)) new = GoesOn old new × Refuses new
 Hears old (Some (all_news.Ended number peer end)) new = GoesOn old new
+Hears old (Some all_news.Woken) new = GoesOn (record old { alarm = None }) new
 Hears old None new = GoesOn old new × IsOver new
+
+-- News that the time has come that the program named is given once it has, by now. Where it had come by the time at first, no other is given but of an end.
+abbrev pub IsOnTime : Option ℕ → ℕ → ℕ → Option News → Type 0
+IsOnTime alarm first now (Some all_news.Woken) = ComesBy now alarm
+IsOnTime alarm first now (Some (all_news.Ended number peer end)) = Unit {0}
+IsOnTime alarm first now other = ComesBy first alarm → ⊥
 
 -- how many are served with the one that waited for its objects
 abbrev pub with_awaited : Option ℕ → ℕ → ℕ
@@ -73,6 +83,7 @@ Accepts old (Some (all_news.Came number peer)) new =
     (number ≡ old.came + 1) × (new ≡ record old { came = number; awaits = Some number }) × HasRoom old.plan.limits old.served
 Accepts old (Some (all_news.Refused peer)) new = (new ≡ old) × Refuses old
 Accepts old (Some (all_news.Ended number peer end)) new = ⊥
+Accepts old (Some all_news.Woken) new = ⊥
 
 -- a round of turns, by which some may have ended
 abbrev pub Rounds : Roster → Roster → Type 0
@@ -83,3 +94,8 @@ abbrev pub Looks : Roster → Look → Roster → Type 0
 Looks old looks.Nothing new = GoesOn old new
 Looks old (looks.News news) new = Hears old (Some news) new
 Looks old looks.Over new = Hears old None new
+
+abbrev pub LooksOnTime : Option ℕ → ℕ → ℕ → Look → Type 0
+LooksOnTime alarm first now looks.Nothing = ComesBy first alarm → ⊥
+LooksOnTime alarm first now (looks.News news) = IsOnTime alarm first now (Some news)
+LooksOnTime alarm first now looks.Over = IsOnTime alarm first now None

@@ -1,11 +1,11 @@
--- A host by the number of its connections.
-use Rattle.std.specs.Prelude.{option_map}
+-- A host by the number of its connections, and by its time.
+use Rattle.std.specs.Prelude.{ℕ, option_map}
 use Rattle.slab.specs.Slab.{slab_len}
 use Rattle.net_host.specs.declared.host.Host.{Host}
 use Rattle.net_sockets.specs.Incoming.{came_of, count_of}
 use Rattle.net_host.specs.Roster.{Roster}
 
--- what a host knows of the number of its connections
+-- what a host knows of the number of its connections, and when its program is to be told
 abbrev pub roster : {H : Type 0} → Host H → Roster
 roster host = record {
   plan = host.plan;
@@ -13,4 +13,9 @@ roster host = record {
   came = came_of host.incoming;
   served = slab_len host.event_loop.guests;
   awaits = option_map (λ pending. pending.number) host.pending;
+  alarm = host.alarm;
 }
+
+-- the milliseconds since a host began, at its last look at the clock
+abbrev pub now_of : {H : Type 0} → Host H → ℕ
+now_of host = host.event_loop.time.at

@@ -7,7 +7,7 @@ ghost use Rattle.net_sockets.specs.Incoming.{Keeps};
 ghost use Rattle.net_sockets.specs.Reading.{failure_of};
 ghost use Rattle.net_host.specs.Waking.{key_of};
 ghost use Rattle.net_host.specs.Timing.{IsDue, until};
-ghost use Rattle.net_host.specs.Floor.{HasOverdue, IsFirst, Rests, Rounds, Seats, Turns, floor_of, nobody, number_of, seen};
+ghost use Rattle.net_host.specs.Floor.{HasOverdue, IsFirst, Rests, Rounds, Seats, Turns, floor_of, nobody, number_of, seen, waking};
 
 use crate::allowance::Allowance;
 use crate::end::Ended;
@@ -54,7 +54,7 @@ pub(crate) struct EventLoop<H> {
     queue: VecDeque<usize>,
     /// Those that ended, of which there was no news yet.
     ended: VecDeque<Ended>,
-    /// The objects that are to be woken by those of other connections, in order.
+    /// The objects that are to be woken, by those of other connections or by the program, in order.
     wakes: VecDeque<Waker>,
     piece: Vec<u8>,
     time: Time,
@@ -104,11 +104,36 @@ impl<H: Hall> EventLoop<H> {
         !self.queue.is_empty() || !self.wakes.is_empty()
     }
 
-    /// How many milliseconds there are until limits of time are looked at. `None`: there is none.
-    pub(crate) fn until_sweep(&self) -> Option<u64>
-        ensures { result ≡ until self.now.time }
+    /// The milliseconds since it began, at the last look at the clock.
+    pub(crate) fn now(&self) -> u64
+        ensures { result ≡ self.now.time.at }
     {
-        self.time.until()
+        self.time.now()
+    }
+
+    /// How many milliseconds there are until limits of time are looked at, or until this time, if that is earlier. `None`: there is
+    /// neither.
+    pub(crate) fn until(&self, other: Option<u64>) -> Option<u64>
+        ensures { result ≡ until self.now.time other }
+    {
+        self.time.until(other)
+    }
+
+    /// Looks at the clock.
+    pub(crate) fn look<C: Clock>(&mut self, rt: &C) -> io::Result<()>
+        ensures { self.new ≡ record self.old { time = record self.old.time { at = self.new.time.at } } }
+    {
+        self.time.look(rt)
+    }
+
+    /// Has an object woken, once those are that are to be.
+    pub(crate) fn wake(&mut self, waker: Waker) -> io::Result<()>
+        ensures guests { self.new.guests ≡ self.old.guests }
+        ensures woken { OnOk result (floor_of self.new ≡ waking (floor_of self.old) waker) }
+        ensures unwoken { OnErr result (floor_of self.new ≡ floor_of self.old) }
+    {
+        self.wakes.push_back(waker)?;
+        Ok(())
     }
 
     /// The first of those that ended of which there was no news.

@@ -1,12 +1,14 @@
 //! A host.
 
-ghost use Rattle.std.specs.Prelude.{◌≡◌, ◌<◌, ◌↔◌, None, IsTrue, IfOk, OnOk, OnErr};
+ghost use Rattle.std.specs.Prelude.{◌≡◌, ◌<◌, ◌↔◌, Some, None, IsTrue, IfOk, OnOk, OnErr};
+ghost use Rattle.cp_makers.specs.Here.{time_after};
 ghost use Rattle.net_sockets.specs.Incoming.{came_of, count_of};
 ghost use Rattle.net_host.specs.Floor as floor;
-ghost use Rattle.net_host.specs.Floor.{IsFresh, LooksOn, Reports, Rests, Seats, connections_of, nobody};
+ghost use Rattle.net_host.specs.Floor.{IsFresh, LooksOn, Reports, Rests, Seats, connections_of, nobody, waking};
 ghost use Rattle.net_host.specs.Limits.{HasRoom};
-ghost use Rattle.net_host.specs.Roster.{begun, Accepts, Admits, GoesOn, Hears, IsOpen, IsOver, Looks, Rounds};
-ghost use Rattle.net_host.specs.RosterOf.{roster};
+ghost use Rattle.net_host.specs.Roster.{begun, Accepts, Admits, GoesOn, Hears, IsOnTime, IsOpen, IsOver, Looks, LooksOnTime, Rounds};
+ghost use Rattle.net_host.specs.RosterOf.{now_of, roster};
+ghost use Rattle.net_host.specs.Timing.{IsNoLonger, until};
 ghost use Rattle.net_host.specs.declared.host.News.TheVariants as all_news;
 
 use crate::end::{End, Ended};
@@ -14,7 +16,8 @@ use crate::event_loop::EventLoop;
 use crate::limits::Crowd;
 use crate::pending::PendingConnection;
 use crate::plan::HostPlan;
-use cp_makers::Hall;
+use crate::time::{earlier, has_come};
+use cp_makers::{Hall, Waker};
 use net_sockets::{Incoming, Listener, Peer};
 use std::alloc::AllocGlobal;
 use std::io::{self, ErrorKind};
@@ -24,7 +27,7 @@ use std::time::{Clock, Duration};
 /// The milliseconds after which a listener that failed is tried again.
 const AGAIN: u64 = 100;
 
-/// What is told of the connections of a host.
+/// What a host tells its program.
 #[derive(Drop)]
 pub enum News {
     /// One came: give it its objects by `admit`, or it is closed. Numbers go up from 1.
@@ -34,6 +37,8 @@ pub enum News {
     Refused { peer: Peer },
     /// One ended, and its objects were dropped.
     Ended { number: u64, peer: Peer, end: End },
+    /// The time has come that the program named by `wake_after`. It is told once.
+    Woken,
 }
 
 /// What came of a look for news.
@@ -51,9 +56,10 @@ enum Look {
 /// # In which order calls are made
 ///
 /// 1. `new` takes a listener.
-/// 2. Call `next` until it gives none. It serves the connections until there is news of one, and gives that.
+/// 2. Call `next` until it gives none. It serves the connections until there is news, and gives that.
 /// 3. At `Came` make the connection's objects, and give them to `admit`: the one at place 0 is what a Bootstrap gets.
-/// 4. Drop it: the connections that are left are closed, and the listener.
+/// 4. Meanwhile have objects woken by `wake`, and name by `wake_after` when `next` is to give `Woken`.
+/// 5. Drop it: the connections that are left are closed, and the listener.
 ///
 /// # State of objects
 ///
@@ -62,8 +68,8 @@ enum Look {
 /// thread, one after another. An object that is to know its connection is made with its number.
 /// Nothing is lent to a call beside its params, since boxed objects can hold no borrow.
 ///
-/// An object of a `Family` may have one of another connection woken (`Here::wake`), of which it has a `Waker` by what they share. Then
-/// that one is polled, and its connection has a turn, so that it can call its peer. If that connection ended, nothing is done.
+/// An object of a `Family`, or the program (`wake`), may have one of another connection woken, of which it has a `Waker` by what they
+/// share. Then that one is polled, and its connection has a turn, so that it can call its peer. If that connection ended, nothing is done.
 ///
 /// They may call what they were given (`Servant::ask`), and are told what that came to. Nobody else uses a connection's imports: each is released once no
 /// object holds it, nor anything of the vat, also one that came with a call which reached no object.
@@ -91,6 +97,8 @@ pub struct Host<H> {
     incoming: Incoming,
     pending: Option<PendingConnection>,
     event_loop: EventLoop<H>,
+    /// When the program is to be told that its time has come, if it is to be.
+    alarm: Option<u64>,
 }
 
 impl<H: Drop> Drop for Host<H> {
@@ -100,6 +108,7 @@ impl<H: Drop> Drop for Host<H> {
             incoming: _,
             pending: _,
             event_loop: _,
+            alarm: _,
         } = self;
     }
 }
@@ -121,14 +130,16 @@ impl<H: Hall> Host<H> {
             incoming,
             pending: None,
             event_loop,
+            alarm: None,
         })
     }
 
-    /// Serves the connections until there is news of one. `None`: all that were to come have come and ended.
+    /// Serves the connections until there is news. `None`: all that were to come have come and ended, whether or not a time was named.
     ///
     /// A connection that came last, and got no objects, is closed.
     pub fn next<N: Net + Clock>(&mut self, rt: &N) -> io::Result<Option<News>>
         ensures hears { IfOk result (λ news. Hears (roster self.old) news (roster self.new)) }
+        ensures on_time { IfOk result (λ news. IsOnTime (roster self.old).alarm (now_of self.old) (now_of self.new) news) }
         ensures fresh { OnOk result (IsFresh self.new.pending) }
         ensures unheard { OnErr result (GoesOn (roster self.old) (roster self.new)) }
         ensures reports { IfOk result (λ news. Reports H.hall (connections_of self.old) news (connections_of self.new)) }
@@ -159,11 +170,36 @@ impl<H: Hall> Host<H> {
         }
     }
 
-    /// Looks for news: an end of which there was none, or a connection that waits. Where there is neither, each connection that can go
-    /// on has a turn.
+    /// Has an object woken, as another object would (`Here::wake`): it is polled, and its connection has a turn. Nothing is done where the
+    /// object is gone, or its connection.
+    pub fn wake(&mut self, waker: Waker) -> io::Result<()>
+        ensures woken { OnOk result (connections_of self.new ≡ waking (connections_of self.old) waker) }
+        ensures unwoken { OnErr result (connections_of self.new ≡ connections_of self.old) }
+        ensures same { roster self.new ≡ roster self.old }
+        ensures waits { self.new.pending ≡ self.old.pending }
+    {
+        self.event_loop.wake(waker)
+    }
+
+    /// Has `next` give `News::Woken` after this many milliseconds, in place of any time that was named before. With 0 it is given before
+    /// connections have turns.
+    pub fn wake_after<N: Clock>(&mut self, rt: &N, milliseconds: u64) -> io::Result<()>
+        ensures named { OnOk result (roster self.new ≡ record (roster self.old) { alarm = Some (time_after (now_of self.new) milliseconds) }) }
+        ensures unnamed { OnErr result (roster self.new ≡ roster self.old) }
+        ensures rests { Rests (connections_of self.old) (connections_of self.new) }
+        ensures waits { self.new.pending ≡ self.old.pending }
+    {
+        self.event_loop.look(rt)?;
+        self.alarm = Some(self.event_loop.now().saturating_add(milliseconds));
+        Ok(())
+    }
+
+    /// Looks for news: an end of which there was none, the time that the program named, or a connection that waits. Where there is none of
+    /// these, each connection that can go on has a turn.
     fn look<N: Net + Clock>(&mut self, rt: &N) -> io::Result<Look>
         requires { self.old.pending ≡ None }
         ensures looks { IfOk result (λ it. Looks (roster self.old) it (roster self.new)) }
+        ensures on_time { IfOk result (λ it. LooksOnTime (roster self.old).alarm (now_of self.old) (now_of self.new) it) }
         ensures fresh { OnOk result (IsFresh self.new.pending) }
         ensures unheard { OnErr result (GoesOn (roster self.old) (roster self.new)) }
         ensures reports { IfOk result (λ it. LooksOn H.hall (connections_of self.old) it (connections_of self.new)) }
@@ -171,6 +207,10 @@ impl<H: Hall> Host<H> {
     {
         if let Some(ended) = self.event_loop.next_end() {
             return Ok(Look::News(News::ended(ended)));
+        }
+        if has_come(self.alarm, self.event_loop.now()) {
+            self.alarm = None;
+            return Ok(Look::News(News::Woken));
         }
         if self.can_accept() {
             return match self.accept() {
@@ -236,22 +276,25 @@ impl<H: Hall> Host<H> {
         ensures turns { floor.Rounds H.hall (connections_of self.old) (connections_of self.new) }
     {
         let wait = self.wait();
-        let has_event = self.event_loop.wait(rt, wait)?;
+        let has_event = self.event_loop.wait(rt, wait.map(Duration::from_millis))?;
         self.incoming.begin_round(has_event);
         self.event_loop.round(&self.plan.limits)
     }
 
-    /// How long the next wait may take: no time while a connection can go on or can be taken, else until limits of time are looked at.
-    /// Where there is none an event is waited for: a host that has nothing to do takes no time of a processor.
-    fn wait(&self) -> Option<Duration> {
+    /// How many milliseconds the next wait may take: none while a connection can go on or can be taken, else those until limits of time
+    /// are looked at, or the program is told. Where there are none an event is waited for: a host that has nothing to do takes no time of
+    /// a processor.
+    fn wait(&self) -> Option<u64>
+        ensures { IsNoLonger result (until self.now.event_loop.time self.now.alarm) }
+    {
         if self.event_loop.has_turns() || self.incoming.has_burst() {
-            return Some(Duration::from_millis(0));
+            return Some(0);
         }
-        let until = self.event_loop.until_sweep();
+        let until = self.event_loop.until(self.alarm);
         if self.incoming.has_failed() {
-            return Some(Duration::from_millis(until.unwrap_or(AGAIN).min(AGAIN)));
+            return earlier(until, Some(AGAIN));
         }
-        Some(Duration::from_millis(until?))
+        until
     }
 }
 

@@ -62,11 +62,12 @@ impl Time {
         self.sweep_at = first;
     }
 
-    /// How many milliseconds there are until limits of time are looked at. `None`: there is none.
-    pub(crate) fn until(&self) -> Option<u64>
-        ensures { result ≡ until self.now }
+    /// How many milliseconds there are until limits of time are looked at, or until this time, if that is earlier. `None`: there is
+    /// neither.
+    pub(crate) fn until(&self, other: Option<u64>) -> Option<u64>
+        ensures { result ≡ until self.now other }
     {
-        let first = self.sweep_at?;
+        let first = earlier(self.sweep_at, other)?;
         Some(first.saturating_sub(self.at).max(1))
     }
 
@@ -78,21 +79,11 @@ impl Time {
         if self.is_swept() {
             return false;
         }
-        if self.has_come() {
+        if has_come(self.sweep_at, self.at) {
             self.swept_at = Some(self.at);
             return true;
         }
         false
-    }
-
-    /// Whether the time has come for them.
-    fn has_come(&self) -> bool
-        ensures { IsTrue result ↔ ComesBy self.now.at self.now.sweep_at }
-    {
-        match self.sweep_at {
-            Some(first) => first <= self.at,
-            None => false,
-        }
     }
 
     /// Whether they were looked at in this millisecond.
@@ -103,6 +94,16 @@ impl Time {
             Some(last) => last == self.at,
             None => false,
         }
+    }
+}
+
+/// Whether a time has come by now, if there is one.
+pub(crate) fn has_come(time: Option<u64>, now: u64) -> bool
+    ensures { IsTrue result ↔ ComesBy now time }
+{
+    match time {
+        Some(first) => first <= now,
+        None => false,
     }
 }
 

@@ -1,3 +1,4 @@
-//! A host: how many it serves, and one connection that is served.
+//! A host: how many it serves, one connection that is served, and what its program has woken.
 
 mod hosts;
+mod waking;

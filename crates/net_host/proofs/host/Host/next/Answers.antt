@@ -1,18 +1,19 @@
 use Rattle.std.proofs.Common.{Some, None, refl, arith}
 use Rattle.cp_session.proofs.Deciding.{err_so}
 use Rattle.net_host.proofs.Floors.{reports_after, rounds_both}
-use Rattle.net_host.proofs.Rosters.{goes_both, hears_after}
+use Rattle.net_host.proofs.Rosters.{goes_both, hears_after, on_time_after, unmet}
 use Rattle.net_host.specs.Floor.{begins, connections_of}
-use Rattle.net_host.specs.RosterOf.{roster}
+use Rattle.net_host.specs.RosterOf.{now_of, roster}
 use Rattle.net_host.proofs.host.Host.next.Goals as goal
 
 pub loop-init : goal.loop-init
-loop-init g c = record { goes_on = record { rest = refl; no_more = omega arith }; turns = begins }
+loop-init g c = record { goes_on = record { rest = refl; no_more = omega arith }; turns = begins; on_time = λ comes. refl }
 
 pub loop-preserved : goal.loop-preserved
 loop-preserved g c = record {
   goes_on = goes_both c.loop.invariant.goes_on (rw c.in-Nothing.is at c.in_ok-look.ensures.looks);
   turns = rounds_both c.loop.invariant.turns (rw c.in-Nothing.is at c.in_ok-look.ensures.reports);
+  on_time = λ comes. absurd (unmet _ _ c.loop.invariant.goes_on c.loop.invariant.on_time (rw c.in-Nothing.is at c.in_ok-look.ensures.on_time) comes);
 }
 
 pub returns-in_err-look-clause-unheard : goal.returns-in_err-look-clause-unheard
@@ -36,3 +37,11 @@ returns-in-Over-clause-hears g c =
 pub returns-in-Over-clause-reports : goal.returns-in-Over-clause-reports
 returns-in-Over-clause-reports g c =
     reports_after None (connections_of c.look.new.self) c.loop.invariant.turns (rw c.in-Over.is at c.in_ok-look.ensures.reports)
+
+pub returns-in-News-clause-on_time : goal.returns-in-News-clause-on_time
+returns-in-News-clause-on_time g c =
+    on_time_after _ _ (now_of c.look.new.self) (Some c.in-News.news) c.loop.invariant.goes_on c.loop.invariant.on_time (rw c.in-News.is at c.in_ok-look.ensures.on_time)
+
+pub returns-in-Over-clause-on_time : goal.returns-in-Over-clause-on_time
+returns-in-Over-clause-on_time g c =
+    on_time_after _ _ (now_of c.look.new.self) None c.loop.invariant.goes_on c.loop.invariant.on_time (rw c.in-Over.is at c.in_ok-look.ensures.on_time)
