@@ -24,6 +24,7 @@
 #   interfaces typed clients and objects with those of the reference library  the proofs of five crates of its own, and a minute
 #   services  promises, objects made in calls and times, with both libraries     the proof of a program of its own, and five minutes
 #   notebook  objects made in calls, and pushes, with the reference library    the proof of examples, and half a minute
+#   lives     an hour of 950 connections that watch, open pages and go       the proof of examples, and an hour, with a fifth of a processor
 #   chat      a chat room with 999 silent members of the reference library      the proof of examples, and half a minute
 #   netns     servers and clients over a slow, lossy link, as root              the proof of examples, and three minutes
 #   sessions  15,000 random sessions with two servers                          ten minutes
@@ -32,6 +33,7 @@
 #   pieces    sessions, clients' peers and relayed streams, cut at each byte   some three minutes
 #   starved   1,000 random sessions, once for each of their allocations        five minutes
 #   words     4 million texts, calls by name and guarded streams by libFuzzer  the proof of a library of its own, and ten minutes
+#   made      2 million streams of peers of objects that calls make            the proof of a library of its own, and ten minutes
 #   embed     programs in C, C++, Python and Rust over libjamdrosek            the proofs of its crates, and a minute
 #   fuzz      10 million frames by libFuzzer, and 600,000 with the sanitizer   two minutes on four processors
 #   night     100 million inputs over all these; INPUTS=N has another number,  a quarter of an hour on four idle processors
@@ -43,7 +45,7 @@
 set -u
 here=$(cd "$(dirname "${BASH_SOURCE[0]}")" && pwd)
 root=$(dirname "$here")
-all=(look memory moves peers matrix relay guard fields schemas texts host load callees faults readme interfaces services notebook chat netns sessions crowd served pieces starved embed fuzz words edits plants)
+all=(look memory moves peers matrix relay guard fields schemas texts host load callees faults readme interfaces services notebook lives chat netns sessions crowd served pieces starved embed fuzz words made edits plants)
 alone=night # runs only where it is named: it takes as long as all others
 planted=(cp_words cp_tables cp_writing cp_packed cp_frame cp_messages cp_rpc cp_stream cp_refs cp_vat cp_serve)
 
@@ -127,6 +129,8 @@ interfaces() { "$here/interfaces/run.sh" "$folder/interfaces"; }
 
 notebook() { "$root/tools/build.sh" examples && "$here/notebook/run.sh" "$root/crates/examples/out/examples" "$folder/notebook"; }
 
+lives() { "$root/tools/build.sh" examples && "$here/notebook/lives.sh" "$root/crates/examples/out/examples" "$folder/lives"; }
+
 chat() { "$root/tools/build.sh" examples && "$here/chat/run.sh" "$root/crates/examples/out/examples" "$folder/chat"; }
 
 sessions() { built && "$here/fuzz/sessions.sh" "$server" "$folder" 15000 7; }
@@ -162,6 +166,11 @@ words() {
     one_fuzzer words-asan 1 100000 word_seeds -dict=../word_seeds.dict || failed=1
     grep -h ' tried, ' "$folder"/words*.*/log
     return "$failed"
+}
+
+made() {
+    "$here/fuzz/made/build.sh" "$folder" && make -s -C "$here/fuzz" B="$folder" KIT="$kit" "$folder/made" "$folder/made-asan" &&
+        "$folder/made" 41 2000000 && "$folder/made-asan" 42 100000
 }
 
 fuzz() {

@@ -168,6 +168,18 @@ class Maker {
   }
 };
 
+// Has a Maker note the messages of these bytes but for the first ones. Gives how many there are.
+template <class Noting>
+size_t hear(const Bytes& back, size_t heard, Noting& maker) {
+  size_t number = 0;
+  kj::ArrayInputStream input(kj::arrayPtr(back.data(), back.size()));
+  while (input.tryGetReadBuffer().size()) {
+    capnp::InputStreamMessageReader reader(input);
+    if (++number > heard) maker.note(reader.getRoot<rpc::Message>());
+  }
+  return std::max(number, heard);
+}
+
 inline Bytes bytes_of(capnp::MessageBuilder& message, bool packed) {
   kj::VectorOutputStream output;
   if (packed) capnp::writePackedMessage(output, message);

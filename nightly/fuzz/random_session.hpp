@@ -37,15 +37,4 @@ struct Session : Written {
       heard = hear(served(joined(plain), false, WHOLE, named).bytes, heard, maker);
     }
   }
-
-  // Notes the messages of these bytes but for the first ones. Gives how many there are.
-  static size_t hear(const Bytes& back, size_t heard, Maker& maker) {
-    size_t number = 0;
-    kj::ArrayInputStream input(kj::arrayPtr(back.data(), back.size()));
-    while (input.tryGetReadBuffer().size()) {
-      capnp::InputStreamMessageReader reader(input);
-      if (++number > heard) maker.note(reader.getRoot<rpc::Message>());
-    }
-    return std::max(number, heard);
-  }
 };
