@@ -129,15 +129,21 @@ lay_crate() {
     echo "$3: $4" >>"$1/crates.txt"
 }
 
-# FOLDER SOURCES NAME LIBRARIES WORD..: proves and builds such a program as FOLDER/NAME. It is run with these words, which builds it
-build_beside() {
-    local folder room it own=()
+# FOLDER SOURCES NAME LIBRARIES: lays such a crate into a room of its own in FOLDER, which $folder and $room are afterwards
+lay_room() {
+    local it own=()
     mkdir -p "$1"
     folder=$(cd "$1" && pwd) room=$folder/room.$3
     for it in $4; do [ ! -d "$root/crates/$it" ] || own+=("$it"); done
     lay_beside "$room" "${own[@]}"
     cp "$root/HANDLES" "$room/"
     lay_crate "$room" "$2" "$3" "$4"
+}
+
+# FOLDER SOURCES NAME LIBRARIES WORD..: proves and builds such a program as FOLDER/NAME. It is run with these words, which builds it
+build_beside() {
+    local folder room
+    lay_room "${@:1:4}"
     (cd "$room/crates/$3" && rt run -- "${@:5}") || true # (there may be no server for it)
     cp "$room/crates/$3/out/$3" "$folder/"
 }

@@ -3,13 +3,8 @@
 
 # FOLDER SOURCES NAME LIBRARIES FILE..: as FOLDER/libNAME.a, with these files beside its sources
 library_beside() {
-    local folder room it own=()
-    mkdir -p "$1"
-    folder=$(cd "$1" && pwd) room=$folder/room.$3
-    for it in $4; do [ ! -d "$root/crates/$it" ] || own+=("$it"); done
-    lay_beside "$room" "${own[@]}"
-    cp "$root/HANDLES" "$room/"
-    lay_crate "$room" "$2" "$3" "$4"
+    local folder room it
+    lay_room "${@:1:4}"
     for it in "${@:5}"; do cp "$it" "$room/crates/$3/src/$(basename "$it" .in)"; done
     sed -i "s/^$3:/$3 staticlib:/" "$room/crates.txt"
     (cd "$room/crates/$3" && rt lib)
