@@ -5,6 +5,7 @@ use Rattle.std.specs.Option.{option_map_or}
 use Rattle.std.specs.FinMap.{get, insert, remove, empty, values, entries}
 use Rattle.std.specs.FinSet as set
 use Rattle.cp_tables.specs.Table.{Table, with_change}
+use Rattle.cp_refs.specs.declared.cap.Cap.{Cap}
 use Rattle.cp_refs.specs.declared.call.Request.{Request}
 use Rattle.cp_refs.specs.declared.outcome.Outcome.{Outcome}
 use Rattle.cp_vat_machine.specs.InUse.{caps_of}
@@ -23,11 +24,11 @@ use Rattle.cp_makers.specs.declared.family.Family.{Family}
 use Rattle.cp_makers.specs.Here.{Place, begun, place_of}
 use Rattle.cp_makers.specs.Maker.{MakerKind}
 use Rattle.cp_makers.specs.Members.{asks_of, earlier, is_later, newborn, to_call}
-use Rattle.cp_makers.specs.Numbers.{Numbers, is_among, is_number, without, without_each}
-use Rattle.cp_makers.specs.Promises.{Promised, named, none_promised, promised_of, promising, resolving, with_outcome, with_request}
+use Rattle.cp_makers.specs.Numbers.{Numbers, is_among, is_number, local_in, without, without_each}
+use Rattle.cp_makers.specs.Promises.{Promised, adopted_each, named, none_promised, promised_of, promising, resolving, with_outcome, with_request}
 
 -- The objects by their numbers; where they are, and which number the next one gets; below which number they stay; which are to be polled; who owes the answer
--- of which call; their promises; the imports that they gave up beside what they answered, in order; who is to be woken elsewhere, in order; and the time
+-- of which call; which objects and promises the params of such a call name; their promises; the imports that they gave up beside what they answered, in order; who is to be woken elsewhere, in order; and the time
 -- before which none is to be woken here.
 pub record Kin (A : Type 0) : Type 0 where
   pub members : Table (Member A)
@@ -35,6 +36,7 @@ pub record Kin (A : Type 0) : Type 0 where
   pub stays : ℕ
   pub awake : Numbers
   pub owed : Table ℕ
+  pub lent : Table (List ℕ)
   pub promised : Promised
   pub given_up : List ℕ
   pub wakes : List Waker
@@ -47,6 +49,7 @@ kin_of f = record {
   stays = f.stays;
   awake = f.awake;
   owed = f.owed;
+  lent = f.lent;
   promised = promised_of f.promises;
   given_up = f.given_up;
   wakes = f.wakes.items;
@@ -55,7 +58,7 @@ kin_of f = record {
 
 -- no objects
 abbrev pub alone : {A : Type 0} → Kin A
-alone = record { members = empty; here = begun; stays = 0; awake = set.empty; owed = empty; promised = none_promised; given_up = []; wakes = []; first_alarm = None }
+alone = record { members = empty; here = begun; stays = 0; awake = set.empty; owed = empty; lent = empty; promised = none_promised; given_up = []; wakes = []; first_alarm = None }
 
 -- the first time that is to come
 abbrev pub first_of : ℕ → Option ℕ → Option ℕ → Option ℕ
@@ -158,10 +161,20 @@ module _ {A : Type 0} where
   abbrev pub leaving : Place A → Kin A → Kin A
   leaving place kin = record kin { here = place }
 
-  -- a reply is noted: what the object gave up, or that it owes the answer
-  abbrev pub noting : ℕ → ℕ → Reply → Kin A → Kin A
-  noting number ticket (replies.Now outcome gives_up) kin = changing number (λ m. record m { holds = without_each gives_up m.holds }) kin
-  noting number ticket replies.Later kin = record kin { owed = insert kin.owed ticket number }
+  -- each promise of the vat's that a table names and that has no number yet gets the next one, by which objects name it
+  abbrev pub adopting : List Cap → Kin A → Kin A
+  adopting table kin =
+      let adopted = adopted_each table (kin.promised, kin.here.next) in record kin { promised = adopted.0; here = record kin.here { next = adopted.1 } }
+
+  -- the objects and promises that the params of a call name are held until it is answered, if there are some
+  abbrev pub lending : ℕ → List ℕ → Kin A → Kin A
+  lending ticket [] kin = kin
+  lending ticket (first ∷ more) kin = record kin { lent = insert kin.lent ticket (first ∷ more) }
+
+  -- a reply is noted: what the object gave up, or that it owes the answer to a call whose params name these
+  abbrev pub noting : ℕ → ℕ → List ℕ → Reply → Kin A → Kin A
+  noting number ticket named (replies.Now outcome gives_up) kin = changing number (λ m. record m { holds = without_each gives_up m.holds }) kin
+  noting number ticket named replies.Later kin = lending ticket named (record kin { owed = insert kin.owed ticket number })
 
   -- a call that the object asks for is noted, if it does
   abbrev pub asking : ℕ → Option Ask → Kin A → Kin A
@@ -174,12 +187,15 @@ module _ {A : Type 0} where
 
   -- what the object of this number settled is owed no more
   abbrev pub answering : ℕ → Settled → Kin A → Kin A
-  answering number given kin = record (changing number (λ m. record m { holds = without_each given.gives_up m.holds }) kin) { owed = remove kin.owed given.ticket }
+  answering number given kin =
+      record (changing number (λ m. record m { holds = without_each given.gives_up m.holds }) kin) { owed = remove kin.owed given.ticket; lent = remove kin.lent given.ticket }
 
-  -- the object owes an answer, or made a promise that isn't resolved, or another keeps it
+  -- the object owes an answer, or made a promise that isn't resolved; or the params of a call that isn't answered name it, or another keeps it
   abbrev pub is_held : Kin A → ℕ → Bool
   is_held kin k =
-      is_among k (values kin.owed) || (is_among k (values kin.promised.makers) || list_any (λ member. is_among k member.keeps) (values kin.members))
+      is_among k (values kin.owed)
+      || (is_among k (values kin.promised.makers)
+      || (list_any (λ named. is_among k named) (values kin.lent) || list_any (λ member. is_among k member.keeps) (values kin.members)))
 
   -- these are those of which that is so
   abbrev pub AreHeld : Kin A → Numbers → Type 0
@@ -240,16 +256,20 @@ module _ {A : Type 0} where
 
 -- Of objects of one kind.
 module _ {A : Type 0} (kind : MakerKind A A) where
-  -- The object of this number is called, and sees the promises of objects under their numbers. It is given the call's imports, and does what its kind says. What
-  -- it replied is noted, it is to be polled, and what it did beside is done.
+  -- The object of this number is called, and sees promises of this end under numbers. It is given the call's imports, and does what its kind says. What it replied
+  -- is noted, it is to be polled, and what it did beside is done.
   pub record Calls (number ticket : ℕ) (request : Request) (reply : Reply) (old new : Kin A) : Type 0 where
     pub before : Member A
     pub object : A
     pub place : Place A
-    pub was : get old.members number ≡ Some before
-    pub takes : kind.takes before.object ticket (with_request (named old.promised.names) request) (entered number old) reply place object
-    pub is : new ≡ settled number (awoken number (noting number ticket reply
-        (leaving place (placing number (record before { object = object; holds = before.holds ++ named_imports request.caps }) old))))
+    pub first : Kin A
+    pub seen : Request
+    pub adopts : first ≡ adopting request.caps old
+    pub was : get first.members number ≡ Some before
+    pub sees : seen ≡ with_request (named first.promised.names) request
+    pub takes : kind.takes before.object ticket seen (entered number first) reply place object
+    pub is : new ≡ settled number (awoken number (noting number ticket (local_in seen.caps) reply
+        (leaving place (placing number (record before { object = object; holds = before.holds ++ named_imports request.caps }) first))))
 
   -- After a poll an object is to be polled again if it gave something, which is owed no more, or says that it may give more.
   pub data GoesOn (number : ℕ) (object : A) (kin : Kin A) : Option Settled → Kin A → Type 0 where
@@ -290,7 +310,9 @@ module _ {A : Type 0} (kind : MakerKind A A) where
     pub before : Member A
     pub object : A
     pub place : Place A
-    pub was : get old.members number ≡ Some before
-    pub is_told : kind.is_told before.object mark (with_outcome (named old.promised.names) outcome) (entered number old) place object
+    pub first : Kin A
+    pub adopts : first ≡ adopting (caps_of outcome) old
+    pub was : get first.members number ≡ Some before
+    pub is_told : kind.is_told before.object mark (with_outcome (named first.promised.names) outcome) (entered number first) place object
     pub is : new ≡ settled number (awoken number (leaving place
-        (placing number (record before { object = object; asked = before.asked - 1; holds = before.holds ++ named_imports (caps_of outcome) }) old)))
+        (placing number (record before { object = object; asked = before.asked - 1; holds = before.holds ++ named_imports (caps_of outcome) }) first)))

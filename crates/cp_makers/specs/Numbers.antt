@@ -3,6 +3,8 @@ use Rattle.std.specs.Prelude.{◌≡◌, ℕ, ◌≤◌, ◌<◌, ◌==◌, Bool
 use Rattle.std.specs.List.{list_any}
 use Rattle.std.specs.Ordering.{nat_cmp}
 use Rattle.std.specs.FinSet as set
+use Rattle.cp_refs.specs.declared.cap.Cap.{Cap}
+use Rattle.cp_refs.specs.declared.cap.Cap.TheVariants as caps
 
 -- a set of numbers
 abbrev pub Numbers : Type 0
@@ -11,6 +13,12 @@ Numbers = set.FinSet nat_cmp
 -- it is one of these numbers
 abbrev pub is_among : ℕ → List ℕ → Bool
 is_among k ns = list_any (λ n. n == k) ns
+
+-- the objects and promises of this end that a table names, as objects see it
+abbrev pub local_in : List Cap → List ℕ
+local_in [] = []
+local_in (caps.Object k ∷ more) = k ∷ local_in more
+local_in (other ∷ more) = local_in more
 
 -- it is this number, if it is one
 abbrev pub is_number : ℕ → Option ℕ → Bool
@@ -31,6 +39,11 @@ without_each (n ∷ more) xs = without_each more (without n xs)
 abbrev pub inserted : List ℕ → Numbers → Numbers
 inserted [] s = s
 inserted (n ∷ more) s = inserted more (set.insert s n)
+
+-- those of each of these lists are, too
+abbrev pub inserted_each : List (List ℕ) → Numbers → Numbers
+inserted_each [] s = s
+inserted_each (ns ∷ more) s = inserted_each more (inserted ns s)
 
 -- it is the first from a number on of those that pass a test, or there is none
 abbrev pub IsFirstBy : (ℕ → Bool) → ℕ → Option ℕ → Type 0

@@ -1,5 +1,5 @@
 -- The promises of objects.
-use Rattle.std.specs.Prelude.{◌≡◌, ℕ, List, [], ◌∷◌, ◌++◌, map, Option, Some, None}
+use Rattle.std.specs.Prelude.{◌≡◌, ℕ, ◌+◌, Bool, if◌then◌else◌, List, [], ◌∷◌, ◌++◌, map, Option, Some, None, is_some}
 use Rattle.std.specs.Option.{option_map_or}
 use Rattle.std.specs.FinMap.{get, insert, remove, empty}
 use Rattle.cp_tables.specs.Table.{Table}
@@ -38,6 +38,20 @@ resolving number value p = record p { makers = remove p.makers number; pledges =
 -- the vat made this promise of its own for this number
 abbrev pub keeping_promise : ℕ → ℕ → Promised → Promised
 keeping_promise number id p = record p { ids = insert p.ids number id; names = insert p.names id number }
+
+-- it has a number
+abbrev pub has_name : ℕ → Promised → Bool
+has_name id p = is_some (get p.names id)
+
+-- A promise of the vat's that has no number gets this one, by which objects name it. And the number that is given next.
+abbrev pub adopted : Cap → Promised × ℕ → Promised × ℕ
+adopted (caps.Promise id) at = if has_name id at.0 then at else (keeping_promise at.1 id at.0, at.1 + 1)
+adopted other at = at
+
+-- so does each that a table names
+abbrev pub adopted_each : List Cap → Promised × ℕ → Promised × ℕ
+adopted_each [] at = at
+adopted_each (cap ∷ more) at = adopted_each more (adopted cap at)
 
 -- the vat forgot this promise of its own
 abbrev pub forgetting : ℕ → Promised → Promised

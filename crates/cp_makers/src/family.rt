@@ -6,11 +6,12 @@ ghost use Rattle.cp_vat_machine.specs.InUse.{caps_of};
 ghost use Rattle.cp_servants.specs.declared.servant.Settled.{Settled};
 ghost use Rattle.cp_servants.specs.Outcomes.{named_imports};
 ghost use Rattle.cp_servants.specs.Requests.{request_of};
-ghost use Rattle.cp_makers.specs.Family.{Asks, Calls, IsAsked, Polls, Tells, adding, alone, answering, asking, awoken, changing, followed, following, handing_over, held_by, joining, kin_of, losing, noting, own_of, placing, resting, settled, waking, with_those_made};
+ghost use Rattle.cp_makers.specs.Family.{Asks, Calls, IsAsked, Polls, Tells, adding, adopting, alone, answering, asking, awoken, changing, followed, following, handing_over, held_by, joining, kin_of, lending, losing, noting, own_of, placing, resting, settled, waking, with_those_made};
 ghost use Rattle.cp_makers.specs.Members.{earlier, newborn, without_asks};
 ghost use Rattle.cp_makers.specs.declared.here.Deed.TheVariants as deeds;
 
 use crate::here::{Deed, Here, Newcomer};
+use crate::lent::Lent;
 use crate::maker::Maker;
 use crate::member::Member;
 use crate::members::{
@@ -22,7 +23,7 @@ use crate::numbers::Numbers;
 use crate::owed::Owed;
 use crate::promises::Promises;
 use crate::waker::Waker;
-use cp_refs::{Cap, Outcome, Request};
+use cp_refs::{Cap, Caps, Outcome, Request};
 use cp_servants::{Ask, Reply, RequestView, Settled, named_imports};
 use cp_tables::Entries;
 use cp_vat_machine::Ids;
@@ -39,11 +40,13 @@ use std::collections::VecDeque;
 /// - nothing of its connection refers to it: the vat doesn't, and no call of it waits to be taken;
 /// - it owes no answer, and waits for the outcome of no call of its own, made or yet to be made;
 /// - each promise that it made is resolved;
-/// - no object keeps it (`Here::keep`, `Here::keep_for`).
+/// - no object keeps it (`Here::keep`, `Here::keep_for`), and the params of no call name it that isn't answered yet.
 ///
 /// Then its time to be woken goes with it, and what it kept; and the imports that it held are given up.
 ///
-/// A promise that is resolved is forgotten once nothing of the connection refers to it and no object keeps it.
+/// A promise that is resolved is forgotten once nothing of the connection refers to it, no object keeps it, and the params of no call name
+/// it that isn't answered yet. Objects name a promise of this end as an object: one of theirs, and the results of a call that wasn't answered
+/// when a call of the peer's named them.
 ///
 /// # Which objects are polled
 ///
@@ -59,6 +62,7 @@ pub struct Family<O> {
     /// The objects that are to be polled.
     pub(crate) awake: NumberSet,
     pub(crate) owed: Owed,
+    pub(crate) lent: Lent,
     pub(crate) promises: Promises,
     /// The imports that objects gave up by deeds, in order.
     pub(crate) given_up: Numbers,
@@ -80,6 +84,7 @@ impl<O: Maker<Makes = O>> Family<O> {
             stays: 0,
             awake: NumberSet::new(alloc),
             owed: Owed::new(alloc),
+            lent: Lent::new(alloc),
             promises: Promises::new(alloc),
             given_up: Numbers::new(alloc),
             wakes: VecDeque::new(alloc),
@@ -120,12 +125,14 @@ impl<O: Maker<Makes = O>> Family<O> {
         ensures { IfOk result (λ reply. Calls O.makes number ticket request reply (kin_of self.old) (kin_of self.new)) }
     {
         let imports = named_imports(self.alloc, &request.caps)?;
+        self.adopt_each(&request.caps)?;
         let request = self.promises.named_request(request);
+        let named = Numbers::local_in(self.alloc, &request.caps)?;
         self.here.enter(number);
         let member = self.members.entry_mut(number);
         member.holds.add_each(imports.ids())?;
         let reply = member.object.call(ticket, request, &mut self.here)?;
-        self.follow_call(number, ticket, &reply)?;
+        self.follow_call(number, ticket, named, &reply)?;
         Ok(reply)
     }
 
@@ -140,23 +147,26 @@ impl<O: Maker<Makes = O>> Family<O> {
         ensures { IfOk result (λ reply. Calls O.makes number ticket (request_of request.entry) reply (kin_of self.old) (kin_of self.new)) }
     {
         let imports = named_imports(self.alloc, &request.caps)?;
+        self.adopt_each(&request.caps)?;
         let RequestView {
             interface,
             method,
             content,
             caps,
         } = request;
+        let caps = self.promises.named_each(caps);
+        let named = Numbers::local_in(self.alloc, &caps)?;
         let request = RequestView {
             interface,
             method,
             content,
-            caps: self.promises.named_each(caps),
+            caps,
         };
         self.here.enter(number);
         let member = self.members.entry_mut(number);
         member.holds.add_each(imports.ids())?;
         let reply = member.object.call_view(ticket, request, &mut self.here)?;
-        self.follow_call(number, ticket, &reply)?;
+        self.follow_call(number, ticket, named, &reply)?;
         Ok(reply)
     }
 
@@ -198,6 +208,7 @@ impl<O: Maker<Makes = O>> Family<O> {
         ensures { OnOk result (Tells O.makes number mark outcome (kin_of self.old) (kin_of self.new)) }
     {
         let imports = given_imports(self.alloc, &outcome)?;
+        self.adopt_given(&outcome)?;
         let outcome = self.promises.named_outcome(outcome);
         self.here.enter(number);
         let member = self.members.entry_mut(number);
@@ -238,25 +249,71 @@ impl<O: Maker<Makes = O>> Family<O> {
     }
 
     /// What follows of a call of an object.
-    fn follow_call(&mut self, number: u32, ticket: u64, reply: &Reply) -> Result<(), AllocError>
-        ensures { OnOk result (kin_of self.new ≡ settled number (awoken number (noting number ticket reply.now (kin_of self.old)))) }
+    fn follow_call(
+        &mut self,
+        number: u32,
+        ticket: u64,
+        named: Numbers,
+        reply: &Reply,
+    ) -> Result<(), AllocError>
+        ensures { OnOk result (kin_of self.new ≡ settled number (awoken number (noting number ticket named reply.now (kin_of self.old)))) }
     {
-        self.note_reply(number, ticket, reply)?;
+        self.note_reply(number, ticket, named, reply)?;
         self.awake.insert(number)?;
         self.settle(number)
     }
 
-    /// Notes what an object gave up, or that it owes an answer.
-    fn note_reply(&mut self, number: u32, ticket: u64, reply: &Reply) -> Result<(), AllocError>
-        ensures { OnOk result (kin_of self.new ≡ noting number ticket reply.now (kin_of self.old)) }
+    /// Notes what an object gave up, or that it owes an answer to a call whose params name these.
+    fn note_reply(
+        &mut self,
+        number: u32,
+        ticket: u64,
+        named: Numbers,
+        reply: &Reply,
+    ) -> Result<(), AllocError>
+        ensures { OnOk result (kin_of self.new ≡ noting number ticket named reply.now (kin_of self.old)) }
     {
         match reply {
             Reply::Now { gives_up, .. } => {
                 let_go(&mut self.members, number, gives_up.ids());
                 Ok(())
             }
-            Reply::Later => self.owed.put(ticket, number),
+            Reply::Later => {
+                self.owed.put(ticket, number)?;
+                self.lend(ticket, named)
+            }
         }
+    }
+
+    /// Notes what the params of a call name that is answered later, if they name something.
+    fn lend(&mut self, ticket: u64, named: Numbers) -> Result<(), AllocError>
+        ensures { OnOk result (kin_of self.new ≡ lending ticket named (kin_of self.old)) }
+    {
+        if named.is_empty() {
+            return Ok(());
+        }
+        self.lent.put(ticket, named)
+    }
+
+    /// The promises that an outcome names have numbers from now on, by which objects name them.
+    fn adopt_given(&mut self, outcome: &Outcome) -> Result<(), AllocError>
+        ensures adopted { OnOk result (kin_of self.new ≡ adopting (caps_of outcome.now) (kin_of self.old)) }
+        ensures members { self.new.members ≡ self.old.members }
+    {
+        match outcome {
+            Outcome::Results { caps, .. } => self.adopt_each(caps),
+            Outcome::Failed(_) | Outcome::Canceled => Ok(()),
+        }
+    }
+
+    /// The promises that a table names have numbers from now on, by which objects name them.
+    fn adopt_each(&mut self, caps: &Caps) -> Result<(), AllocError>
+        ensures adopted { OnOk result (kin_of self.new ≡ adopting caps.now (kin_of self.old)) }
+        ensures members { self.new.members ≡ self.old.members }
+    {
+        let next = self.promises.adopt_each(caps, self.here.next())?;
+        self.here.set_next(next);
+        Ok(())
     }
 
     /// What an object settled, if it was to settle that.
@@ -281,6 +338,7 @@ impl<O: Maker<Makes = O>> Family<O> {
             Some(settled) => {
                 let_go(&mut self.members, number, settled.gives_up.ids());
                 self.owed.remove(settled.ticket);
+                self.lent.remove(settled.ticket);
             }
             None if has_more => {}
             None => self.awake.remove(number),

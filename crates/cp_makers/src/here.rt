@@ -161,8 +161,8 @@ impl<M: Drop> Here<M> {
         self.alloc
     }
 
-    /// Keeps an object or a promise that the object stores, though nothing else refers to it: once more for each call of this. What
-    /// isn't an object of this end, or a promise of one, isn't kept by this.
+    /// Keeps an object or a promise of this end that the object stores, though nothing else refers to it: once more for each call of this.
+    /// Any other capability isn't kept by this.
     pub fn keep(&mut self, cap: &Cap) -> Result<(), AllocError>
         ensures noted { OnOk result (place_of self.new ≡ keeping cap.now (place_of self.old)) }
         ensures err { OnErr result (place_of self.new ≡ place_of self.old) }

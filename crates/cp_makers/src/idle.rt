@@ -53,7 +53,8 @@ impl<O: Maker<Makes = O>> Family<O> {
         !self.promises.makers.contains(number) && !held.contains(number)
     }
 
-    /// The objects that owe an answer or made a promise that isn't resolved, and the objects and promises that others keep.
+    /// The objects that owe an answer or made a promise that isn't resolved; and the objects and promises that the params of calls name which
+    /// aren't answered, and those that others keep.
     fn held(&self) -> Result<NumberSet, AllocError>
         ensures { IfOk result (AreHeld (kin_of self.now)) }
     {
@@ -61,6 +62,7 @@ impl<O: Maker<Makes = O>> Family<O> {
         let owing = self.owed.objects(self.alloc)?;
         insert_each(&mut held, &owing)?;
         self.promises.insert_makers(&mut held)?;
+        self.lent.insert_all(&mut held)?;
         for (_, member) in self.members.iter() {
             insert_each(&mut held, member.keeps.numbers())?;
         }

@@ -9,6 +9,7 @@ mod grown;
 mod hall;
 mod here;
 mod idle;
+mod lent;
 mod listed;
 mod maker;
 mod member;

@@ -1,8 +1,9 @@
 //! Numbers in a list.
 
-ghost use Rattle.std.specs.Prelude.{◌≡◌, ◌∷◌, ◌++◌, [], OnOk, OnErr};
-ghost use Rattle.cp_makers.specs.Numbers.{is_among, without, without_each};
+ghost use Rattle.std.specs.Prelude.{◌≡◌, ◌≢◌, ◌∷◌, ◌++◌, [], true, false, IfOk, OnOk, OnErr};
+ghost use Rattle.cp_makers.specs.Numbers.{is_among, local_in, without, without_each};
 
+use cp_refs::{Cap, Caps};
 use cp_vat_machine::Ids;
 use std::alloc::{AllocError, Global};
 use std::marker::Model;
@@ -35,6 +36,27 @@ impl Numbers {
         Numbers {
             numbers: Vec::new(alloc),
         }
+    }
+
+    /// The objects and promises of this end that a table names, as objects see it.
+    pub(crate) fn local_in(alloc: Global, caps: &Caps) -> Result<Numbers, AllocError>
+        ensures { IfOk result (λ named. named ≡ local_in caps.now) }
+    {
+        let mut named = Numbers::new(alloc);
+        for cap in caps.caps() {
+            if let Cap::Object(number) = cap {
+                named.add(*number)?;
+            }
+        }
+        Ok(named)
+    }
+
+    /// Whether there is none.
+    pub(crate) fn is_empty(&self) -> bool
+        ensures none { result ≡ true → self.now ≡ [] }
+        ensures some { result ≡ false → self.now ≢ [] }
+    {
+        self.numbers.is_empty()
     }
 
     /// The numbers, lent.

@@ -1,9 +1,9 @@
 //! The promises of the objects of a family.
 
-ghost use Rattle.std.specs.Prelude.{◌≡◌, OnOk, map};
+ghost use Rattle.std.specs.Prelude.{◌≡◌, IfOk, OnOk, map};
 ghost use Rattle.std.specs.FinMap as maps;
 ghost use Rattle.cp_makers.specs.Numbers.{inserted};
-ghost use Rattle.cp_makers.specs.Promises.{HandsPledge, forgetting, keeping_promise, meant, named, none_promised, promised_of, promising, resolving, with_ask, with_outcome, with_pledge, with_request};
+ghost use Rattle.cp_makers.specs.Promises.{HandsPledge, adopted, adopted_each, forgetting, keeping_promise, meant, named, none_promised, promised_of, promising, resolving, with_ask, with_outcome, with_pledge, with_request};
 
 use crate::number_set::NumberSet;
 use crate::pledge::Pledge;
@@ -14,8 +14,8 @@ use std::alloc::{AllocError, Global};
 use std::collections::VecDeque;
 use std::mem;
 
-/// The promises of the objects of a family, by the numbers that the family gave them. The vat has numbers of its own for them, which it
-/// uses again. Objects never see these: a number in a field could then come to stand for another promise.
+/// The promises that objects of a family made, or that calls of theirs named, by the numbers that the family gave them. The vat has numbers
+/// of its own for them, which it uses again. Objects never see these: a number in a field could then come to stand for another promise.
 #[derive(Drop)]
 pub(crate) struct Promises {
     /// Who made each promise that isn't resolved.
@@ -67,12 +67,24 @@ impl Promises {
         Some(self.meant_pledge(pledge))
     }
 
-    /// The vat made a promise of its own for a number.
+    /// The vat has a promise of its own for a number.
     pub(crate) fn keep(&mut self, number: u32, id: PromiseId) -> Result<(), AllocError>
         ensures { OnOk result (promised_of self.new ≡ keeping_promise number id (promised_of self.old)) }
     {
         self.ids.put(number, id)?;
         self.names.put(id, number)
+    }
+
+    /// The vat's promises that a table names have numbers from now on, this one and those after it, if they had none. Gives the number that is
+    /// free then.
+    pub(crate) fn adopt_each(&mut self, caps: &Caps, next: u32) -> Result<u32, AllocError>
+        ensures { IfOk result (λ free. (promised_of self.new, free) ≡ adopted_each caps.now (promised_of self.old, next)) }
+    {
+        let mut free = next;
+        for cap in caps.caps() {
+            free = self.adopt(cap, free)?;
+        }
+        Ok(free)
     }
 
     /// The vat forgot a promise of its own.
@@ -179,6 +191,23 @@ impl Promises {
             self.name(cap);
         }
         Caps::new(caps)
+    }
+
+    /// A promise of the vat's has this number from now on, if it had none. Gives the number that is free then.
+    fn adopt(&mut self, cap: &Cap, next: u32) -> Result<u32, AllocError>
+        ensures { IfOk result (λ free. (promised_of self.new, free) ≡ adopted cap.now (promised_of self.old, next)) }
+    {
+        let Cap::Promise(id) = cap else {
+            return Ok(next);
+        };
+        if self.names.contains(*id) {
+            return Ok(next);
+        }
+        let Some(free) = next.checked_add(1) else {
+            return Err(AllocError);
+        };
+        self.keep(next, *id)?;
+        Ok(free)
     }
 
     /// What is to be done, as the vat is to do it.

@@ -12,9 +12,10 @@ use cp_refs::PromiseId;
 use std::alloc::AllocError;
 
 impl Objects {
-    /// Forgets each promise of objects that is resolved and that nothing refers to. Then drops each object that may go and that nothing
-    /// of the connection refers to, and tries to release the imports that were given up, with those that it held. Nothing is done while
-    /// something that happened wasn't worked off, as that may be a call of an object, or name a promise.
+    /// Forgets each promise that objects made, or that calls and outcomes of theirs named, if it is resolved and nothing refers to it. Then
+    /// drops each object that may go and that nothing of the connection refers to, and tries to release the imports that were given up,
+    /// with those that it held. Nothing is done while something that happened wasn't worked off, as that may be a call of an object, or
+    /// name a promise. What you yourself hold isn't counted.
     pub fn drop_idle<H: Hall>(
         &mut self,
         connection: &mut Connection,

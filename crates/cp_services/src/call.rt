@@ -1,13 +1,15 @@
 //! Calls, as methods of objects have them.
 
 ghost use Rattle.std.specs.Prelude.{◌≡◌, [], Some, true, false, IfOk, OnOk, OnErr};
+ghost use Rattle.cp_makers.specs.Here.{keeping, keeping_for, place_of};
 ghost use Rattle.cp_stubs.specs.Calls.{import_of};
 ghost use Rattle.cp_stubs.specs.Replies.{given_up, with_import};
 ghost use Rattle.cp_services.specs.Calls.{reply_for};
 
 use crate::later::LaterCall;
 use crate::results::{Content, ServiceResults};
-use cp_refs::Caps;
+use cp_makers::Here;
+use cp_refs::{Cap, Caps};
 use cp_servants::Reply;
 use cp_stubs::{Answer, CallTarget, MethodCall, MethodFault, given_up, refuse};
 use cp_vat_machine::Ids;
@@ -53,18 +55,38 @@ impl<'c, P, R> ServiceCall<'c, P, R> {
         self.of.caps()
     }
 
-    /// The object keeps this capability of the params, until it says `Here::give_up` of it, or another keeps it in its place
-    /// (`Here::keep_for`). All others are given up with the answer: if they were kept until the object says so, each call could leak.
-    pub fn keep(&mut self, target: &CallTarget) -> Result<(), AllocError>
+    /// The object keeps this capability of the params, until it says `Here::give_up` of it. All others are given up with the answer: if
+    /// they were kept until the object says so, each call could leak.
+    pub fn keep<M: Drop>(
+        &mut self,
+        target: &CallTarget,
+        here: &mut Here<M>,
+    ) -> Result<(), AllocError>
         ensures kept { OnOk result (self.new.keeps.items ≡ with_import (import_of target.now) self.old.keeps.items) }
+        ensures noted { OnOk result (place_of here.new ≡ keeping target.now (place_of here.old)) }
         ensures left { OnErr result (self.new.keeps.items ≡ self.old.keeps.items) }
         ensures parts { (self.new.params ≡ self.old.params) × (self.new.results ≡ self.old.results) }
         ensures call { (self.new.of.now ≡ self.old.of.now) × (self.new.is_later ≡ self.old.is_later) }
     {
-        if let Some(import) = target.import() {
-            self.keeps.push(import)?;
-        }
-        Ok(())
+        here.keep(target.cap())?;
+        self.keep_import(target)
+    }
+
+    /// Another object of the connection, as one that was made just now, keeps this capability of the params until it is dropped.
+    pub fn keep_for<M: Drop>(
+        &mut self,
+        object: &Cap,
+        target: &CallTarget,
+        here: &mut Here<M>,
+    ) -> Result<(), AllocError>
+        ensures kept { OnOk result (self.new.keeps.items ≡ with_import (import_of target.now) self.old.keeps.items) }
+        ensures noted { OnOk result (place_of here.new ≡ keeping_for object.now target.now (place_of here.old)) }
+        ensures left { OnErr result (self.new.keeps.items ≡ self.old.keeps.items) }
+        ensures parts { (self.new.params ≡ self.old.params) × (self.new.results ≡ self.old.results) }
+        ensures call { (self.new.of.now ≡ self.old.of.now) × (self.new.is_later ≡ self.old.is_later) }
+    {
+        here.keep_for(object, target.cap())?;
+        self.keep_import(target)
     }
 
     /// The call is answered later, by a poll of the object that gives what this makes. What was written of its results is dropped.
@@ -80,6 +102,19 @@ impl<'c, P, R> ServiceCall<'c, P, R> {
         let gives_up = given_up(self.alloc, self.of.caps(), &keeps)?;
         self.is_later = true;
         Ok(LaterCall::new(self.of.ticket, gives_up))
+    }
+
+    /// An import isn't given up with the answer.
+    fn keep_import(&mut self, target: &CallTarget) -> Result<(), AllocError>
+        ensures kept { OnOk result (self.new.keeps.items ≡ with_import (import_of target.now) self.old.keeps.items) }
+        ensures left { OnErr result (self.new.keeps.items ≡ self.old.keeps.items) }
+        ensures parts { (self.new.params ≡ self.old.params) × (self.new.results ≡ self.old.results) }
+        ensures call { (self.new.of.now ≡ self.old.of.now) × (self.new.is_later ≡ self.old.is_later) }
+    {
+        if let Some(import) = target.import() {
+            self.keeps.push(import)?;
+        }
+        Ok(())
     }
 }
 

@@ -70,8 +70,7 @@ impl ServiceObject for Chat {
 impl ChatServer for Chat {
     fn join(&mut self, call: &mut ChatJoinCall<'_>, here: &mut Here<Served>) -> MethodResult {
         let listener = call.params.listener_client(here.alloc(), call.caps())?;
-        call.keep(&listener.target)?;
-        let heard = listener.target.cap().copy(here.alloc())?;
+        let heard = listener.target.copy()?;
         let name = Rc::new(here.alloc(), call.params.name()?.text(here.alloc())?)?;
         let mut room = self.0.try_borrow_mut()?;
         room.joined = room.joined.saturating_add(1);
@@ -83,7 +82,7 @@ impl ChatServer for Chat {
             told: room.lines.len(),
         };
         let member = here.make(Served::Second(MemberServant { object }))?;
-        here.keep_for(&member, &heard)?;
+        call.keep_for(&member, &heard, here)?;
         let member = MemberClient::new(here.alloc(), member);
         Ok(call.results.set_member(member)?)
     }

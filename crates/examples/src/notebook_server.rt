@@ -128,7 +128,7 @@ impl NotebookServer for Notebook {
 
     fn watch(&mut self, call: &mut NotebookWatchCall<'_>, here: &mut Here<Served>) -> MethodResult {
         let watcher = call.params.watcher_client(here.alloc(), call.caps())?;
-        call.keep(&watcher.target)?;
+        call.keep(&watcher.target, here)?;
         self.tell_all(here)?;
         self.watchers.push(watcher)?;
         Ok(())

@@ -10,10 +10,10 @@
 //! With `--services` in place of `--interfaces` a method gets its `ServiceCall`, which has its params and its results, to be filled in, and the
 //! `server::Here` of the object; it returns a `MethodResult`. Results and params hold the table of the capabilities that they name:
 //! `results.set_page(page)`. A struct with a name of its own may be a part of others, so its setters take the table of what it becomes a part
-//! of; as the results of a method it is a `NamedResults`. `ServiceCall::keep` keeps a capability of the params. `ServiceCall::later` gives the
-//! `LaterCall` by which a poll of the object answers. The object implements `ServiceObject`, which names the one type of all objects of
-//! its connection. A `StoreServant` is a `server::Maker` then. A client's method whose params are at most four numbers, texts and capabilities
-//! takes these in place of a builder, and `get_ask` is such a call as an object makes it.
+//! of; as the results of a method it is a `NamedResults`. `ServiceCall::keep` keeps a capability of the params, and `keep_for` has another
+//! object do so. `ServiceCall::later` gives the `LaterCall` by which a poll of the object answers. The object implements `ServiceObject`,
+//! which names the one type of all objects of its connection. A `StoreServant` is a `server::Maker` then. A client's method whose params
+//! are at most four numbers, texts and capabilities takes these in place of a builder, and `get_ask` is such a call as an object makes it.
 //!
 //! There lists of structs have generated builders, and those of texts, data, capabilities and lists the builders of this module. Lists of
 //! other numbers are set to a `Vec` of them, or to a slice where the numbers are signed, floating-point or an enum's.

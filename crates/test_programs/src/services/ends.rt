@@ -4,7 +4,7 @@
 use crate::services::notebook::NOTES;
 use cp_frame::Mode;
 use cp_makers::{Hall, Waker};
-use cp_refs::{Cap, Caps, Outcome, Request};
+use cp_refs::{Cap, Caps, Outcome, Path, Request};
 use cp_servants::{Content, results_of, word_in};
 use cp_session::{Session, SessionEvent, SessionLimits, SessionOptions};
 use cp_words::Limits;
@@ -60,6 +60,8 @@ pub(crate) enum With {
     Import(u32),
     /// An object of the client.
     Object(u32),
+    /// What the first pointer of this question's results will be.
+    Result(u32),
 }
 
 /// What is seen of a step.
@@ -240,6 +242,10 @@ fn request(rt: &impl Abort, alloc: Global, method: u16, with: With) -> Request {
         With::Word(word) => params.word(word),
         With::Import(import) => params.cap(Cap::Import(import)),
         With::Object(object) => params.cap(Cap::Object(object)),
+        With::Result(question) => {
+            let path = Vec::from_array(alloc, [0]).expect(rt, "memory");
+            params.cap(Cap::Pipelined(question, Path::new(path)))
+        }
     };
     params.expect(rt, "params").request(NOTES, method)
 }

@@ -17,7 +17,7 @@ pub(crate) const NOTES: u64 = 0xe5a1_0000_0000_0007;
 /// Methods of a notebook: a new page of a number, a watcher more, a note more, and a word after some milliseconds. Then a page that is
 /// promised, what it comes to (the capability that is named, or a page of a number), that it comes to nothing, and what was named. Then to
 /// tell a watcher of a number and of three more, how often it heard what came of that, to give its watcher up after some milliseconds, and
-/// a new page that keeps a watcher.
+/// a new page that keeps a capability.
 pub(crate) const OPEN: u16 = 0;
 
 pub(crate) const WATCH: u16 = 1;
@@ -235,10 +235,20 @@ fn first_of(alloc: Global, caps: &Caps) -> Result<Cap, AllocError> {
     }
 }
 
+/// A page that keeps this.
+fn new_keeper(kept: Cap) -> Served {
+    Served::Second(Page {
+        number: 0,
+        kept: Some(kept),
+        counted: 0,
+        vow: Vow::none(),
+    })
+}
+
 /// Makes a page that keeps the first capability of a table.
 fn join(caps: &Caps, here: &mut Here<Served>) -> Result<Reply, AllocError> {
     let alloc = here.alloc();
-    let page = here.make(new_page(0))?;
+    let page = here.make(new_keeper(first_of(alloc, caps)?))?;
     let kept = match caps.caps().first() {
         Some(watcher) => here.keep_for(&page, watcher),
         None => Ok(()),

@@ -1,7 +1,9 @@
 //! Pages are promised, called before they are there, and come to a page, to what a client gave, or to nothing.
 
 use crate::services::ends::{Step, With};
-use crate::services::notebook::{BREAK, COUNT, OPEN, PROMISE, READ, RESOLVE, SAME, VOW};
+use crate::services::notebook::{
+    BREAK, COUNT, JOIN, KEEP, KEPT, OPEN, PROMISE, READ, RESOLVE, SAME, VOW,
+};
 use crate::services::pair::{Pair, WATCHER};
 use std::process::Abort;
 
@@ -156,4 +158,37 @@ fn what_was_promised_goes(rt: HostRuntime) {
         check!(&rt; pair.act(&rt, Step::Pass(0)).kept == kept);
     }
     drop(pair);
+}
+
+#[test]
+fn results_that_were_named_before_they_came_are_kept_and_go(rt: HostRuntime) {
+    let mut pair = Pair::new(&rt, rt.alloc(), 1);
+    let book = pair.book;
+    let kept = pair.act(&rt, Step::Pass(0)).kept;
+    for number in 0..20 {
+        let page = pair.page(&rt, PROMISE, 0);
+        let made = pair.begin(&rt, page, KEEP, With::Word(number));
+        let early = pair.begin(&rt, page, KEPT, With::Word(0));
+        // The call that gives it waits, so what is named is a promise of the server's.
+        let joined = pair.call(&rt, book, JOIN, With::Result(early)).import;
+        let joined = joined.expect(&rt, "a page");
+        resolve_early(&rt, &mut pair, [made, early]);
+        pair.act(&rt, Step::Pass(2_000));
+        let named = pair.call(&rt, joined, KEPT, With::Word(0)).import;
+        let named = named.expect(&rt, "what it keeps");
+        check!(&rt; pair.call(&rt, named, READ, With::Word(0)).word == number);
+        expect_none_left(&rt, &mut pair);
+        check!(&rt; pair.act(&rt, Step::Pass(0)).kept == kept);
+    }
+    drop(pair);
+}
+
+/// What the notebook promised comes to a page, and these calls that waited are answered.
+fn resolve_early(rt: &impl Abort, pair: &mut Pair, waited: [u32; 2]) {
+    let book = pair.book;
+    let resolved = pair.begin(rt, book, RESOLVE, With::Word(0));
+    for _ in 0..3 {
+        let (question, got) = pair.take(rt);
+        check!(rt; !got.is_failed && (question == resolved || waited.contains(&question)));
+    }
 }

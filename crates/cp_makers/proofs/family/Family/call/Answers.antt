@@ -1,3 +1,4 @@
+use Rattle.cp_makers.specs.Family.{kin_of}
 use Rattle.cp_makers.specs.Here.{place_of}
 use Rattle.cp_makers.proofs.family.Family.call.Goals as goal
 
@@ -6,7 +7,11 @@ returns g c = record {
   before = c.entry_mut-member.result.now;
   object = c.call.new.self;
   place = place_of c.call.new.here;
+  first = kin_of c.adopt_each.new.self;
+  seen = c.named_request-request.result;
+  adopts = c.in_ok-adopt_each.ensures.adopted;
   was = c.entry_mut-member.ensures.value;
-  takes = rw (c.enter.ensures, c.named_request-request.ensures) at c.in_ok-reply.ensures;
-  is = rw (c.in_ok-add_each.ensures.added, c.ids.ensures, c.in_ok-imports.ensures) at c.in_ok-follow_call.ensures;
+  sees = c.named_request-request.ensures;
+  takes = rw c.enter.ensures at c.in_ok-reply.ensures;
+  is = rw (c.in_ok-add_each.ensures.added, c.ids.ensures, c.in_ok-imports.ensures, c.in_ok-named.ensures) at c.in_ok-follow_call.ensures;
 }
