@@ -131,7 +131,7 @@ class Run:
         while time.monotonic() < start + PATIENCE:
             try:
                 return self.peer(attempt())
-            except (ConnectionRefusedError, TimeoutError):
+            except (ConnectionRefusedError, ConnectionResetError, TimeoutError):
                 if last:
                     return self.peer(None)
             time.sleep(0.001)

@@ -54,7 +54,6 @@ class Session {
   Trial::Client trial;
   std::vector<Handle> handles;
   std::vector<kj::Promise<void>> open;
-  bool is_awaited = false;  // whether a Cell is to come later
 
   Trial::Client bootstrap() {
     capnp::MallocMessageBuilder message(8);
@@ -86,7 +85,6 @@ class Session {
   void settle() {
     for (auto& each : open) each.wait(scope);
     open.clear();
-    is_awaited = false;
   }
 
   size_t any() { return draw(handles.size()); }
@@ -106,7 +104,6 @@ class Session {
     auto sent = trial.laterRequest().send();
     add(sent.getCell(), 100);
     keep(sent.ignoreResult());
-    is_awaited = true;
   }
 
   void calls(Handle& handle) {
@@ -147,8 +144,6 @@ class Session {
   }
 
   void promises(Handle handle) {
-    // (A path of an open answer that is given to our server is a promise there, which stays with what it came to while the connection does.)
-    if (is_awaited) settle();
     totals.promised++;
     auto request = trial.becomeRequest();
     request.setMilliseconds(draw(4));

@@ -4,7 +4,7 @@
 #                                nothing, its calls are answered in time, and it calls what it is given. Direct, through `CLI relay`, and
 #                                through a guard. Then random sessions compared with a plain model: 200 of 300 moves on each of these
 #                                ways, SESSIONS (10,000) of ten moves, ten at once, and clients that are killed; 50 with a server over the C++
-#                                library, too. SERVING is the program, if it is built elsewhere
+#                                library, too. One connection names 80,000 promises. SERVING is the program, if it is built elsewhere
 set -eu
 cli=$1 sessions=${3:-10000} port=17661 relayed=17662 guarded=17663
 mkdir -p "$2"
@@ -87,6 +87,17 @@ many() { # memory is level
     echo "$name: $sessions sessions, ten at once, in $((SECONDS - since)) s, $first to $now kB"
 }
 
+named() { # more promises of one connection than a vat has, and memory is level
+    local before now
+    plays "$build/services/named" "127.0.0.1:$port" 20 1000
+    before=$(memory "$server")
+    plays "$build/services/named" "127.0.0.1:$port" 80 1000
+    now=$(memory "$server")
+    [ "$now" -le "$((before + most_grown))" ] || fail "$name: from $before to $now kB"
+    expect_none
+    echo "$name: $(cat "$build/said"), $before to $now kB"
+}
+
 killed() {
     local turn
     for turn in $(seq 50); do
@@ -109,6 +120,7 @@ libraries
 worlds 200 direct "$port"
 worlds 200 relayed "$relayed"
 worlds 200 guarded "$guarded"
+named
 many
 killed
 end
