@@ -28,8 +28,8 @@ use Rattle.cp_makers.specs.Numbers.{Numbers, is_among, is_number, local_in, with
 use Rattle.cp_makers.specs.Promises.{Promised, adopted_each, named, none_promised, promised_of, promising, resolving, with_outcome, with_request}
 
 -- The objects by their numbers; where they are, and which number the next one gets; below which number they stay; which are to be polled; who owes the answer
--- of which call; which objects and promises the params of such a call name; their promises; the imports that they gave up beside what they answered, in order; who is to be woken elsewhere, in order; and the time
--- before which none is to be woken here.
+-- of which call; which objects and promises the params of such a call name; their promises; the imports that they gave up beside what they answered, in order;
+-- who is to be woken elsewhere, in order; and the time before which none is to be woken here.
 pub record Kin (A : Type 0) : Type 0 where
   pub members : Table (Member A)
   pub here : Place A
@@ -248,11 +248,13 @@ module _ {A : Type 0} where
   rung [] kin = kin
   rung (k ∷ more) kin = rung more (ringing k kin)
 
-  -- Those are to be polled whose time has come, where one's may have.
+  -- Those are to be polled whose time has come by this one, and the next time is known.
+  abbrev pub rung_at : ℕ → Kin A → Kin A
+  rung_at now kin = record (rung (due_among now (entries kin.members)) kin) { first_alarm = next_alarm now None (entries kin.members) }
+
+  -- so it is where one's time may have come
   abbrev pub woken : Kin A → Kin A
-  woken kin =
-      if is_later kin.here.now kin.first_alarm then kin
-      else record (rung (due_among kin.here.now (entries kin.members)) kin) { first_alarm = next_alarm kin.here.now None (entries kin.members) }
+  woken kin = if is_later kin.here.now kin.first_alarm then kin else rung_at kin.here.now kin
 
 -- Of objects of one kind.
 module _ {A : Type 0} (kind : MakerKind A A) where

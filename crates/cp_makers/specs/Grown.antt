@@ -9,7 +9,7 @@ use Rattle.cp_makers.specs.Hall.{HallKind}
 use Rattle.cp_makers.specs.Maker.{MakerKind}
 use Rattle.cp_makers.specs.Members.{without_asks}
 use Rattle.cp_makers.specs.Numbers.{Numbers, IsFirst}
-use Rattle.cp_makers.specs.Promises.{HandsPledge, forgetting, keeping_promise, meant, with_ask, with_outcome}
+use Rattle.cp_makers.specs.Promises.{HandsPledge, forgetting, has_name, keeping_promise, meant, with_ask, with_outcome}
 
 -- the first of those that are to be woken elsewhere is handed out, if there is one
 abbrev pub HandsOn : {A : Type 0} → Option Waker → Kin A → Kin A → Type 0
@@ -49,4 +49,6 @@ grown kind = record {
   means_ask = λ ask f. with_ask (meant (kin_of f).promised.ids) ask;
   loose = λ f. loose_of (kin_of f);
   forgets = λ id old new. kin_of new ≡ promised_so (forgetting id (kin_of old).promised) (kin_of old);
+  knows = λ id f. has_name id (kin_of f).promised;
+  unknown = λ promises f. promises - len (kin_of f).promised.names;
 }

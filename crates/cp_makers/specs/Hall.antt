@@ -1,5 +1,5 @@
 -- What the objects of a connection do, of whatever form they are.
-use Rattle.std.specs.Prelude.{ℕ, List, Option}
+use Rattle.std.specs.Prelude.{ℕ, Bool, List, Option}
 use Rattle.cp_refs.specs.declared.call.Request.{Request}
 use Rattle.cp_refs.specs.declared.outcome.Outcome.{Outcome}
 use Rattle.cp_servants.specs.declared.servant.Ask.{Ask}
@@ -12,8 +12,9 @@ use Rattle.cp_makers.specs.declared.waker.Waker.{Waker}
 -- is yet to make, and is told what its call of a mark came to. Which is polled first of those from a number on, and when one may give more though nothing more
 -- comes. How many may go, which go unless the connection refers to them, and what it does that one goes, which held these imports. What it does that their
 -- session has a number, that it is a time, that those are woken whose time has come, and that one is woken; when one is to be woken first; who is to be woken
--- elsewhere; and which imports they gave up beside what they answered. Of promises: what is to be done first, which the vat made for a number, and what it does that it made this; what an outcome and a call of
--- theirs mean to the vat; which of its promises go unless it uses them, and what it does that it forgot one.
+-- elsewhere; and which imports they gave up beside what they answered. Of promises: what is to be done first, which the vat made for a number, and what it does
+-- that it made this; what an outcome and a call of theirs mean to the vat; which of its promises go unless it uses them, and what it does that it forgot one;
+-- which they may know, and how many, of so many, they don't.
 pub record HallKind (H : Type 0) : Type 1 where
   pub holds : ℕ → H → Type 0
   pub calls : ℕ → ℕ → Request → Reply → H → H → Type 0
@@ -40,3 +41,5 @@ pub record HallKind (H : Type 0) : Type 1 where
   pub means_ask : Ask → H → Ask
   pub loose : H → List ℕ
   pub forgets : ℕ → H → H → Type 0
+  pub knows : ℕ → H → Bool
+  pub unknown : ℕ → H → ℕ

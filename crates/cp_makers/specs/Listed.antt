@@ -1,5 +1,5 @@
 -- A list of objects that is fixed.
-use Rattle.std.specs.Prelude.{◌≡◌, ℕ, ◌<◌, ◌≤◌, List, [], Option, Some, None, length}
+use Rattle.std.specs.Prelude.{◌≡◌, ℕ, ◌<◌, ◌≤◌, true, List, [], Option, Some, None, length}
 use Rattle.std.specs.Global.{Vec}
 use Rattle.cp_servants.specs.Servant.{Kind, CallsAt, PollsAt, AsksAt, TellsAt, SomeMaySayMore}
 use Rattle.cp_makers.specs.Hall.{HallKind}
@@ -10,6 +10,7 @@ IsListed from (Some number) objects = (number ≡ from) × (from < length object
 IsListed from None objects = length objects ≤ from
 
 -- What is done to the list is done to the object at a place of it. None goes, none is woken, none makes promises, and none gives imports up beside what it answers.
+-- Any may know each promise of the vat's.
 abbrev pub listed : {A : Type 0} → Kind A → HallKind (Vec A)
 listed kind = record {
   holds = λ number v. number < length v.items;
@@ -37,4 +38,6 @@ listed kind = record {
   means_ask = λ ask v. ask;
   loose = λ v. [];
   forgets = λ id old new. new ≡ old;
+  knows = λ id v. true;
+  unknown = λ promises v. 0;
 }

@@ -3,7 +3,7 @@
 ghost use Rattle.std.specs.Prelude.{◌≡◌, None, IfOk, OnOk};
 ghost use Rattle.std.specs.FinMap as maps;
 ghost use Rattle.cp_makers.specs.Members.{is_later};
-ghost use Rattle.cp_makers.specs.Family.{due_among, first_of, kin_of, next_alarm, ringing, rung, woken};
+ghost use Rattle.cp_makers.specs.Family.{due_among, first_of, kin_of, next_alarm, ringing, rung, rung_at, woken};
 
 use crate::family::{Family, earlier};
 use crate::maker::Maker;
@@ -24,7 +24,7 @@ impl<O: Maker<Makes = O>> Family<O> {
 
     /// Wakes the objects that are to be woken by this time.
     fn ring(&mut self, now: u64) -> Result<(), AllocError>
-        ensures { OnOk result (kin_of self.new ≡ record (rung (due_among now (maps.entries self.old.members)) (kin_of self.old)) { first_alarm = next_alarm now None (maps.entries self.old.members) }) }
+        ensures { OnOk result (kin_of self.new ≡ rung_at now (kin_of self.old)) }
     {
         let due = self.due(now)?;
         let first = self.next_alarm(now);

@@ -126,4 +126,12 @@ impl<O: Maker<Makes = O>> Hall for Family<O> {
     fn forget(&mut self, id: PromiseId) {
         self.promises.forget(id);
     }
+
+    fn knows_promise(&self, id: PromiseId) -> bool {
+        self.promises.has_name(id)
+    }
+
+    fn unknown_promises(&self, promises: usize) -> usize {
+        promises.saturating_sub(self.promises.len())
+    }
 }

@@ -130,4 +130,12 @@ pub trait Hall: Drop {
     /// The vat forgot this promise of its own.
     fn forget(&mut self, id: PromiseId)
         ensures { hall.forgets id self.old self.new };
+
+    /// Whether an object may know this promise of the vat's.
+    fn knows_promise(&self, id: PromiseId) -> bool
+        ensures { result ≡ hall.knows id self.now };
+
+    /// How many of the vat's promises no object knows, where the vat has so many.
+    fn unknown_promises(&self, promises: usize) -> usize
+        ensures { result ≡ hall.unknown promises self.now };
 }

@@ -118,4 +118,13 @@ impl<O: Servant> Hall for Vec<O> {
     }
 
     fn forget(&mut self, _id: PromiseId) {}
+
+    fn knows_promise(&self, _id: PromiseId) -> bool {
+        // Objects of a list are given the vat's own names of promises, and may keep them.
+        true
+    }
+
+    fn unknown_promises(&self, _promises: usize) -> usize {
+        0
+    }
 }

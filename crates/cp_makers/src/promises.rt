@@ -3,7 +3,7 @@
 ghost use Rattle.std.specs.Prelude.{◌≡◌, IfOk, OnOk, map};
 ghost use Rattle.std.specs.FinMap as maps;
 ghost use Rattle.cp_makers.specs.Numbers.{inserted};
-ghost use Rattle.cp_makers.specs.Promises.{HandsPledge, adopted, adopted_each, forgetting, keeping_promise, meant, named, none_promised, promised_of, promising, resolving, with_ask, with_outcome, with_pledge, with_request};
+ghost use Rattle.cp_makers.specs.Promises.{HandsPledge, adopted, adopted_each, forgetting, has_name, keeping_promise, meant, named, none_promised, promised_of, promising, resolving, with_ask, with_outcome, with_pledge, with_request};
 
 use crate::number_set::NumberSet;
 use crate::pledge::Pledge;
@@ -94,6 +94,13 @@ impl Promises {
         if let Some(number) = self.names.remove(id) {
             let _ = self.ids.remove(number);
         }
+    }
+
+    /// Whether a promise of the vat's has a number.
+    pub(crate) fn has_name(&self, id: PromiseId) -> bool
+        ensures { result ≡ has_name id (promised_of self.now) }
+    {
+        self.names.get(id).is_some()
     }
 
     /// How many the vat made.
@@ -200,7 +207,7 @@ impl Promises {
         let Cap::Promise(id) = cap else {
             return Ok(next);
         };
-        if self.names.contains(*id) {
+        if self.has_name(*id) {
             return Ok(next);
         }
         let Some(free) = next.checked_add(1) else {

@@ -1,5 +1,5 @@
 -- Which promises are forgotten, and which objects are dropped.
-use Rattle.std.specs.Prelude.{◌≡◌, ◌≢◌, ℕ, true, false, List, [], ◌∷◌, Ok, Err}
+use Rattle.std.specs.Prelude.{◌≡◌, ◌≢◌, ℕ, Bool, true, false, List, [], ◌∷◌, Ok, Err}
 use Rattle.cp_vat_machine.specs.InUse.{is_object_used}
 use Rattle.cp_vat_machine.specs.declared.event.Event.TheVariants as events
 use Rattle.cp_vat_machine.specs.declared.event.Value.TheVariants as values
@@ -9,6 +9,11 @@ use Rattle.cp_connection.specs.Link.{Link}
 use Rattle.cp_connection.specs.Doing.{Acts}
 use Rattle.cp_makers.specs.Hall.{HallKind}
 use Rattle.cp_objects.specs.Work.{Work, GivesUp, Releases}
+
+-- whether a promise of the vat's goes: not while the vat uses it, and not once the connection ended
+pub data Goes (id : ℕ) (old : Link) : Bool → Link → Type 0 where
+  went : (new : Link) → Acts old (events.Forget id) (Ok values.Nothing) new → Goes id old true new
+  stays : (fault : ConnectionFault) (new : Link) → fault ≢ faults.OutOfMemory → Acts old (events.Forget id) (Err fault) new → Goes id old false new
 
 module _ {H : Type 0} (hall : HallKind H) where
   -- An object goes if the vat doesn't refer to it, and the imports that it held are given up; else it stays.
@@ -23,11 +28,10 @@ module _ {H : Type 0} (hall : HallKind H) where
   LosesEach (number ∷ more) old new objects others =
       (mid : Work) × (between : H) × LosesIdle number old mid objects between × LosesEach more mid new between others
 
-  -- A promise of the vat goes unless the vat uses it, or the connection had ended.
+  -- A promise goes, and objects lose its number; or it stays.
   pub data Forgets (id : ℕ) (old new : Link) (objects others : H) : Type 0 where
-    is_forgotten : Acts old (events.Forget id) (Ok values.Nothing) new → hall.forgets id objects others → Forgets id old new objects others
-    stays : (fault : ConnectionFault) → fault ≢ faults.OutOfMemory → Acts old (events.Forget id) (Err fault) new → others ≡ objects
-        → Forgets id old new objects others
+    is_forgotten : Goes id old true new → hall.forgets id objects others → Forgets id old new objects others
+    is_left : Goes id old false new → others ≡ objects → Forgets id old new objects others
 
   -- these, one after another
   abbrev pub ForgetsEach : List ℕ → Link → Link → H → H → Type 0

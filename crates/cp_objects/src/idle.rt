@@ -1,7 +1,8 @@
 //! Objects and promises that nothing refers to.
 
-ghost use Rattle.std.specs.Prelude.{OnOk};
-ghost use Rattle.cp_objects.specs.Dropping.{DropsIdle, Forgets, ForgetsEach, LosesEach, LosesIdle};
+ghost use Rattle.std.specs.Prelude.{IfOk, OnOk};
+ghost use Rattle.cp_objects.specs.Dropping.{DropsIdle, Forgets, ForgetsEach, Goes, LosesEach, LosesIdle};
+ghost use Rattle.cp_objects.specs.Idle.{UnknownGo, UnknownGoes};
 ghost use Rattle.cp_objects.specs.Work.{Lives};
 ghost use Rattle.cp_objects.specs.WorkOf.{work_of};
 
@@ -66,6 +67,37 @@ impl Objects {
     }
 }
 
+/// Forgets each of these promises that no object may know and that the vat doesn't use.
+pub(crate) fn forget_unknown<H: Hall>(
+    connection: &mut Connection,
+    objects: &H,
+    ids: &[PromiseId],
+) -> Result<(), AllocError>
+    ensures done { OnOk result (UnknownGo H.hall objects.now ids.now connection.old connection.new) }
+    ensures lives { Lives connection.old connection.new }
+{
+    for id in ids {
+        forget_if_unknown(connection, objects, *id)?;
+    }
+    Ok(())
+}
+
+/// Forgets a promise that no object may know, if the vat doesn't use it.
+fn forget_if_unknown<H: Hall>(
+    connection: &mut Connection,
+    objects: &H,
+    id: PromiseId,
+) -> Result<(), AllocError>
+    ensures done { OnOk result (UnknownGoes H.hall objects.now id connection.old connection.new) }
+    ensures lives { Lives connection.old connection.new }
+{
+    if objects.knows_promise(id) {
+        return Ok(());
+    }
+    let _ = forget_unused(connection, id)?;
+    Ok(())
+}
+
 /// Forgets each of these promises that the vat doesn't use.
 fn forget_each<H: Hall>(
     connection: &mut Connection,
@@ -90,15 +122,24 @@ fn forget<H: Hall>(
     ensures done { OnOk result (Forgets H.hall id connection.old connection.new objects.old objects.new) }
     ensures lives { Lives connection.old connection.new }
 {
+    let went = forget_unused(connection, id)?;
+    if went {
+        objects.forget(id);
+    }
+    Ok(())
+}
+
+/// Has the vat forget a promise, unless it uses it. Says whether it did.
+fn forget_unused(connection: &mut Connection, id: PromiseId) -> Result<bool, AllocError>
+    ensures done { IfOk result (λ went. Goes id connection.old went connection.new) }
+    ensures lives { Lives connection.old connection.new }
+{
     let fault = match connection.forget(id) {
-        Ok(()) => {
-            objects.forget(id);
-            return Ok(());
-        }
+        Ok(()) => return Ok(true),
         Err(fault) => fault,
     };
     match fault {
         ConnectionFault::OutOfMemory => Err(AllocError),
-        _ => Ok(()),
+        _ => Ok(false),
     }
 }

@@ -18,6 +18,7 @@ ghost use Rattle.cp_objects.specs.WorkOf.{work_of};
 
 use crate::asker::Asker;
 use crate::holders::ImportHolders;
+use crate::idle::forget_unknown;
 use crate::notice::{Notice, noticed_memory};
 use crate::pledges::with_pledges_kept;
 use cp_connection::{Connection, ConnectionFault, Happening};
@@ -51,8 +52,8 @@ use std::mem;
 ///    by then, and gives back imports that objects gave up.
 /// 5. Before you wait for the peer, go on with rounds while `Hall::again` says that an object may give more, and write
 ///    what is to go out.
-/// 6. Where objects may call, and you hold no import yourself, call `release_idle` from time to time; and `drop_idle` where objects
-///    make others.
+/// 6. Where objects may call, and you hold no import or promise yourself, call `release_idle` from time to time; and `drop_idle` where
+///    objects make others.
 ///
 /// # What becomes of a call
 ///
@@ -78,7 +79,7 @@ use std::mem;
 /// none, and the first object that gives an import up releases it.
 ///
 /// Some imports no object is given: those of a call that fails before it reaches one, and what a promise of the peer's came
-/// to. `release_idle` releases them.
+/// to. `release_idle` releases them. It forgets promises that no object is given, too.
 ///
 /// # Errors, and what each leaves
 ///
@@ -198,15 +199,20 @@ impl Objects {
         Ok(gave)
     }
 
-    /// Releases each import that nothing of the vat uses and that no object holds, in the order in which `idle` of the
-    /// connection names them: such as came with a call that failed before it reached an object, and what a promise came
-    /// to that was held then. It goes over all imports and promises of the vat.
+    /// Forgets each promise of this end that nothing of the vat uses and that no object may know: such as a call named that failed
+    /// before it reached an object. Then releases each import that nothing of the vat uses and that no object holds: such as came with
+    /// such a call, and what a promise of the peer's came to. Both in the order in which `idle` of the connection names them. It goes over
+    /// all imports and promises of the vat.
     ///
-    /// It is for a connection whose imports nobody holds but these objects: what you yourself were given is released too.
-    /// Nothing is released where holders aren't counted (`new`), and while something that happened wasn't worked off, as
-    /// that may give an import to an object.
-    pub fn release_idle(&mut self, connection: &mut Connection) -> Result<(), AllocError>
-        ensures done { OnOk result (ReleasesIdle (work_of self.old connection.old) (work_of self.new connection.new)) }
+    /// It is for a connection whose imports and promises nobody holds but these objects: what you yourself were given goes too.
+    /// Nothing goes where holders aren't counted (`new`), and while something that happened wasn't worked off, as that may give it to
+    /// an object.
+    pub fn release_idle<H: Hall>(
+        &mut self,
+        connection: &mut Connection,
+        objects: &H,
+    ) -> Result<(), AllocError>
+        ensures done { OnOk result (ReleasesIdle H.hall objects.now (work_of self.old connection.old) (work_of self.new connection.new)) }
         ensures lives { Lives connection.old connection.new }
     {
         let are_counted = self.may_call;
@@ -217,7 +223,10 @@ impl Objects {
             return Ok(());
         }
         let fault = match connection.idle() {
-            Ok(idle) => return self.release_each(connection, idle.imports.ids()),
+            Ok(idle) => {
+                forget_unknown(connection, objects, idle.promises.ids())?;
+                return self.release_each(connection, idle.imports.ids());
+            }
             Err(fault) => fault,
         };
         match fault {
@@ -449,7 +458,7 @@ impl Objects {
         ticket: u64,
         reply: Reply,
     ) -> Result<(), AllocError>
-        ensures done { OnOk result (Replies (λ outcome. H.hall.means outcome objects.now) (work_of self.old connection.old) origin ticket reply (work_of self.new connection.new)) }
+        ensures done { OnOk result (Replies (λ o. H.hall.means o objects.now) (work_of self.old connection.old) origin ticket reply (work_of self.new connection.new)) }
         ensures lives { Lives connection.old connection.new }
     {
         match reply {
@@ -469,7 +478,7 @@ impl Objects {
         ticket: u64,
         request: Request,
     ) -> Result<Reply, AllocError>
-        ensures { IfOk result (λ reply. (link : Link) → Gives H.hall number ticket request reply (work_of self.old link) (work_of self.new link) objects.old objects.new) }
+        ensures { IfOk result (λ r. (link : Link) → Gives H.hall number ticket request r (work_of self.old link) (work_of self.new link) objects.old objects.new) }
     {
         if objects.has(number) {
             self.hold(&request.caps)?;
@@ -593,7 +602,7 @@ impl Objects {
         objects: &H,
         settled: Option<Settled>,
     ) -> Result<bool, AllocError>
-        ensures done { IfOk result (λ gave. Settles (λ outcome. H.hall.means outcome objects.now) (work_of self.old connection.old) settled gave (work_of self.new connection.new)) }
+        ensures done { IfOk result (λ gave. Settles (λ o. H.hall.means o objects.now) (work_of self.old connection.old) settled gave (work_of self.new connection.new)) }
         ensures lives { Lives connection.old connection.new }
     {
         let Some(settled) = settled else {

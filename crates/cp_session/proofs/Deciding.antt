@@ -1,5 +1,5 @@
 -- What follows of a test, and of what a call gave.
-use Rattle.std.proofs.Common.{◌≡◌, ◌==◌, ◌<◌, ◌≤◌, ◌↔◌, ◌⊎◌, ◌||◌, ℕ, Bool, true, false, IsTrue, Result, Ok, Err, IfOk, IfErr, OnOk, OnErr, inl, inr, refl, arith}
+use Rattle.std.proofs.Common.{◌≡◌, ◌==◌, ◌<◌, ◌≤◌, ◌↔◌, ◌⊎◌, ◌||◌, ℕ, Bool, true, false, IsTrue, nat_lt, Result, Ok, Err, IfOk, IfErr, OnOk, OnErr, inl, inr, refl, arith}
 use Rattle.std.proofs.lemmas.Bool.{false≢true}
 use Rattle.std.proofs.lemmas.Bool.Decides.{nat_tests}
 use Rattle.cp_session.specs.Search.{from_then}
@@ -31,10 +31,6 @@ on_err (Err e) h f = f h
 pub sought : (n i i2 p p2 m m2 : ℕ) → n ≡ from_then i p m → i ≡ i2 → p ≡ p2 → m ≡ m2 → n ≡ from_then i2 p2 m2
 sought n i i2 p p2 m m2 e a b c = rw (← a, ← b, ← c) e
 
--- whether imports are sought, by what was counted
-pub due_by : (b : Bool) (from i i2 o o2 m m2 : ℕ) → (IsTrue b ↔ ((o < i) × (from ≤ m))) → i ≡ i2 → o ≡ o2 → m ≡ m2 → IsTrue b ↔ ((o2 < i2) × (from ≤ m2))
-due_by b from i i2 o o2 m m2 h e f k = rw (← e, ← f, ← k) h
-
 -- one of two things, where the first isn't so
 pub either_second : {P Q : Type 0} (b : Bool) → (P → ⊥) → (IsTrue b ↔ Q) → IsTrue b ↔ (P ⊎ Q)
 either_second {P = P} {Q = Q} b not h = (λ t. inr (h.0 t), λ s. the_second s)
@@ -61,6 +57,24 @@ is_none true b c h = absurd (h (inl refl))
 is_none false true c h = absurd (h (inr (inl refl)))
 is_none false false true h = absurd (h (inr (inr refl)))
 is_none false false false h = refl
+
+-- whether a number is less, by a test
+pub is_less : (a b : ℕ) → a < b → IsTrue (nat_lt a b)
+is_less a b h = grind (arith, nat_tests)
+
+pub less_by : (a b : ℕ) → IsTrue (nat_lt a b) → a < b
+less_by a b h = grind (arith, nat_tests)
+
+-- whether one of two numbers is less, or another is more than none, where the first is so and where it isn't
+pub by_first : (a a2 b b2 : ℕ) {Q : Type 0} → a < b → a ≡ a2 → b ≡ b2 → IsTrue (nat_lt a b) ↔ ((a2 < b2) ⊎ Q)
+by_first a a2 b b2 less e f = (λ t. inl (rw (← e, ← f) less), λ s. is_less a b less)
+
+pub by_second : (a a2 b b2 n n2 : ℕ) → b ≤ a → a ≡ a2 → b ≡ b2 → n ≡ n2 → IsTrue (nat_lt 0 n) ↔ ((a2 < b2) ⊎ (0 < n2))
+by_second a a2 b b2 n n2 more e f g = (λ t. inr (rw (← g) (less_by 0 n t)), λ s. is_less 0 n (some s))
+  where
+    some : (a2 < b2) ⊎ (0 < n2) → 0 < n
+    some (inl less) = absurd (omega (arith, more, e, f, less))
+    some (inr q) = rw g q
 
 -- the order of two numbers that aren't ordered so
 pub less_unless : (a b : ℕ) → (a ≤ b → ⊥) → b < a

@@ -58,7 +58,7 @@ module _ {H : Type 0} where
   failing : (new : State H) (fault : ConnectionFault) → new.progress.fault ≡ Some fault → SeeksNone new
   failing new fault is = inr (subst (λ (f : Option ConnectionFault). IsSome f) (sym is) refl)
 
-seeks_sweep : {old new : Service} → Seeks old new → new.sweep ≡ old.sweep
+seeks_sweep : {H : Type 0} {hall : HallKind H} {objects : H} {old new : Service} → Seeks hall objects old new → new.sweep ≡ old.sweep
 seeks_sweep (seeking.none_due why same) = ap (λ (s : Service). s.sweep) same
 seeks_sweep (seeking.releases work due released same) = ap (λ (s : Service). s.sweep) same
 

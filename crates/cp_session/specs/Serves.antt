@@ -18,7 +18,7 @@ HasGiven service = (service.gave ≡ false) × (service.work.link.happened ≡ [
 
 -- Of objects of one kind.
 module _ {H : Type 0} (hall : HallKind H) where
-  -- Each object is polled once that is to be. Then the imports are released that nobody holds, where that is due, and the objects are dropped that nothing refers
+  -- Each object is polled once that is to be. Then the imports and promises go that nobody holds, where that is due, and the objects are dropped that nothing refers
   -- to, where that is. Nothing else was done with the connection.
   pub record Polls (now : ℕ) (old new : Service) (objects others : H) : Type 0 where
     pub gave : Bool
@@ -26,7 +26,7 @@ module _ {H : Type 0} (hall : HallKind H) where
     pub between : H
     pub released : Service
     pub rounds : Rounds hall old.work gave work objects between
-    pub seeks : Seeks (record old { work = work; gave = gave }) released
+    pub seeks : Seeks hall between (record old { work = work; gave = gave }) released
     pub sweeps : Sweeps hall now released new between others
     pub lives : Lives old.work.link new.work.link
 

@@ -7,7 +7,7 @@ ghost use Rattle.cp_objects.specs.WorkOf.{work_of};
 ghost use Rattle.cp_connection.specs.Link.{Link};
 ghost use Rattle.cp_frame.specs.Reader.{taken_of};
 ghost use Rattle.cp_session.specs.Kept.{kept_of};
-ghost use Rattle.cp_session.specs.Search.{IsDue, Seeks};
+ghost use Rattle.cp_session.specs.Search.{IsDue, MayHoldIdle, Seeks};
 ghost use Rattle.cp_session.specs.Refusing.{Refuses};
 ghost use Rattle.cp_session.specs.Serves.{Ends, Follows, HasGiven, IsUnended, MayGive, Polls, Takes, WorksOn};
 ghost use Rattle.cp_session.specs.Service.{first_search, new_service, service_of};
@@ -31,7 +31,7 @@ const PROMISE: u64 = 272;
 pub(crate) struct Endpoint {
     pub(crate) connection: Connection,
     pub(crate) work: Objects,
-    /// When imports are sought that nobody holds, if they are.
+    /// When imports and promises are sought that nobody holds, if they are.
     search: Option<Search>,
     /// An object gave what was awaited when all were polled last.
     gave: bool,
@@ -159,13 +159,13 @@ impl Endpoint {
         self.round(objects, now)
     }
 
-    /// Polls each object once, and then releases the imports that nobody holds, where it is due.
+    /// Polls each object once, and then lets imports and promises go that nobody holds, where it is due.
     fn round<H: Hall>(&mut self, objects: &mut H, now: u64) -> Result<(), AllocError>
         ensures polls { OnOk result (Polls H.hall now (service_of self.old) (service_of self.new) objects.old objects.new) }
         ensures lives { Lives self.old.connection self.new.connection }
     {
         self.gave = self.work.round(&mut self.connection, objects)?;
-        self.release_idle()?;
+        self.release_idle(objects)?;
         self.sweep_objects(objects, now)
     }
 
@@ -214,34 +214,40 @@ impl Endpoint {
         Ok(())
     }
 
-    /// Where it is due, releases the imports that nothing of the vat uses and that no object holds.
-    fn release_idle(&mut self) -> Result<(), AllocError>
-        ensures seeks { OnOk result (Seeks (service_of self.old) (service_of self.new)) }
+    /// Where it is due, lets the imports and promises go that nothing of the vat uses and that no object has.
+    fn release_idle<H: Hall>(&mut self, objects: &H) -> Result<(), AllocError>
+        ensures seeks { OnOk result (Seeks H.hall objects.now (service_of self.old) (service_of self.new)) }
         ensures lives { Lives self.old.connection self.new.connection }
     {
-        if !self.is_due() {
+        if !self.is_due(objects) {
             return Ok(());
         }
         // `idle` names these and what promises came to, so the vat needs no further call for this.
-        self.work.release_idle(&mut self.connection)?;
+        self.work.release_idle(&mut self.connection, objects)?;
         let held = self.connection.held();
         let messages = self.connection.tally().messages;
         self.search = Some(Search::after(held.imports, held.promises, messages));
         Ok(())
     }
 
-    /// Whether imports are sought now that nobody holds.
-    fn is_due(&self) -> bool
-        ensures { IsTrue result ↔ IsDue self.now.search (service_of self.now).work }
+    /// Whether imports and promises are sought now that nobody holds.
+    fn is_due<H: Hall>(&self, objects: &H) -> bool
+        ensures { IsTrue result ↔ IsDue H.hall objects.now self.now.search (service_of self.now).work }
     {
         match self.search {
-            Some(search) => search.is_due(
-                self.connection.held().imports,
-                self.work.held_imports(),
-                self.connection.tally().messages,
-            ),
+            Some(search) => {
+                self.may_hold_idle(objects) && search.is_due(self.connection.tally().messages)
+            }
             None => false,
         }
+    }
+
+    /// Whether there are more imports than objects hold, or promises that none knows.
+    fn may_hold_idle<H: Hall>(&self, objects: &H) -> bool
+        ensures { IsTrue result ↔ MayHoldIdle H.hall objects.now (service_of self.now).work }
+    {
+        let held = self.connection.held();
+        self.work.held_imports() < held.imports || objects.unknown_promises(held.promises) > 0
     }
 }
 

@@ -15,8 +15,7 @@ pub struct SessionOptions {
     pub bootstrap: Option<u32>,
     /// Whether the objects may call what they were given.
     pub may_call: bool,
-    /// Whether imports are released that neither an object nor the vat holds. Not where the program holds some: those aren't
-    /// counted.
+    /// Whether imports and promises go that neither an object nor the vat has. Not where the program has some: those aren't counted.
     pub releases_idle: bool,
     pub limits: SessionLimits,
 }

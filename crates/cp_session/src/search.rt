@@ -1,12 +1,12 @@
-//! When imports that nobody holds are sought.
+//! When imports and promises that nobody holds are sought.
 
-ghost use Rattle.std.specs.Prelude.{◌≡◌, ◌↔◌, ◌<◌, ◌≤◌, IsTrue};
+ghost use Rattle.std.specs.Prelude.{◌≡◌, ◌↔◌, ◌≤◌, IsTrue};
 ghost use Rattle.cp_session.specs.Search.{from_then};
 
 /// The imports or promises that are gone over once more for each message.
 const SHARE: usize = 32;
 
-/// When imports that no object holds are sought.
+/// When imports that no object holds and promises that none knows are sought.
 ///
 /// To seek them goes over all imports and promises of the vat. Those that came since the last time were paid for by the messages that
 /// brought them. Those that were left then may be as many as a peer likes, so messages pay for them first: one for each 32 imports,
@@ -26,11 +26,11 @@ impl Search {
         Search { from: 0 }
     }
 
-    /// Whether some are sought now: of so many imports objects hold so many, and so many messages were taken.
-    pub(crate) fn is_due(&self, imports: usize, by_objects: usize, messages: u64) -> bool
-        ensures { IsTrue result ↔ ((by_objects < imports) × (self.now.from ≤ messages)) }
+    /// Whether they may be sought, after so many messages.
+    pub(crate) fn is_due(&self, messages: u64) -> bool
+        ensures { IsTrue result ↔ (self.now.from ≤ messages) }
     {
-        by_objects < imports && self.from <= messages
+        self.from <= messages
     }
 
     /// They were sought, after so many messages, and so many imports and promises are left.

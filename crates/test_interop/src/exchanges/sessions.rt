@@ -187,7 +187,11 @@ impl Session {
 
     /// Releases the imports that nobody holds, and says how many are held.
     fn release_idle(&mut self) {
-        if self.owed.release_idle(&mut self.connection).is_err() {
+        if self
+            .owed
+            .release_idle(&mut self.connection, &self.objects)
+            .is_err()
+        {
             self.fault = Some(ServeFault::OutOfMemory);
         }
         self.push_sent();

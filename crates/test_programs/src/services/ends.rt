@@ -188,14 +188,15 @@ impl<C: Hall, S: Hall> Ends<C, S> {
     }
 }
 
-/// The options of a session that gives its peer this object.
+/// The options of a session that gives its peer this object. Only that of a server lets go what no object has: the test has imports of the
+/// client.
 fn options(bootstrap: Option<u32>) -> SessionOptions {
     SessionOptions {
         mode: Mode::Plain,
         messages: Limits::standard(),
         bootstrap,
         may_call: true,
-        releases_idle: false,
+        releases_idle: bootstrap.is_some(),
         limits: SessionLimits::standard(),
     }
 }

@@ -183,6 +183,26 @@ fn results_that_were_named_before_they_came_are_kept_and_go(rt: HostRuntime) {
     drop(pair);
 }
 
+#[test]
+fn results_that_failing_calls_named_go(rt: HostRuntime) {
+    let mut pair = Pair::new(&rt, rt.alloc(), 1);
+    let book = pair.book;
+    let kept = pair.act(&rt, Step::Pass(0)).kept;
+    for _ in 0..20 {
+        let page = pair.page(&rt, PROMISE, 0);
+        let early = pair.begin(&rt, page, KEPT, With::Word(0));
+        // It waits for the page too, so no object is given what it names.
+        let naming = pair.begin(&rt, page, KEPT, With::Result(early));
+        let broken = pair.begin(&rt, book, BREAK, With::Word(0));
+        check!(&rt; pair.expect_outcome(&rt, early).is_failed);
+        check!(&rt; pair.expect_outcome(&rt, naming).is_failed);
+        check!(&rt; !pair.expect_outcome(&rt, broken).is_failed);
+        expect_none_left(&rt, &mut pair);
+        check!(&rt; pair.act(&rt, Step::Pass(0)).kept == kept);
+    }
+    drop(pair);
+}
+
 /// What the notebook promised comes to a page, and these calls that waited are answered.
 fn resolve_early(rt: &impl Abort, pair: &mut Pair, waited: [u32; 2]) {
     let book = pair.book;
