@@ -4,7 +4,8 @@
 #                                nothing, its calls are answered in time, and it calls what it is given. Direct, through `CLI relay`, and
 #                                through a guard. Then random sessions compared with a plain model: 200 of 300 moves on each of these
 #                                ways, SESSIONS (10,000) of ten moves, ten at once, and clients that are killed; 50 with a server over the C++
-#                                library, too. One connection names 80,000 promises. SERVING is the program, if it is built elsewhere
+#                                library, too. One connection names 160,000 promises, half in calls that fail. SERVING is the program, if it
+#                                is built elsewhere
 set -eu
 cli=$1 sessions=${3:-10000} port=17661 relayed=17662 guarded=17663
 mkdir -p "$2"
@@ -93,7 +94,7 @@ named() { # more promises of one connection than a vat has, and memory is level
     before=$(memory "$server")
     plays "$build/services/named" "127.0.0.1:$port" 80 1000
     now=$(memory "$server")
-    [ "$now" -le "$((before + most_grown))" ] || fail "$name: from $before to $now kB"
+    [ "$now" -le "$((before + 4 * most_grown))" ] || fail "$name: from $before to $now kB" # (2,000 calls are open at once)
     expect_none
     echo "$name: $(cat "$build/said"), $before to $now kB"
 }

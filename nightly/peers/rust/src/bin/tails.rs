@@ -152,11 +152,14 @@ fn main() -> Result<()> {
     let mut pool = LocalPool::new();
     let spawner = pool.spawner();
     pool.run_until(async move {
+        // (the library panics where the stream ends of a connection that nothing refers to)
+        let mut hosts = Vec::new();
         for name in words {
             let (host, disconnector) = connect(port, &spawner).await?;
             say(&name, trial(&host, &name).await);
             say(&format!("{name} lives"), lives(&host).await);
             disconnector.await?;
+            hosts.push(host);
         }
         Ok(())
     })
