@@ -9,7 +9,7 @@ use Rattle.cp_makers.specs.declared.waker.Waker.{Waker}
 use Rattle.cp_makers.specs.Hall.{HallKind}
 use Rattle.cp_session.specs.Doing.{due_of}
 use Rattle.cp_session.specs.Progress.{earlier}
-use Rattle.cp_session.specs.State.{new_state}
+use Rattle.cp_session.specs.State.{State, new_state}
 use Rattle.net_sockets.specs.declared.listener.Peer.{Peer}
 use Rattle.net_host.specs.declared.end.End.{End}
 use Rattle.net_host.specs.declared.end.End.TheVariants as all_ends
@@ -38,74 +38,75 @@ module _ {H : Type 0} {hall : HallKind H} where
 pub rests_none : {H : Type 0} (floor : Floor H) → Rests floor floor
 rests_none floor = record { same = λ key. refl; ended = refl; budget = refl; wakes = refl; due = refl }
 
-module _ {H : Type 0} where
-  -- a key has another connection, or none
-  pub seen_puts : (old new : Slab (Guest H)) (key : ℕ) (slot : Option (Guest H)) → Updates old new key slot → Puts (seen old) key (option_map served_of slot) (seen new)
-  seen_puts old new key slot updates = record {
-    here = ap (λ o. option_map served_of o) updates.changed;
-    elsewhere = λ other differs. ap (λ o. option_map served_of o) (updates.others other differs);
-  }
+-- the key is this one
+pub written_at : {H : Type 0} {old new : ℕ → Option (Served H)} {key at : ℕ} {slot : Option (Served H)} → key ≡ at → Puts old key slot new → Puts old at slot new
+written_at {old = old} {new = new} {slot = slot} is puts = subst (λ k. Puts old k slot new) is puts
 
+module _ {S : Type 0} where
   -- a key that has a connection has one
-  pub is_there : (s : Slab (Guest H)) (key : ℕ) (guest : Guest H) → Some guest ≡ get s key → IsSome (get s key)
+  pub is_there : (s : Slab (Guest S)) (key : ℕ) (guest : Guest S) → Some guest ≡ get s key → IsSome (get s key)
   is_there s key guest e = subst (λ o. IsSome o) e refl
 
-  -- a connection was written over
-  pub seen_written : (s : Slab (Guest H)) (key : ℕ) (guest new : Guest H) → Some guest ≡ get s key → Puts (seen s) key (Some (served_of new)) (seen (with_value s key new))
-  seen_written s key guest new e = seen_puts s (with_value s key new) key (Some new) (Updates-with_value s key new (is_there s key guest e))
-
-  -- the key is this one
-  pub written_at : {old new : ℕ → Option (Served H)} {key at : ℕ} {slot : Option (Served H)} → key ≡ at → Puts old key slot new → Puts old at slot new
-  written_at {old = old} {new = new} {slot = slot} is puts = subst (λ k. Puts old k slot new) is puts
-
   -- as many are there
-  pub as_many : (s : Slab (Guest H)) (key : ℕ) (guest new : Guest H) → Some guest ≡ get s key → slab_len (with_value s key new) ≤ slab_len s
+  pub as_many : (s : Slab (Guest S)) (key : ℕ) (guest new : Guest S) → Some guest ≡ get s key → slab_len (with_value s key new) ≤ slab_len s
   as_many s key guest new e =
       let present = is_there s key guest e in
       let one : ◌≡◌ {A = ℕ} (cond (is_some (get s key)) 1 0) 1 = ap (λ (b : Bool). cond b 1 0) present in
       omega (arith, sum_by-set (λ o. cond (is_some o) 1 0) s.slots key (Some new) None (ContainsKey-within s key present), one)
 
+module _ {S H : Type 0} (state : S → State H) where
+  -- a key has another connection, or none
+  pub seen_puts : (old new : Slab (Guest S)) (key : ℕ) (slot : Option (Guest S)) → Updates old new key slot → Puts (seen state old) key (option_map (served_of state) slot) (seen state new)
+  seen_puts old new key slot updates = record {
+    here = ap (λ o. option_map (served_of state) o) updates.changed;
+    elsewhere = λ other differs. ap (λ o. option_map (served_of state) o) (updates.others other differs);
+  }
+
+  -- a connection was written over
+  pub seen_written : (s : Slab (Guest S)) (key : ℕ) (guest new : Guest S) → Some guest ≡ get s key → Puts (seen state s) key (Some (served_of state new)) (seen state (with_value s key new))
+  seen_written s key guest new e = seen_puts s (with_value s key new) key (Some new) (Updates-with_value s key new (is_there s key guest e))
+
   -- one was written over that shows the same
-  pub seen_kept : (s : Slab (Guest H)) (key : ℕ) (guest new : Guest H) → Some guest ≡ get s key → served_of new ≡ served_of guest → (other : ℕ) → seen (with_value s key new) other ≡ seen s other
+  pub seen_kept : (s : Slab (Guest S)) (key : ℕ) (guest new : Guest S) → Some guest ≡ get s key → served_of state new ≡ served_of state guest → (other : ℕ) → seen state (with_value s key new) other ≡ seen state s other
   seen_kept s key guest new e same other =
       let puts = seen_written s key guest new e in
       elim (cases_eq other key) [
-        | inl is ↦ ap (λ k. seen (with_value s key new) k) is ∙ puts.here ∙ ap (λ x. Some x) same ∙ ap (λ o. option_map served_of o) e ∙ ap (λ k. seen s k) (sym is)
+        | inl is ↦ ap (λ k. seen state (with_value s key new) k) is ∙ puts.here ∙ ap (λ x. Some x) same ∙ ap (λ o. option_map (served_of state) o) e ∙ ap (λ k. seen state s k) (sym is)
         | inr differs ↦ puts.elsewhere other differs
       ]
 
   -- one was written over, and then taken out
-  pub seen_taken : (s new : Slab (Guest H)) (key : ℕ) (guest last : Guest H) → Some guest ≡ get s key → Updates (with_value s key last) new key None → Puts (seen s) key None (seen new)
+  pub seen_taken : (s new : Slab (Guest S)) (key : ℕ) (guest last : Guest S) → Some guest ≡ get s key → Updates (with_value s key last) new key None → Puts (seen state s) key None (seen state new)
   seen_taken s new key guest last e updates =
       let puts = seen_written s key guest last e in
       record {
-        here = ap (λ o. option_map served_of o) updates.changed;
-        elsewhere = λ other differs. ap (λ o. option_map served_of o) (updates.others other differs) ∙ puts.elsewhere other differs;
+        here = ap (λ o. option_map (served_of state) o) updates.changed;
+        elsewhere = λ other differs. ap (λ o. option_map (served_of state) o) (updates.others other differs) ∙ puts.elsewhere other differs;
       }
 
-module _ {H : Type 0} where
+module _ {S H : Type 0} (state : S → State H) where
   -- no connection is under the key of a session
-  pub unserved_none : (old : EventLoop H) (waker : Waker) (key : ℕ) → key ≡ key_of waker.session → None ≡ get old.guests key → (one : Served H)
-      → IsServed (floor_of old) waker one → ⊥
+  pub unserved_none : (old : EventLoop S) (waker : Waker) (key : ℕ) → key ≡ key_of waker.session → None ≡ get old.guests key → (one : Served H)
+      → IsServed (floor_of state old) waker one → ⊥
   unserved_none old waker key at none one served =
-      absurd (cc (served.there, ap (λ k. seen old.guests k) at, ap (λ o. option_map served_of o) none))
+      absurd (cc (served.there, ap (λ k. seen state old.guests k) at, ap (λ o. option_map (served_of state) o) none))
 
   abbrev number_in : Option (Served H) → ℕ
   number_in None = 0
   number_in (Some one) = one.number
 
   -- the one that is has a session of another number
-  pub unserved_other : (old : EventLoop H) (waker : Waker) (key session : ℕ) (guest : Guest H) → key ≡ key_of waker.session → Some guest ≡ get old.guests key
-      → session ≡ session_of guest.number key → session ≢ waker.session → (one : Served H) → IsServed (floor_of old) waker one → ⊥
+  pub unserved_other : (old : EventLoop S) (waker : Waker) (key session : ℕ) (guest : Guest S) → key ≡ key_of waker.session → Some guest ≡ get old.guests key
+      → session ≡ session_of guest.number key → session ≢ waker.session → (one : Served H) → IsServed (floor_of state old) waker one → ⊥
   unserved_other old waker key session guest at there is differs one served =
-      let here : Some (served_of guest) ≡ Some one = ap (λ o. option_map served_of o) there ∙ ap (λ k. seen old.guests k) at ∙ served.there in
+      let here : Some (served_of state guest) ≡ Some one = ap (λ o. option_map (served_of state) o) there ∙ ap (λ k. seen state old.guests k) at ∙ served.there in
       let number : guest.number ≡ one.number = ap (λ o. number_in o) here in
       differs (is ∙ ap (λ n. session_of n key) number ∙ ap (λ k. session_of one.number k) at ∙ served.named)
 
-  pub is_served : (old : EventLoop H) (waker : Waker) (key session : ℕ) (guest : Guest H) → key ≡ key_of waker.session → Some guest ≡ get old.guests key
-      → session ≡ session_of guest.number key → session ≡ waker.session → IsServed (floor_of old) waker (served_of guest)
+  pub is_served : (old : EventLoop S) (waker : Waker) (key session : ℕ) (guest : Guest S) → key ≡ key_of waker.session → Some guest ≡ get old.guests key
+      → session ≡ session_of guest.number key → session ≡ waker.session → IsServed (floor_of state old) waker (served_of state guest)
   is_served old waker key session guest at there is same = record {
-    there = ap (λ k. seen old.guests k) (sym at) ∙ ap (λ o. option_map served_of o) (sym there);
+    there = ap (λ k. seen state old.guests k) (sym at) ∙ ap (λ o. option_map (served_of state) o) (sym there);
     named = ap (λ k. session_of guest.number k) (sym at) ∙ sym is ∙ same;
   }
 
@@ -127,38 +128,38 @@ tells_accepted old new (all_news.Ended number peer end) floor next accepts e = a
 tells_accepted old new all_news.Woken floor next accepts e = absurd accepts
 
 -- there was no news of an end to give
-pub rests_unended : {H : Type 0} (old new : EventLoop H) → new.guests ≡ old.guests → new.budget ≡ old.budget → new.wakes ≡ old.wakes → new.time ≡ old.time → old.ended.items ≡ new.ended.items
-    → Rests (floor_of old) (floor_of new)
-rests_unended old new same budget wakes time first =
-    record { same = λ key. ap (λ guests. seen guests key) same; ended = sym first; budget = budget; wakes = ap (λ w. w.items) wakes; due = ap (λ t. t.sweep_at) time }
+pub rests_unended : {S H : Type 0} (state : S → State H) (old new : EventLoop S) → new.guests ≡ old.guests → new.budget ≡ old.budget → new.wakes ≡ old.wakes → new.time ≡ old.time → old.ended.items ≡ new.ended.items
+    → Rests (floor_of state old) (floor_of state new)
+rests_unended state old new same budget wakes time first =
+    record { same = λ key. ap (λ guests. seen state guests key) same; ended = sym first; budget = budget; wakes = ap (λ w. w.items) wakes; due = ap (λ t. t.sweep_at) time }
 
 -- nothing was done with any connection where the event loop is the same
-pub rests_same : {H : Type 0} (old new : EventLoop H) → new ≡ old → Rests (floor_of old) (floor_of new)
-rests_same old new e = record { same = λ key. ap (λ event_loop. seen event_loop.guests key) e; ended = ap (λ event_loop. event_loop.ended.items) e; budget = ap (λ event_loop. event_loop.budget) e; wakes = ap (λ event_loop. event_loop.wakes.items) e; due = ap (λ event_loop. event_loop.time.sweep_at) e }
+pub rests_same : {S H : Type 0} (state : S → State H) (old new : EventLoop S) → new ≡ old → Rests (floor_of state old) (floor_of state new)
+rests_same state old new e = record { same = λ key. ap (λ event_loop. seen state event_loop.guests key) e; ended = ap (λ event_loop. event_loop.ended.items) e; budget = ap (λ event_loop. event_loop.budget) e; wakes = ap (λ event_loop. event_loop.wakes.items) e; due = ap (λ event_loop. event_loop.time.sweep_at) e }
 
 -- news of an end is of the first of those of which there was none
-pub tells_ended : {H : Type 0} (old new : EventLoop H) (ended : Ended) (news : News) → new.guests ≡ old.guests → new.budget ≡ old.budget → new.wakes ≡ old.wakes → new.time ≡ old.time
-    → old.ended.items ≡ ended ∷ new.ended.items → news ≡ all_news.Ended ended.number ended.peer ended.end → Tells (floor_of old) (Some news) (floor_of new)
-tells_ended old new ended news same budget wakes time first is = rw is (ap (λ guests. seen guests) same, first, budget, ap (λ w. w.items) wakes, ap (λ t. t.sweep_at) time)
+pub tells_ended : {S H : Type 0} (state : S → State H) (old new : EventLoop S) (ended : Ended) (news : News) → new.guests ≡ old.guests → new.budget ≡ old.budget → new.wakes ≡ old.wakes → new.time ≡ old.time
+    → old.ended.items ≡ ended ∷ new.ended.items → news ≡ all_news.Ended ended.number ended.peer ended.end → Tells (floor_of state old) (Some news) (floor_of state new)
+tells_ended state old new ended news same budget wakes time first is = rw is (ap (λ guests. seen state guests) same, first, budget, ap (λ w. w.items) wakes, ap (λ t. t.sweep_at) time)
 
-module _ {H : Type 0} where
+module _ {S H : Type 0} (state : S → State H) where
   -- more room changes no connection
-  pub kept_in_room : (guests mid : Slab (Guest H)) → mid ≡ record guests { capacity = mid.capacity } → (key : ℕ) → seen mid key ≡ seen guests key
-  kept_in_room guests mid e key = ap (λ (s : Slab (Guest H)). seen s key) e
+  pub kept_in_room : (guests mid : Slab (Guest S)) → mid ≡ record guests { capacity = mid.capacity } → (key : ℕ) → seen state mid key ≡ seen state guests key
+  kept_in_room guests mid e key = ap (λ (s : Slab (Guest S)). seen state s key) e
 
   -- a connection more is served with its objects, once there is room
-  pub seats_in_room : (hall : HallKind H) (plan : HostPlan) (pending : PendingConnection) (objects seated : H) (now : ℕ) (old : EventLoop H) (new : Floor H)
-      → (mid after : Slab (Guest H)) (key : ℕ) (guest : Guest H) → mid ≡ record old.guests { capacity = mid.capacity } → get mid key ≡ None → Updates mid after key (Some guest)
-      → served_of guest ≡ new_served pending (new_state (options_of plan) seated now) → new.served ≡ seen after → new.ended ≡ old.ended.items → new.budget ≡ old.budget
+  pub seats_in_room : (hall : HallKind H) (plan : HostPlan) (pending : PendingConnection) (objects seated : H) (now : ℕ) (old : EventLoop S) (new : Floor H)
+      → (mid after : Slab (Guest S)) (key : ℕ) (guest : Guest S) → mid ≡ record old.guests { capacity = mid.capacity } → get mid key ≡ None → Updates mid after key (Some guest)
+      → served_of state guest ≡ new_served pending (new_state (options_of plan) seated now) → new.served ≡ seen state after → new.ended ≡ old.ended.items → new.budget ≡ old.budget
       → new.wakes ≡ old.wakes.items → new.due ≡ earlier old.time.sweep_at (due_of hall (new_state (options_of plan) seated now))
-      → hall.is_in (session_of pending.number key) objects seated → Seats hall plan (Some pending) objects (floor_of old) new
+      → hall.is_in (session_of pending.number key) objects seated → Seats hall plan (Some pending) objects (floor_of state old) new
   seats_in_room hall plan pending objects seated now old new mid after key guest room vacant updates is shows same as_much no_more due knows =
-      let puts = seen_puts mid after key (Some guest) updates in (
+      let puts = seen_puts state mid after key (Some guest) updates in (
         now,
         seated,
         record {
           key = key;
-          free = sym (kept_in_room old.guests mid room key) ∙ ap (λ o. option_map served_of o) vacant;
+          free = sym (kept_in_room old.guests mid room key) ∙ ap (λ o. option_map (served_of state) o) vacant;
           puts = record {
             here = ap (λ f. f key) shows ∙ puts.here ∙ ap (λ x. Some x) is;
             elsewhere = λ other differs. ap (λ f. f other) shows ∙ puts.elsewhere other differs ∙ kept_in_room old.guests mid room other;

@@ -3,7 +3,7 @@ use Rattle.std.proofs.Common.{◌≡◌, ◌⊎◌, ◌∙◌, ℕ, List, [], �
 use Rattle.std.proofs.lemmas.List.Elements.{Contains-append_left, Contains-append_right, Contains-push}
 use Rattle.slab.specs.Slab.{Slab, entries, get}
 use Rattle.slab.proofs.SlabLemmas.{Contains-cons_cases, Contains-entries}
-use Rattle.cp_session.specs.State.{state_of}
+use Rattle.cp_session.specs.State.{State}
 use Rattle.cp_session.specs.Doing.{due_of}
 use Rattle.cp_session.specs.Progress.{earlier}
 use Rattle.cp_makers.specs.Hall.{HallKind}
@@ -16,17 +16,17 @@ use Rattle.net_host.specs.Timing.{ComesBy}
 none_in : {X : Type 0} {x : X} → Contains [] x → ⊥
 none_in h = omega (arith, h.1)
 
-module _ {H : Type 0} (hall : HallKind H) where
+module _ {S H : Type 0} (hall : HallKind H) (state : S → State H) where
   -- each that meets a limit of time is in the queue, or is left to be looked at
-  abbrev pub Seeks : Slab (Guest H) → ℕ → List ℕ → List (ℕ × Guest H) → Type 0
-  Seeks guests now queue left = (key : ℕ) (guest : Guest H) → get guests key ≡ Some guest → IsOverdue hall (state_of guest.session) now
+  abbrev pub Seeks : Slab (Guest S) → ℕ → List ℕ → List (ℕ × Guest S) → Type 0
+  Seeks guests now queue left = (key : ℕ) (guest : Guest S) → get guests key ≡ Some guest → IsOverdue hall (state guest.session) now
       → Contains queue key ⊎ Contains left (key, guest)
 
-  pub seeks_all : (guests : Slab (Guest H)) (now : ℕ) (queue : List ℕ) (left : List (ℕ × Guest H)) → left ≡ entries guests → Seeks guests now queue left
+  pub seeks_all : (guests : Slab (Guest S)) (now : ℕ) (queue : List ℕ) (left : List (ℕ × Guest S)) → left ≡ entries guests → Seeks guests now queue left
   seeks_all guests now queue left all key guest there overdue = inr (subst (λ es. Contains es (key, guest)) (sym all) ((Contains-entries guests key guest).1 there))
 
   -- one was put into the queue
-  pub seeks_queued : (guests : Slab (Guest H)) (now : ℕ) (queue new : List ℕ) (left rest : List (ℕ × Guest H)) (key : ℕ) (guest : Guest H) → new ≡ queue ++ key ∷ []
+  pub seeks_queued : (guests : Slab (Guest S)) (now : ℕ) (queue new : List ℕ) (left rest : List (ℕ × Guest S)) (key : ℕ) (guest : Guest S) → new ≡ queue ++ key ∷ []
       → left ≡ (key, guest) ∷ rest → Seeks guests now queue left → Seeks guests now new rest
   seeks_queued guests now queue new left rest key guest pushed is before k g there overdue =
       elim (before k g there overdue) [
@@ -39,21 +39,21 @@ module _ {H : Type 0} (hall : HallKind H) where
       ]
 
   -- one was passed over that meets none
-  pub seeks_passed : (guests : Slab (Guest H)) (now : ℕ) (queue : List ℕ) (left rest : List (ℕ × Guest H)) (key : ℕ) (guest : Guest H)
-      → (IsOverdue hall (state_of guest.session) now → ⊥) → left ≡ (key, guest) ∷ rest → Seeks guests now queue left → Seeks guests now queue rest
+  pub seeks_passed : (guests : Slab (Guest S)) (now : ℕ) (queue : List ℕ) (left rest : List (ℕ × Guest S)) (key : ℕ) (guest : Guest S)
+      → (IsOverdue hall (state guest.session) now → ⊥) → left ≡ (key, guest) ∷ rest → Seeks guests now queue left → Seeks guests now queue rest
   seeks_passed guests now queue left rest key guest none is before k g there overdue =
       elim (before k g there overdue) [
         | inl queued ↦ inl queued
         | inr listed ↦
             elim (Contains-cons_cases (key, guest) (k, g) rest (subst (λ es. Contains es (k, g)) is listed)) [
-              | inl same ↦ absurd (none (subst (λ (x : Guest H). IsOverdue hall (state_of x.session) now) (sym (ap (λ e. e.1) same)) overdue))
+              | inl same ↦ absurd (none (subst (λ (x : Guest S). IsOverdue hall (state x.session) now) (sym (ap (λ e. e.1) same)) overdue))
               | inr later ↦ inr later
             ]
       ]
 
   -- all were looked at
-  pub seeks_done : (guests : Slab (Guest H)) (now : ℕ) (queue : List ℕ) (left : List (ℕ × Guest H)) → left ≡ [] → Seeks guests now queue left
-      → HasOverdue hall guests now queue
+  pub seeks_done : (guests : Slab (Guest S)) (now : ℕ) (queue : List ℕ) (left : List (ℕ × Guest S)) → left ≡ [] → Seeks guests now queue left
+      → HasOverdue hall state guests now queue
   seeks_done guests now queue left none seeks key guest there overdue =
       elim (seeks key guest there overdue) [
         | inl queued ↦ queued
@@ -61,13 +61,13 @@ module _ {H : Type 0} (hall : HallKind H) where
       ]
 
   -- This is the first of the deadlines of all that aren't left to be looked at.
-  pub record Firsts (guests : Slab (Guest H)) (first : Option ℕ) (left : List (ℕ × Guest H)) : Type 0 where
-    pub each : (key deadline : ℕ) (guest : Guest H) → get guests key ≡ Some guest → due_of hall (state_of guest.session) ≡ Some deadline
+  pub record Firsts (guests : Slab (Guest S)) (first : Option ℕ) (left : List (ℕ × Guest S)) : Type 0 where
+    pub each : (key deadline : ℕ) (guest : Guest S) → get guests key ≡ Some guest → due_of hall (state guest.session) ≡ Some deadline
         → ComesBy deadline first ⊎ Contains left (key, guest)
-    pub is_one : (time : ℕ) → first ≡ Some time → (key : ℕ) × (guest : Guest H) × (get guests key ≡ Some guest) × (due_of hall (state_of guest.session) ≡ Some time)
-    pub there : (key : ℕ) (guest : Guest H) → Contains left (key, guest) → get guests key ≡ Some guest
+    pub is_one : (time : ℕ) → first ≡ Some time → (key : ℕ) × (guest : Guest S) × (get guests key ≡ Some guest) × (due_of hall (state guest.session) ≡ Some time)
+    pub there : (key : ℕ) (guest : Guest S) → Contains left (key, guest) → get guests key ≡ Some guest
 
-  pub firsts_none : (guests : Slab (Guest H)) (left : List (ℕ × Guest H)) → left ≡ entries guests → Firsts guests None left
+  pub firsts_none : (guests : Slab (Guest S)) (left : List (ℕ × Guest S)) → left ≡ entries guests → Firsts guests None left
   firsts_none guests left all = record {
     each = λ key deadline guest at has. inr (subst (λ es. Contains es (key, guest)) (sym all) ((Contains-entries guests key guest).1 at));
     is_one = λ time e. absurd (grind (arith, e));
@@ -75,22 +75,22 @@ module _ {H : Type 0} (hall : HallKind H) where
   }
 
   -- one was looked at
-  pub firsts_next : (guests : Slab (Guest H)) (first next : Option ℕ) (left rest : List (ℕ × Guest H)) (key : ℕ) (guest : Guest H) → left ≡ (key, guest) ∷ rest
-      → next ≡ earlier first (due_of hall (state_of guest.session)) → Firsts guests first left → Firsts guests next rest
+  pub firsts_next : (guests : Slab (Guest S)) (first next : Option ℕ) (left rest : List (ℕ × Guest S)) (key : ℕ) (guest : Guest S) → left ≡ (key, guest) ∷ rest
+      → next ≡ earlier first (due_of hall (state guest.session)) → Firsts guests first left → Firsts guests next rest
   firsts_next guests first next left rest key guest is next_is before = record {
     each = λ k deadline g at has.
         elim (before.each k deadline g at has) [
-          | inl comes ↦ inl (subst (λ t. ComesBy deadline t) (sym next_is) (by_first deadline first (due_of hall (state_of guest.session)) comes))
+          | inl comes ↦ inl (subst (λ t. ComesBy deadline t) (sym next_is) (by_first deadline first (due_of hall (state guest.session)) comes))
           | inr listed ↦
               elim (Contains-cons_cases (key, guest) (k, g) rest (subst (λ es. Contains es (k, g)) is listed)) [
                 | inl same ↦
-                    let own : due_of hall (state_of guest.session) ≡ Some deadline = ap (λ (e : ℕ × Guest H). due_of hall (state_of e.1.session)) same ∙ has in
-                    inl (subst (λ t. ComesBy deadline t) (sym next_is) (by_second deadline first (due_of hall (state_of guest.session)) (deadline, own, omega arith)))
+                    let own : due_of hall (state guest.session) ≡ Some deadline = ap (λ (e : ℕ × Guest S). due_of hall (state e.1.session)) same ∙ has in
+                    inl (subst (λ t. ComesBy deadline t) (sym next_is) (by_second deadline first (due_of hall (state guest.session)) (deadline, own, omega arith)))
                 | inr later ↦ inr later
               ]
         ];
     is_one = λ time e.
-        elim (one_of time first (due_of hall (state_of guest.session)) (sym next_is ∙ e)) [
+        elim (one_of time first (due_of hall (state guest.session)) (sym next_is ∙ e)) [
           | inl old ↦ before.is_one time old
           | inr own ↦ (key, guest, before.there key guest (subst (λ es. Contains es (key, guest)) (sym is) (Contains-append_left ((key, guest) ∷ []) rest (key, guest) (Contains-push [] (key, guest)))), own)
         ];
@@ -98,17 +98,17 @@ module _ {H : Type 0} (hall : HallKind H) where
   }
 
   -- all were
-  pub firsts_all : (guests : Slab (Guest H)) (first : Option ℕ) (left : List (ℕ × Guest H)) → left ≡ [] → Firsts guests first left → IsFirst hall first (seen guests)
+  pub firsts_all : (guests : Slab (Guest S)) (first : Option ℕ) (left : List (ℕ × Guest S)) → left ≡ [] → Firsts guests first left → IsFirst hall first (seen state guests)
   firsts_all guests first left none firsts = record {
     each = λ key deadline one at has. by (get guests key) key deadline one refl at has;
-    is_one = λ time e. let one = firsts.is_one time e in (one.0, served_of one.1, ap (λ o. option_map served_of o) one.2, one.3);
+    is_one = λ time e. let one = firsts.is_one time e in (one.0, served_of state one.1, ap (λ o. option_map (served_of state) o) one.2, one.3);
   }
     where
       due_in : Option (Served H) → Option ℕ
       due_in None = None
       due_in (Some it) = due_of hall it.session
 
-      by : (slot : Option (Guest H)) (key deadline : ℕ) (one : Served H) → get guests key ≡ slot → option_map served_of slot ≡ Some one
+      by : (slot : Option (Guest S)) (key deadline : ℕ) (one : Served H) → get guests key ≡ slot → option_map (served_of state) slot ≡ Some one
           → due_of hall one.session ≡ Some deadline → ComesBy deadline first
       by None key deadline one at is has = absurd (grind (arith, is))
       by (Some guest) key deadline one at is has =

@@ -9,13 +9,13 @@ use Rattle.cp_session.specs.Budget.{IsWithin, Keeping, allowed}
 use Rattle.cp_session.specs.declared.options.SessionOptions.{SessionOptions}
 use Rattle.cp_session.specs.Doing.{due_of}
 use Rattle.cp_session.specs.Progress.{earlier}
-use Rattle.cp_session.specs.State.{new_state, state_of}
+use Rattle.cp_session.specs.State.{State, new_state}
 use Rattle.net_sockets.specs.Reading.{failure_of}
 use Rattle.net_host.specs.declared.end.End.{End}
 use Rattle.net_host.specs.declared.end.Ended.{Ended}
 use Rattle.net_host.specs.declared.event_loop.EventLoop.{EventLoop}
 use Rattle.net_host.specs.declared.guest.Guest.{Guest}
-use Rattle.net_host.specs.declared.host.Host.{Host}
+use Rattle.net_host.specs.declared.host.SessionHost.{SessionHost}
 use Rattle.net_host.specs.declared.host.News.{News}
 use Rattle.net_host.specs.declared.host.News.TheVariants as all_news
 use Rattle.net_host.specs.declared.host.Look.{Look}
@@ -38,20 +38,20 @@ pub record Floor (H : Type 0) : Type 0 where
   pub due : Option ℕ
 
 -- the connections that a slab has, by their keys
-abbrev pub seen : {H : Type 0} → Slab (Guest H) → ℕ → Option (Served H)
-seen guests key = option_map served_of (get guests key)
+abbrev pub seen : {S H : Type 0} → (S → State H) → Slab (Guest S) → ℕ → Option (Served H)
+seen state guests key = option_map (served_of state) (get guests key)
 
 -- the connections of an event loop
-abbrev pub floor_of : {H : Type 0} → EventLoop H → Floor H
-floor_of event_loop = record { served = seen event_loop.guests; ended = event_loop.ended.items; budget = event_loop.budget; wakes = event_loop.wakes.items; due = event_loop.time.sweep_at }
+abbrev pub floor_of : {S H : Type 0} → (S → State H) → EventLoop S → Floor H
+floor_of state event_loop = record { served = seen state event_loop.guests; ended = event_loop.ended.items; budget = event_loop.budget; wakes = event_loop.wakes.items; due = event_loop.time.sweep_at }
 
 -- the connections of a host
-abbrev pub connections_of : {H : Type 0} → Host H → Floor H
-connections_of host = floor_of host.event_loop
+abbrev pub connections_of : {S H : Type 0} → (S → State H) → SessionHost S → Floor H
+connections_of state host = floor_of state host.event_loop
 
 -- the key of each connection that meets a limit of time by now is among these
-abbrev pub HasOverdue : {H : Type 0} → HallKind H → Slab (Guest H) → ℕ → List ℕ → Type 0
-HasOverdue {H = H} hall guests now keys = (key : ℕ) (guest : Guest H) → get guests key ≡ Some guest → IsOverdue hall (state_of guest.session) now → Contains keys key
+abbrev pub HasOverdue : {S H : Type 0} → HallKind H → (S → State H) → Slab (Guest S) → ℕ → List ℕ → Type 0
+HasOverdue {S = S} hall state guests now keys = (key : ℕ) (guest : Guest S) → get guests key ≡ Some guest → IsOverdue hall (state guest.session) now → Contains keys key
 
 -- the stream of the connection that waits for its objects, if one does, didn't fail
 abbrev pub IsFresh : Option PendingConnection → Type 0

@@ -16,7 +16,7 @@ use Rattle.cp_session.specs.Doing.{IsRefused, MayTake, Ticks, Wakes, Writes, due
 use Rattle.cp_session.specs.Kept.{kept_of}
 use Rattle.cp_session.specs.Progress.{IsDraining, Meets}
 use Rattle.cp_session.specs.Runs.{Deed, Runs, nothing}
-use Rattle.cp_session.specs.State.{State, link_of, state_of}
+use Rattle.cp_session.specs.State.{State, link_of}
 use Rattle.net_sockets.specs.declared.listener.Peer.{Peer}
 use Rattle.net_sockets.specs.declared.nonblocking_stream.Got.{Got}
 use Rattle.net_sockets.specs.declared.nonblocking_stream.Got.TheVariants as gots
@@ -43,11 +43,11 @@ pub record Served (H : Type 0) : Type 0 where
   pub failure : Option (Option ℤ)
 
 -- a connection by its parts
-abbrev pub served_of : {H : Type 0} → Guest H → Served H
-served_of guest = record {
+abbrev pub served_of : {S H : Type 0} → (S → State H) → Guest S → Served H
+served_of state guest = record {
   number = guest.number;
   peer = guest.peer;
-  session = state_of guest.session;
+  session = state guest.session;
   rest = guest.rest.items;
   end = guest.end;
   failure = failure_of guest.stream;
@@ -58,18 +58,18 @@ abbrev pub kept_by : {H : Type 0} → HallKind H → Served H → ℕ
 kept_by hall served = kept_of served.session.service.work (hall.guests served.session.objects)
 
 -- something waits to be written, and its stream may take bytes
-abbrev pub CanWrite : {H : Type 0} → Guest H → Type 0
-CanWrite guest = (may_write guest.stream ≡ true) × ((link_of (state_of guest.session)).unwritten ≢ [])
+abbrev pub CanWrite : {S H : Type 0} → (S → State H) → Guest S → Type 0
+CanWrite state guest = (may_write guest.stream ≡ true) × ((link_of (state guest.session)).unwritten ≢ [])
 
 -- there may be bytes of the peer, or its end
-abbrev pub MayHaveBytes : {H : Type 0} → Guest H → Type 0
-MayHaveBytes guest = (may_read guest.stream ≡ true) ⊎ (guest.rest.items ≢ [])
+abbrev pub MayHaveBytes : {S H : Type 0} → (S → State H) → Guest S → Type 0
+MayHaveBytes state guest = (may_read guest.stream ≡ true) ⊎ (guest.rest.items ≢ [])
 
 -- bytes are taken, or dropped, and there may be some
-abbrev pub CanTake : {H : Type 0} → Guest H → Type 0
-CanTake guest =
-    let session = state_of guest.session in
-    (IsDraining session.progress.phase ⊎ MayTake session) × MayHaveBytes guest
+abbrev pub CanTake : {S H : Type 0} → (S → State H) → Guest S → Type 0
+CanTake state guest =
+    let session = state guest.session in
+    (IsDraining session.progress.phase ⊎ MayTake session) × MayHaveBytes state guest
 
 -- a connection of which nothing was read
 abbrev pub new_served : {H : Type 0} → PendingConnection → State H → Served H

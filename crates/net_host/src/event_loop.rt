@@ -12,12 +12,13 @@ ghost use Rattle.net_host.specs.Floor.{HasOverdue, IsFirst, Rests, Rounds, Seats
 use crate::allowance::Allowance;
 use crate::end::Ended;
 use crate::guest::{Guest, Turn, session_number};
+use crate::hosted_session::HostedSession;
 use crate::limits::HostLimits;
 use crate::pending::PendingConnection;
 use crate::plan::HostPlan;
 use crate::time::{Time, earlier};
-use cp_makers::{Hall, Waker};
-use cp_session::{Budget, Session};
+use cp_makers::Waker;
+use cp_session::Budget;
 use mio::event::Event;
 use mio::{Events, Poll, Token};
 use net_sockets::{Incoming, NonblockingStream};
@@ -43,11 +44,11 @@ const PIECE: usize = 65_536;
 
 /// The connections that a host serves, each under its token.
 #[derive(Drop)]
-pub(crate) struct EventLoop<H> {
+pub(crate) struct EventLoop<S> {
     alloc: Global,
     poll: Poll,
     events: Events,
-    guests: Slab<Guest<H>>,
+    guests: Slab<Guest<S>>,
     /// What is kept for each, by the numbers of their keys.
     budget: Budget,
     /// The keys of those that can go on at once.
@@ -60,15 +61,15 @@ pub(crate) struct EventLoop<H> {
     time: Time,
 }
 
-impl<H: Hall> EventLoop<H> {
+impl<S: HostedSession> EventLoop<S> {
     /// No connection is served. Those that come are reported.
     pub(crate) fn new<N: Net + Clock + AllocGlobal>(
         rt: &N,
         limits: &HostLimits,
         incoming: &mut Incoming,
-    ) -> io::Result<EventLoop<H>>
+    ) -> io::Result<EventLoop<S>>
         ensures nobody { IfOk result (λ it. slab_len it.guests ≡ 0) }
-        ensures empty { IfOk result (λ it. Rests (nobody limits.now) (floor_of it)) }
+        ensures empty { IfOk result (λ it. Rests (nobody limits.now) (floor_of S.state it)) }
         ensures same { Keeps incoming.old incoming.new }
     {
         let poll = Poll::new(rt)?;
@@ -129,8 +130,8 @@ impl<H: Hall> EventLoop<H> {
     /// Has an object woken, once those are that are to be.
     pub(crate) fn wake(&mut self, waker: Waker) -> io::Result<()>
         ensures guests { self.new.guests ≡ self.old.guests }
-        ensures woken { OnOk result (floor_of self.new ≡ waking (floor_of self.old) waker) }
-        ensures unwoken { OnErr result (floor_of self.new ≡ floor_of self.old) }
+        ensures woken { OnOk result (floor_of S.state self.new ≡ waking (floor_of S.state self.old) waker) }
+        ensures unwoken { OnErr result (floor_of S.state self.new ≡ floor_of S.state self.old) }
     {
         self.wakes.push_back(waker)?;
         Ok(())
@@ -152,17 +153,18 @@ impl<H: Hall> EventLoop<H> {
         &mut self,
         plan: &HostPlan,
         mut pending: PendingConnection,
-        mut objects: H,
+        objects: S::Objects,
     ) -> io::Result<()>
         ensures served { OnOk result (slab_len self.new.guests ≡ slab_len self.old.guests + 1) }
         ensures lost { OnErr result (slab_len self.new.guests ≡ slab_len self.old.guests) }
-        ensures seats { OnOk result (Seats H.hall plan.now (Some pending) objects (floor_of self.old) (floor_of self.new)) }
-        ensures unseated { OnErr result (Rests (floor_of self.old) (floor_of self.new)) }
+        ensures seats { OnOk result (Seats S.hall plan.now (Some pending) objects (floor_of S.state self.old) (floor_of S.state self.new)) }
+        ensures unseated { OnErr result (Rests (floor_of S.state self.old) (floor_of S.state self.new)) }
     {
         match self.make_room(&mut pending.stream) {
             Ok(key) => {
-                objects.set_session(session_number(pending.number, key));
-                let session = Session::new(self.alloc, &plan.session(), objects, self.time.now());
+                let number = session_number(pending.number, key);
+                let now = self.time.now();
+                let session = S::begin(self.alloc, &plan.session(), number, objects, now);
                 let guest = Guest::new(self.alloc, pending, session);
                 self.time.expect(guest.deadline());
                 let _ = self.guests.insert_reserved(guest);
@@ -204,7 +206,7 @@ impl<H: Hall> EventLoop<H> {
         wait: Option<Duration>,
     ) -> io::Result<bool>
         ensures len { slab_len self.new.guests ≡ slab_len self.old.guests }
-        ensures rests { Rests (floor_of self.old) (floor_of self.new) }
+        ensures rests { Rests (floor_of S.state self.old) (floor_of S.state self.new) }
     {
         // Before the events are taken, of which none comes again.
         self.queue.reserve(EVENTS)?;
@@ -216,7 +218,7 @@ impl<H: Hall> EventLoop<H> {
     /// Gives each connection that can go on a turn.
     pub(crate) fn round(&mut self, limits: &HostLimits) -> io::Result<()>
         ensures len { slab_len self.new.guests ≤ slab_len self.old.guests }
-        ensures turns { Rounds H.hall (floor_of self.old) (floor_of self.new) }
+        ensures turns { Rounds S.hall (floor_of S.state self.old) (floor_of S.state self.new) }
     {
         // One piece or one round of polls each, so that a fast peer delays the others by a piece.
         for _ in 0..self.queue.len() {
@@ -229,7 +231,7 @@ impl<H: Hall> EventLoop<H> {
     /// Gives the first connection in the queue a turn. Where this fails, none had one.
     fn turn(&mut self, limits: &HostLimits) -> io::Result<()>
         ensures len { slab_len self.new.guests ≤ slab_len self.old.guests }
-        ensures turns { Turns H.hall (floor_of self.old) (floor_of self.new) }
+        ensures turns { Turns S.hall (floor_of S.state self.old) (floor_of S.state self.new) }
     {
         // Nothing fails once a connection had its turn: so its end is reported.
         self.ended.reserve(1)?;
@@ -267,7 +269,7 @@ impl<H: Hall> EventLoop<H> {
     /// Wakes the objects that are to be.
     fn wake_each(&mut self) -> io::Result<()>
         ensures len { slab_len self.new.guests ≤ slab_len self.old.guests }
-        ensures turns { Rounds H.hall (floor_of self.old) (floor_of self.new) }
+        ensures turns { Rounds S.hall (floor_of S.state self.old) (floor_of S.state self.new) }
     {
         for _ in 0..self.wakes.len() {
             self.wake_next()?;
@@ -278,7 +280,7 @@ impl<H: Hall> EventLoop<H> {
     /// Wakes the first object that is to be, so that its connection has a turn. Where that isn't served any more, nothing is done.
     fn wake_next(&mut self) -> io::Result<()>
         ensures len { slab_len self.new.guests ≤ slab_len self.old.guests }
-        ensures turns { Turns H.hall (floor_of self.old) (floor_of self.new) }
+        ensures turns { Turns S.hall (floor_of S.state self.old) (floor_of S.state self.new) }
     {
         // Nothing fails once the first was taken out: so none is lost.
         self.ended.reserve(1)?;
@@ -292,7 +294,7 @@ impl<H: Hall> EventLoop<H> {
         requires ends { deque_len self.old.ended < deque_capacity self.old.ended }
         requires enters { deque_len self.old.queue < deque_capacity self.old.queue }
         ensures len { slab_len self.new.guests ≤ slab_len self.old.guests }
-        ensures turns { Turns H.hall (floor_of self.old) (floor_of self.new) }
+        ensures turns { Turns S.hall (floor_of S.state self.old) (floor_of S.state self.new) }
     {
         let Some(waker) = self.wakes.pop_front() else {
             return;
@@ -338,8 +340,8 @@ impl<H: Hall> EventLoop<H> {
     /// Gives those that meet a limit of time a turn, which closes them, and those whose objects are to be woken.
     fn sweep(&mut self) -> io::Result<()>
         ensures guests { self.new.guests ≡ self.old.guests }
-        ensures turns { Turns H.hall (floor_of self.old) (floor_of self.new) }
-        ensures swept { OnOk result (IsDue self.old.time → HasOverdue H.hall self.new.guests self.old.time.at self.new.queue.items) }
+        ensures turns { Turns S.hall (floor_of S.state self.old) (floor_of S.state self.new) }
+        ensures swept { OnOk result (IsDue self.old.time → HasOverdue S.hall S.state self.new.guests self.old.time.at self.new.queue.items) }
     {
         if !self.time.is_due() {
             return Ok(());
@@ -351,13 +353,13 @@ impl<H: Hall> EventLoop<H> {
 }
 
 /// Puts those into the queue that meet a limit of time, and says when the first one is met.
-fn queue_overdue<H: Hall>(
-    guests: &Slab<Guest<H>>,
+fn queue_overdue<S: HostedSession>(
+    guests: &Slab<Guest<S>>,
     now: u64,
     queue: &mut VecDeque<usize>,
 ) -> io::Result<Option<u64>>
-    ensures queued { OnOk result (HasOverdue H.hall guests.now now queue.new.items) }
-    ensures first { IfOk result (λ first. IsFirst H.hall first (seen guests.now)) }
+    ensures queued { OnOk result (HasOverdue S.hall S.state guests.now now queue.new.items) }
+    ensures first { IfOk result (λ first. IsFirst S.hall first (seen S.state guests.now)) }
 {
     let mut first = None;
     for entry in guests {
@@ -386,13 +388,13 @@ fn key_of(session: u64) -> usize
 }
 
 /// Notes what events say of connections, and puts those into the queue that weren't in it. Says whether the listener had an event.
-fn note_events<H: Hall>(
+fn note_events<S: HostedSession>(
     events: &Events,
-    guests: &mut Slab<Guest<H>>,
+    guests: &mut Slab<Guest<S>>,
     queue: &mut VecDeque<usize>,
 ) -> io::Result<bool>
     ensures len { slab_len guests.new ≡ slab_len guests.old }
-    ensures same { (key : ℕ) → seen guests.new key ≡ seen guests.old key }
+    ensures same { (key : ℕ) → seen S.state guests.new key ≡ seen S.state guests.old key }
 {
     let mut has_event = false;
     for event in events {
@@ -403,13 +405,13 @@ fn note_events<H: Hall>(
 }
 
 /// Notes what an event says. Says whether it is one of the listener.
-fn note_event<H: Hall>(
+fn note_event<S: HostedSession>(
     event: &Event,
-    guests: &mut Slab<Guest<H>>,
+    guests: &mut Slab<Guest<S>>,
     queue: &mut VecDeque<usize>,
 ) -> io::Result<bool>
     ensures len { slab_len guests.new ≡ slab_len guests.old }
-    ensures same { (key : ℕ) → seen guests.new key ≡ seen guests.old key }
+    ensures same { (key : ℕ) → seen S.state guests.new key ≡ seen S.state guests.old key }
 {
     let token = event.token();
     if token == LISTENER {

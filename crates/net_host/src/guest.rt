@@ -3,7 +3,6 @@
 ghost use Rattle.std.specs.Prelude.{◌≡◌, ◌≤◌, ◌↔◌, [], IsTrue, Some, None, IfSome, IfNone, IfOk, IfErr, OnOk, OnErr, length, take};
 ghost use Rattle.std.specs.IoError.{raw_os_error};
 ghost use Rattle.cp_session.specs.Doing.{due_of};
-ghost use Rattle.cp_session.specs.State.{state_of};
 ghost use Rattle.net_sockets.specs.Reading.{Fits};
 ghost use Rattle.net_host.specs.Feeding.{IsFed};
 ghost use Rattle.net_host.specs.Guests.{Accounts, Adds, Breaks, CanTake, CanWrite, ClosesAdding, FailsAdding, HandsOver, HandsSome, Hears, IsOverdue, IsShort, MayHaveBytes, Minds, Proceeds, Rouses, Sends, Serves, StaysAdding, StopsShort, VisitsAdding, WorksAdding, came_by, end_or, heard, kept_by, new_served, served_of};
@@ -11,9 +10,10 @@ ghost use Rattle.net_host.specs.Waking.{session_of};
 
 use crate::allowance::Allowance;
 use crate::end::{End, Ended};
+use crate::hosted_session::HostedSession;
 use crate::pending::PendingConnection;
-use cp_makers::{Hall, Waker};
-use cp_session::{Budget, Limit, Session, SessionEvent};
+use cp_makers::Waker;
+use cp_session::{Budget, Limit, SessionEvent};
 use mio::event::Event;
 use net_sockets::{Got, NonblockingStream, Peer};
 use std::alloc::{AllocError, Global};
@@ -32,12 +32,12 @@ pub(crate) enum Turn {
 
 /// A connection that a host serves: a session behind a stream.
 #[derive(Drop)]
-pub(crate) struct Guest<H> {
+pub(crate) struct Guest<S> {
     alloc: Global,
     number: u64,
     peer: Peer,
     stream: NonblockingStream,
-    session: Session<H>,
+    session: S,
     /// What was read of the peer and not taken.
     rest: Vec<u8>,
     /// Why nothing more is taken.
@@ -48,10 +48,10 @@ pub(crate) struct Guest<H> {
     queued: bool,
 }
 
-impl<H: Hall> Guest<H> {
+impl<S: HostedSession> Guest<S> {
     /// A connection of which nothing was read.
-    pub(crate) fn new(alloc: Global, pending: PendingConnection, session: Session<H>) -> Guest<H>
-        ensures { served_of result ≡ new_served pending (state_of session) }
+    pub(crate) fn new(alloc: Global, pending: PendingConnection, session: S) -> Guest<S>
+        ensures { served_of S.state result ≡ new_served pending (S.state session) }
     {
         Guest {
             alloc,
@@ -79,7 +79,7 @@ impl<H: Hall> Guest<H> {
 
     /// What an event says of it. Says whether it comes into the queue.
     pub(crate) fn mark(&mut self, event: &Event) -> bool
-        ensures { served_of self.new ≡ served_of self.old }
+        ensures { served_of S.state self.new ≡ served_of S.state self.old }
     {
         self.stream.mark(event);
         let enters = !self.queued;
@@ -89,14 +89,14 @@ impl<H: Hall> Guest<H> {
 
     /// When it meets a limit of time, if no byte moves before, or an object of it is to be woken.
     pub(crate) fn deadline(&self) -> Option<u64>
-        ensures { result ≡ due_of H.hall (state_of self.now.session) }
+        ensures { result ≡ due_of S.hall (S.state self.now.session) }
     {
         self.session.deadline()
     }
 
     /// Whether it meets a limit of time.
     pub(crate) fn is_overdue(&self, now: u64) -> bool
-        ensures { IsTrue result ↔ IsOverdue H.hall (state_of self.now.session) now }
+        ensures { IsTrue result ↔ IsOverdue S.hall (S.state self.now.session) now }
     {
         match self.session.deadline() {
             Some(deadline) => deadline <= now,
@@ -106,7 +106,7 @@ impl<H: Hall> Guest<H> {
 
     /// How many bytes are kept for it.
     pub(crate) fn kept(&self) -> u64
-        ensures { result ≡ kept_by H.hall (served_of self.now) }
+        ensures { result ≡ kept_by S.hall (served_of S.state self.now) }
     {
         self.session.kept()
     }
@@ -120,8 +120,8 @@ impl<H: Hall> Guest<H> {
 
     /// Wakes an object. Says whether it comes into the queue.
     pub(crate) fn wake(&mut self, object: u32) -> Result<bool, AllocError>
-        ensures woken { OnOk result (Rouses H.hall object (served_of self.old) (served_of self.new)) }
-        ensures err { OnErr result (served_of self.new ≡ record (served_of self.old) { session = (served_of self.new).session }) }
+        ensures woken { OnOk result (Rouses S.hall object (served_of S.state self.old) (served_of S.state self.new)) }
+        ensures err { OnErr result (served_of S.state self.new ≡ record (served_of S.state self.old) { session = (served_of S.state self.new).session }) }
     {
         self.session.wake(object)?;
         let enters = !self.queued;
@@ -131,8 +131,8 @@ impl<H: Hall> Guest<H> {
 
     /// How it ended, as memory ran out.
     pub(crate) fn run_out(&mut self) -> End
-        ensures end { IsShort (served_of self.old) result }
-        ensures same { served_of self.new ≡ record (served_of self.old) { end = None } }
+        ensures end { IsShort (served_of S.state self.old) result }
+        ensures same { served_of S.state self.new ≡ record (served_of S.state self.old) { end = None } }
     {
         let error = io::Error::from(ErrorKind::OutOfMemory);
         self.end_or(End::Failed(error))
@@ -147,8 +147,8 @@ impl<H: Hall> Guest<H> {
         wakes: &mut VecDeque<Waker>,
         allowed: Allowance,
     ) -> Turn
-        ensures visits { VisitsAdding H.hall allowed (served_of self.old) wakes.old.items result (served_of self.new) wakes.new.items }
-        ensures accounts { Accounts result allowed.account (kept_by H.hall (served_of self.new)) budget.old budget.new }
+        ensures visits { VisitsAdding S.hall allowed (served_of S.state self.old) wakes.old.items result (served_of S.state self.new) wakes.new.items }
+        ensures accounts { Accounts result allowed.account (kept_by S.hall (served_of S.state self.new)) budget.old budget.new }
     {
         if let Some(end) = self.visit(piece, wakes, allowed) {
             budget.forget(allowed.account);
@@ -173,8 +173,8 @@ impl<H: Hall> Guest<H> {
         wakes: &mut VecDeque<Waker>,
         allowed: Allowance,
     ) -> Option<End>
-        ensures closes { IfSome result (λ end. ClosesAdding H.hall allowed (served_of self.old) wakes.old.items end (served_of self.new) wakes.new.items) }
-        ensures stays { IfNone result (StaysAdding H.hall allowed (served_of self.old) wakes.old.items (served_of self.new) wakes.new.items) }
+        ensures closes { IfSome result (λ end. ClosesAdding S.hall allowed (served_of S.state self.old) wakes.old.items end (served_of S.state self.new) wakes.new.items) }
+        ensures stays { IfNone result (StaysAdding S.hall allowed (served_of S.state self.old) wakes.old.items (served_of S.state self.new) wakes.new.items) }
     {
         if let Err(error) = self.work(piece, wakes, allowed) {
             return Some(self.end_or(End::Failed(error)));
@@ -196,8 +196,8 @@ impl<H: Hall> Guest<H> {
         wakes: &mut VecDeque<Waker>,
         allowed: Allowance,
     ) -> io::Result<()>
-        ensures works { OnOk result (WorksAdding H.hall allowed (served_of self.old) wakes.old.items (served_of self.new) wakes.new.items) }
-        ensures fails { IfErr result (λ error. FailsAdding H.hall allowed (served_of self.old) wakes.old.items error (served_of self.new) wakes.new.items) }
+        ensures works { OnOk result (WorksAdding S.hall allowed (served_of S.state self.old) wakes.old.items (served_of S.state self.new) wakes.new.items) }
+        ensures fails { IfErr result (λ error. FailsAdding S.hall allowed (served_of S.state self.old) wakes.old.items error (served_of S.state self.new) wakes.new.items) }
     {
         if let Err(error) = self.move_on(piece, allowed) {
             // What happened before the stream failed counts.
@@ -215,8 +215,8 @@ impl<H: Hall> Guest<H> {
 
     /// Has its session refuse the peer, where more is kept for it than it is allowed: so the peer is told by an Abort.
     fn refuse(&mut self, allowed: Allowance)
-        ensures refuses { Minds H.hall allowed.kept allowed.now (state_of self.old.session) (state_of self.new.session) }
-        ensures same { served_of self.new ≡ record (served_of self.old) { session = state_of self.new.session } }
+        ensures refuses { Minds S.hall allowed.kept allowed.now (S.state self.old.session) (S.state self.new.session) }
+        ensures same { served_of S.state self.new ≡ record (served_of S.state self.old) { session = S.state self.new.session } }
     {
         let kept = self.kept();
         if kept > allowed.kept {
@@ -226,8 +226,8 @@ impl<H: Hall> Guest<H> {
 
     /// Hands out the objects of other connections that are to be woken.
     fn hand_over(&mut self, wakes: &mut VecDeque<Waker>) -> Result<(), AllocError>
-        ensures all { OnOk result (Adds wakes.old.items (λ woken. HandsOver H.hall (served_of self.old) woken (served_of self.new)) wakes.new.items) }
-        ensures some { OnErr result (Adds wakes.old.items (λ woken. HandsSome H.hall (served_of self.old) woken (served_of self.new)) wakes.new.items) }
+        ensures all { OnOk result (Adds wakes.old.items (λ woken. HandsOver S.hall (served_of S.state self.old) woken (served_of S.state self.new)) wakes.new.items) }
+        ensures some { OnErr result (Adds wakes.old.items (λ woken. HandsSome S.hall (served_of S.state self.old) woken (served_of S.state self.new)) wakes.new.items) }
     {
         for _ in 0..u64::MAX {
             // Before one is taken out, so that none is lost.
@@ -242,8 +242,8 @@ impl<H: Hall> Guest<H> {
 
     /// Writes what waits to be written, takes one piece or polls the objects once, and writes what that leads to.
     fn move_on(&mut self, piece: &mut [u8], allowed: Allowance) -> io::Result<()>
-        ensures goes_on { OnOk result (Proceeds H.hall allowed.now (served_of self.old) (served_of self.new)) }
-        ensures fails { IfErr result (λ error. Breaks H.hall allowed.now (served_of self.old) error (served_of self.new)) }
+        ensures goes_on { OnOk result (Proceeds S.hall allowed.now (served_of S.state self.old) (served_of S.state self.new)) }
+        ensures fails { IfErr result (λ error. Breaks S.hall allowed.now (served_of S.state self.old) error (served_of S.state self.new)) }
     {
         // First what waits, so that more may be taken.
         self.write(allowed.now)?;
@@ -253,8 +253,8 @@ impl<H: Hall> Guest<H> {
 
     /// Takes what is left of a piece, or the next one, or polls the objects.
     fn go_on(&mut self, piece: &mut [u8], allowed: Allowance) -> io::Result<()>
-        ensures goes_on { OnOk result (Proceeds H.hall allowed.now (served_of self.old) (served_of self.new)) }
-        ensures fails { IfErr result (λ error. Breaks H.hall allowed.now (served_of self.old) error (served_of self.new)) }
+        ensures goes_on { OnOk result (Proceeds S.hall allowed.now (served_of S.state self.old) (served_of S.state self.new)) }
+        ensures fails { IfErr result (λ error. Breaks S.hall allowed.now (served_of S.state self.old) error (served_of S.state self.new)) }
     {
         if !self.can_take() {
             // Why it failed an event says.
@@ -275,8 +275,8 @@ impl<H: Hall> Guest<H> {
     /// Reads a piece, takes of it what may be taken, and keeps the rest.
     fn read(&mut self, piece: &mut [u8], allowed: Allowance) -> io::Result<()>
         requires { self.old.rest.items ≡ [] }
-        ensures goes_on { OnOk result (Proceeds H.hall allowed.now (served_of self.old) (served_of self.new)) }
-        ensures fails { IfErr result (λ error. Breaks H.hall allowed.now (served_of self.old) error (served_of self.new)) }
+        ensures goes_on { OnOk result (Proceeds S.hall allowed.now (served_of S.state self.old) (served_of S.state self.new)) }
+        ensures fails { IfErr result (λ error. Breaks S.hall allowed.now (served_of S.state self.old) error (served_of S.state self.new)) }
     {
         let got = self.stream.read(piece)?;
         self.take(got, piece, allowed)
@@ -286,8 +286,8 @@ impl<H: Hall> Guest<H> {
     fn take(&mut self, got: Got, piece: &[u8], allowed: Allowance) -> io::Result<()>
         requires empty { self.old.rest.items ≡ [] }
         requires fits { Fits got (length piece.now) }
-        ensures goes_on { OnOk result (Serves H.hall allowed.now (served_of self.old) (came_by got piece.now) self.new.rest.items (served_of self.new)) }
-        ensures stops { IfErr result (λ error. StopsShort H.hall allowed.now (served_of self.old) (came_by got piece.now) error (served_of self.new)) }
+        ensures goes_on { OnOk result (Serves S.hall allowed.now (served_of S.state self.old) (came_by got piece.now) self.new.rest.items (served_of S.state self.new)) }
+        ensures stops { IfErr result (λ error. StopsShort S.hall allowed.now (served_of S.state self.old) (came_by got piece.now) error (served_of S.state self.new)) }
         ensures same { self.new.stream ≡ self.old.stream }
     {
         match got {
@@ -308,8 +308,8 @@ impl<H: Hall> Guest<H> {
 
     /// Writes as much as the stream takes.
     fn write(&mut self, now: u64) -> io::Result<()>
-        ensures goes_on { OnOk result (Proceeds H.hall now (served_of self.old) (served_of self.new)) }
-        ensures fails { IfErr result (λ error. Breaks H.hall now (served_of self.old) error (served_of self.new)) }
+        ensures goes_on { OnOk result (Proceeds S.hall now (served_of S.state self.old) (served_of S.state self.new)) }
+        ensures fails { IfErr result (λ error. Breaks S.hall now (served_of S.state self.old) error (served_of S.state self.new)) }
     {
         for _ in 0..u64::MAX {
             if !self.can_write() {
@@ -322,8 +322,8 @@ impl<H: Hall> Guest<H> {
 
     /// Offers the stream what waits, and says how much it took.
     fn write_some(&mut self, now: u64) -> io::Result<usize>
-        ensures sends { IfOk result (λ count. Sends H.hall (served_of self.old) count now (served_of self.new)) }
-        ensures unsent { IfErr result (λ error. served_of self.new ≡ record (served_of self.old) { failure = Some (raw_os_error error) }) }
+        ensures sends { IfOk result (λ count. Sends S.hall (served_of S.state self.old) count now (served_of S.state self.new)) }
+        ensures unsent { IfErr result (λ error. served_of S.state self.new ≡ record (served_of S.state self.old) { failure = Some (raw_os_error error) }) }
     {
         let count = self.stream.write(self.session.outgoing())?;
         if count == 0 {
@@ -335,7 +335,7 @@ impl<H: Hall> Guest<H> {
 
     /// Keeps why nothing more is taken, once an event says it.
     fn note_events(&mut self)
-        ensures { Hears H.hall (served_of self.old) (served_of self.new) }
+        ensures { Hears S.hall (served_of S.state self.old) (served_of S.state self.new) }
     {
         for _ in 0..u64::MAX {
             let is_told = self.note_event();
@@ -347,7 +347,7 @@ impl<H: Hall> Guest<H> {
 
     /// Takes the next event. Says whether there was one.
     fn note_event(&mut self) -> bool
-        ensures { Hears H.hall (served_of self.old) (served_of self.new) }
+        ensures { Hears S.hall (served_of S.state self.old) (served_of S.state self.new) }
     {
         let Some(event) = self.session.poll_event() else {
             return false;
@@ -358,7 +358,7 @@ impl<H: Hall> Guest<H> {
 
     /// Keeps how the connection ended, where an event says it.
     fn hear(&mut self, event: SessionEvent)
-        ensures { served_of self.new ≡ heard event (served_of self.old) }
+        ensures { served_of S.state self.new ≡ heard event (served_of S.state self.old) }
     {
         if let Some(end) = End::of_event(event) {
             drop(self.end.replace(end));
@@ -368,7 +368,7 @@ impl<H: Hall> Guest<H> {
     /// Once all went out, has the peer told that nothing more comes. So one that got an Abort, or whose bytes were refused, loses
     /// nothing of it, as what it still sends is taken off the stream. One that sent an Abort closes by itself.
     fn shut(&mut self)
-        ensures { served_of self.new ≡ served_of self.old }
+        ensures { served_of S.state self.new ≡ served_of S.state self.old }
     {
         if self.is_shut || !self.session.is_draining() {
             return;
@@ -390,21 +390,21 @@ impl<H: Hall> Guest<H> {
 
     /// Whether something can be written.
     fn can_write(&self) -> bool
-        ensures { IsTrue result ↔ CanWrite self.now }
+        ensures { IsTrue result ↔ CanWrite S.state self.now }
     {
         self.stream.is_writable() && !self.session.outgoing().is_empty()
     }
 
     /// Whether there may be bytes of the peer, and some are taken.
     fn can_take(&self) -> bool
-        ensures { IsTrue result ↔ CanTake self.now }
+        ensures { IsTrue result ↔ CanTake S.state self.now }
     {
         self.session.takes_bytes() && self.may_have_bytes()
     }
 
     /// Whether there may be bytes of the peer, or its end.
     fn may_have_bytes(&self) -> bool
-        ensures { IsTrue result ↔ MayHaveBytes self.now }
+        ensures { IsTrue result ↔ MayHaveBytes S.state self.now }
     {
         self.stream.is_readable() || !self.rest.is_empty()
     }
@@ -412,7 +412,7 @@ impl<H: Hall> Guest<H> {
     /// How it ended before, or else in this way.
     fn end_or(&mut self, other: End) -> End
         ensures end { result ≡ end_or self.old.end other }
-        ensures same { served_of self.new ≡ record (served_of self.old) { end = None } }
+        ensures same { served_of S.state self.new ≡ record (served_of S.state self.old) { end = None } }
     {
         match self.end.take() {
             Some(end) => end,
@@ -429,9 +429,9 @@ pub(crate) fn session_number(number: u64, key: usize) -> u64
 }
 
 /// Gives a session these bytes, within so many messages and until more is kept for it than it is allowed, and says how many were taken.
-fn feed<H: Hall>(session: &mut Session<H>, piece: &[u8], allowed: Allowance) -> usize
+fn feed<S: HostedSession>(session: &mut S, piece: &[u8], allowed: Allowance) -> usize
     ensures few { result ≤ length piece.now }
-    ensures fed { IsFed H.hall allowed.now (state_of session.old) (take result piece.now) (state_of session.new) }
+    ensures fed { IsFed S.hall allowed.now (S.state session.old) (take result piece.now) (S.state session.new) }
 {
     let mut left = piece;
     for _ in 0..allowed.messages {
@@ -446,9 +446,9 @@ fn feed<H: Hall>(session: &mut Session<H>, piece: &[u8], allowed: Allowance) -> 
 }
 
 /// Gives a session these bytes up to the end of a message, and says how many were taken: none at a fault, of which an event tells.
-fn feed_next<H: Hall>(session: &mut Session<H>, piece: &[u8], now: u64) -> usize
+fn feed_next<S: HostedSession>(session: &mut S, piece: &[u8], now: u64) -> usize
     ensures few { result ≤ length piece.now }
-    ensures fed { IsFed H.hall now (state_of session.old) (take result piece.now) (state_of session.new) }
+    ensures fed { IsFed S.hall now (S.state session.old) (take result piece.now) (S.state session.new) }
 {
     match session.receive(piece, now) {
         Ok(count) => count,

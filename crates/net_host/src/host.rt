@@ -13,11 +13,13 @@ ghost use Rattle.net_host.specs.declared.host.News.TheVariants as all_news;
 
 use crate::end::{End, Ended};
 use crate::event_loop::EventLoop;
+use crate::hosted_session::HostedSession;
 use crate::limits::Crowd;
 use crate::pending::PendingConnection;
 use crate::plan::HostPlan;
 use crate::time::{earlier, has_come};
-use cp_makers::{Hall, Waker};
+use cp_makers::Waker;
+use cp_session::Session;
 use net_sockets::{Incoming, Listener, Peer};
 use std::alloc::AllocGlobal;
 use std::io::{self, ErrorKind};
@@ -92,18 +94,21 @@ enum Look {
 ///
 /// An error of `next` is one of the listener's set of sockets, or says that memory ran out for it. Each end is still reported then, by
 /// a further call. Of a connection that fails the news says so, and the others go on.
-pub struct Host<H> {
+pub type Host<H> = SessionHost<Session<H>>;
+
+/// A `Host` whose connections are sessions of this type.
+pub struct SessionHost<S> {
     plan: HostPlan,
     incoming: Incoming,
     pending: Option<PendingConnection>,
-    event_loop: EventLoop<H>,
+    event_loop: EventLoop<S>,
     /// When the program is to be told that its time has come, if it is to be.
     alarm: Option<u64>,
 }
 
-impl<H: Drop> Drop for Host<H> {
+impl<S: Drop> Drop for SessionHost<S> {
     fn drop(self) {
-        let Host {
+        let SessionHost {
             plan: _,
             incoming: _,
             pending: _,
@@ -113,19 +118,19 @@ impl<H: Drop> Drop for Host<H> {
     }
 }
 
-impl<H: Hall> Host<H> {
+impl<S: HostedSession> SessionHost<S> {
     /// A host to which no connection has come.
     pub fn new<N: Net + Clock + AllocGlobal>(
         rt: &N,
         plan: HostPlan,
         listener: Listener,
-    ) -> io::Result<Host<H>>
+    ) -> io::Result<SessionHost<S>>
         ensures begun { IfOk result (λ host. roster host ≡ begun plan) }
-        ensures empty { IfOk result (λ host. Rests (nobody plan.limits) (connections_of host)) }
+        ensures empty { IfOk result (λ host. Rests (nobody plan.limits) (connections_of S.state host)) }
     {
         let mut incoming = Incoming::new(listener, plan.count);
         let event_loop = EventLoop::new(rt, &plan.limits, &mut incoming)?;
-        Ok(Host {
+        Ok(SessionHost {
             plan,
             incoming,
             pending: None,
@@ -142,8 +147,8 @@ impl<H: Hall> Host<H> {
         ensures on_time { IfOk result (λ news. IsOnTime (roster self.old).alarm (now_of self.old) (now_of self.new) news) }
         ensures fresh { OnOk result (IsFresh self.new.pending) }
         ensures unheard { OnErr result (GoesOn (roster self.old) (roster self.new)) }
-        ensures reports { IfOk result (λ news. Reports H.hall (connections_of self.old) news (connections_of self.new)) }
-        ensures unreported { OnErr result (floor.Rounds H.hall (connections_of self.old) (connections_of self.new)) }
+        ensures reports { IfOk result (λ news. Reports S.hall (connections_of S.state self.old) news (connections_of S.state self.new)) }
+        ensures unreported { OnErr result (floor.Rounds S.hall (connections_of S.state self.old) (connections_of S.state self.new)) }
     {
         // A connection that got no objects is closed by this.
         self.pending = None;
@@ -158,11 +163,11 @@ impl<H: Hall> Host<H> {
     }
 
     /// Serves the connection that came last with these objects. Where this fails, it is closed.
-    pub fn admit(&mut self, objects: H) -> io::Result<()>
+    pub fn admit(&mut self, objects: S::Objects) -> io::Result<()>
         ensures admits { OnOk result (Admits (roster self.old) (roster self.new)) }
         ensures lost { OnErr result (roster self.new ≡ record (roster self.old) { awaits = None }) }
-        ensures seats { OnOk result (Seats H.hall self.old.plan self.old.pending objects (connections_of self.old) (connections_of self.new)) }
-        ensures unseated { OnErr result (Rests (connections_of self.old) (connections_of self.new)) }
+        ensures seats { OnOk result (Seats S.hall self.old.plan self.old.pending objects (connections_of S.state self.old) (connections_of S.state self.new)) }
+        ensures unseated { OnErr result (Rests (connections_of S.state self.old) (connections_of S.state self.new)) }
     {
         match self.pending.take() {
             Some(pending) => self.event_loop.admit(&self.plan, pending, objects),
@@ -173,8 +178,8 @@ impl<H: Hall> Host<H> {
     /// Has an object woken, as another object would (`Here::wake`): it is polled, and its connection has a turn. Nothing is done where the
     /// object is gone, or its connection.
     pub fn wake(&mut self, waker: Waker) -> io::Result<()>
-        ensures woken { OnOk result (connections_of self.new ≡ waking (connections_of self.old) waker) }
-        ensures unwoken { OnErr result (connections_of self.new ≡ connections_of self.old) }
+        ensures woken { OnOk result (connections_of S.state self.new ≡ waking (connections_of S.state self.old) waker) }
+        ensures unwoken { OnErr result (connections_of S.state self.new ≡ connections_of S.state self.old) }
         ensures same { roster self.new ≡ roster self.old }
         ensures waits { self.new.pending ≡ self.old.pending }
     {
@@ -186,7 +191,7 @@ impl<H: Hall> Host<H> {
     pub fn wake_after<N: Clock>(&mut self, rt: &N, milliseconds: u64) -> io::Result<()>
         ensures named { OnOk result (roster self.new ≡ record (roster self.old) { alarm = Some (time_after (now_of self.new) milliseconds) }) }
         ensures unnamed { OnErr result (roster self.new ≡ roster self.old) }
-        ensures rests { Rests (connections_of self.old) (connections_of self.new) }
+        ensures rests { Rests (connections_of S.state self.old) (connections_of S.state self.new) }
         ensures waits { self.new.pending ≡ self.old.pending }
     {
         self.event_loop.look(rt)?;
@@ -202,8 +207,8 @@ impl<H: Hall> Host<H> {
         ensures on_time { IfOk result (λ it. LooksOnTime (roster self.old).alarm (now_of self.old) (now_of self.new) it) }
         ensures fresh { OnOk result (IsFresh self.new.pending) }
         ensures unheard { OnErr result (GoesOn (roster self.old) (roster self.new)) }
-        ensures reports { IfOk result (λ it. LooksOn H.hall (connections_of self.old) it (connections_of self.new)) }
-        ensures unreported { OnErr result (floor.Rounds H.hall (connections_of self.old) (connections_of self.new)) }
+        ensures reports { IfOk result (λ it. LooksOn S.hall (connections_of S.state self.old) it (connections_of S.state self.new)) }
+        ensures unreported { OnErr result (floor.Rounds S.hall (connections_of S.state self.old) (connections_of S.state self.new)) }
     {
         if let Some(ended) = self.event_loop.next_end() {
             return Ok(Look::News(News::ended(ended)));
@@ -273,7 +278,7 @@ impl<H: Hall> Host<H> {
     /// Waits for events, and gives each connection that can go on a turn.
     fn round<N: Net + Clock>(&mut self, rt: &N) -> io::Result<()>
         ensures rounds { Rounds (roster self.old) (roster self.new) }
-        ensures turns { floor.Rounds H.hall (connections_of self.old) (connections_of self.new) }
+        ensures turns { floor.Rounds S.hall (connections_of S.state self.old) (connections_of S.state self.new) }
     {
         let wait = self.wait();
         let has_event = self.event_loop.wait(rt, wait.map(Duration::from_millis))?;

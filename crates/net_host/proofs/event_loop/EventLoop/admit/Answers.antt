@@ -1,7 +1,7 @@
 use Rattle.std.proofs.Common.{◌∙◌, ap, refl, subst, sym}
 use Rattle.cp_session.specs.Doing.{due_of}
 use Rattle.cp_session.specs.Progress.{earlier}
-use Rattle.cp_session.specs.State.{new_state, state_of}
+use Rattle.cp_session.specs.State.{new_state}
 use Rattle.net_host.proofs.Floors.{kept_in_room, seats_in_room}
 use Rattle.net_host.specs.Guests.{new_served}
 use Rattle.net_host.specs.Waking.{session_of}
@@ -9,19 +9,19 @@ use Rattle.net_host.proofs.event_loop.EventLoop.admit.Goals as goal
 
 pub returns-in-Ok-clause-seats : goal.returns-in-Ok-clause-seats
 returns-in-Ok-clause-seats g c =
-    let now = c.now.result in
-    let seated = c.set_session.new.self in
+    let now = c.now-now.result in
+    let seated = c.begin-session.ensures.0 in
     let shows =
-    c.new-guest.ensures ∙ ap (λ f. record (new_served c.args.pending (state_of c.new-session.result)) { failure = f }) c.make_room.ensures.stream
-    ∙ ap (λ s. new_served c.args.pending s) (c.new-session.ensures ∙ ap (λ o. new_state o seated now) c.session.ensures) in
-    let number = c.session_number.ensures ∙ ap (λ key. session_of c.args.pending.number key) (c.in-Ok.ensures.key ∙ sym c.insert_reserved.ensures.key) in
-    seats_in_room g.H.Hall.hall c.args.plan.now c.args.pending c.args.objects seated now c.args.self.now _ c.make_room.new.self.guests _ c.insert_reserved.result c.new-guest.result
+    c.new-guest.ensures ∙ ap (λ f. record (new_served c.args.pending (g.S.HostedSession.state c.begin-session.result)) { failure = f }) c.make_room.ensures.stream
+    ∙ ap (λ s. new_served c.args.pending s) (c.begin-session.ensures.2 ∙ ap (λ o. new_state o seated now) c.session.ensures) in
+    let number = c.session_number-number.ensures ∙ ap (λ key. session_of c.args.pending.number key) (c.in-Ok.ensures.key ∙ sym c.insert_reserved.ensures.key) in
+    seats_in_room g.S.HostedSession.state g.S.HostedSession.hall c.args.plan.now c.args.pending c.args.objects seated now c.args.self.now _ c.make_room.new.self.guests _ c.insert_reserved.result c.new-guest.result
     c.make_room.ensures.same c.insert_reserved.ensures.was_vacant c.insert_reserved.ensures.updates shows refl (ap (λ d. d.items) c.make_room.ensures.ended) c.make_room.ensures.budget
     (ap (λ w. w.items) c.make_room.ensures.wakes)
     (ap (λ t. t.sweep_at) c.expect.ensures ∙ ap (λ t. earlier t.sweep_at c.deadline.result) c.make_room.ensures.time
-    ∙ ap (λ d. earlier c.args.self.now.time.sweep_at d) (c.deadline.ensures ∙ ap (λ x. due_of g.H.Hall.hall x.session) shows))
-    (subst (λ s. g.H.Hall.hall.is_in s c.args.objects seated) number c.set_session.ensures)
+    ∙ ap (λ d. earlier c.args.self.now.time.sweep_at d) (c.deadline.ensures ∙ ap (λ x. due_of g.S.HostedSession.hall x.session) shows))
+    (subst (λ s. g.S.HostedSession.hall.is_in s c.args.objects seated) number c.begin-session.ensures.1)
 
 pub returns-in-Err-clause-unseated : goal.returns-in-Err-clause-unseated
 returns-in-Err-clause-unseated g c =
-    record { same = kept_in_room c.args.self.now.guests c.make_room.new.self.guests c.make_room.ensures.same; ended = ap (λ d. d.items) c.make_room.ensures.ended; budget = c.make_room.ensures.budget; wakes = ap (λ w. w.items) c.make_room.ensures.wakes; due = ap (λ t. t.sweep_at) c.make_room.ensures.time }
+    record { same = kept_in_room g.S.HostedSession.state c.args.self.now.guests c.make_room.new.self.guests c.make_room.ensures.same; ended = ap (λ d. d.items) c.make_room.ensures.ended; budget = c.make_room.ensures.budget; wakes = ap (λ w. w.items) c.make_room.ensures.wakes; due = ap (λ t. t.sweep_at) c.make_room.ensures.time }

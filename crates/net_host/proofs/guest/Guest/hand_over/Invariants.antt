@@ -3,4 +3,4 @@ use Rattle.net_host.proofs.guest.Guest.hand_over.Given as goal
 
 -- some were handed out
 abbrev pub invariant-loop : goal.invariant-loop
-invariant-loop g l = Adds l.fn.wakes.items (λ woken. HandsSome g.H.Hall.hall (served_of l.fn.self) woken (served_of l.self)) l.wakes.items
+invariant-loop g l = Adds l.fn.wakes.items (λ woken. HandsSome g.S.HostedSession.hall (served_of g.S.HostedSession.state l.fn.self) woken (served_of g.S.HostedSession.state l.self)) l.wakes.items

@@ -3,4 +3,4 @@ use Rattle.net_host.proofs.guest.Guest.note_events.Given as goal
 
 -- the events so far were handed out
 abbrev pub invariant-loop : goal.invariant-loop
-invariant-loop g l = Hears g.H.Hall.hall (served_of l.fn.self) (served_of l.self)
+invariant-loop g l = Hears g.S.HostedSession.hall (served_of g.S.HostedSession.state l.fn.self) (served_of g.S.HostedSession.state l.self)

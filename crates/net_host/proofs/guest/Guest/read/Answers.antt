@@ -9,7 +9,7 @@ use Rattle.net_host.proofs.guest.Guest.read.Goals as goal
 pub returns-in_err-got-clause-fails : goal.returns-in_err-got-clause-fails
 returns-in_err-got-clause-fails g c =
     let error = c.in_err-got.field-0.0 in
-    err_same _ error c.from_residual.result c.from_residual.ensures (fails_now error (proceeds_none c.args.allowed.now (served_of c.args.self.now)) (rw c.in_err-got.ensures.failed refl))
+    err_same _ error c.from_residual.result c.from_residual.ensures (fails_now error (proceeds_none c.args.allowed.now (served_of g.S.HostedSession.state c.args.self.now)) (rw c.in_err-got.ensures.failed refl))
 
 pub returns-clause-goes_on : goal.returns-clause-goes_on
 returns-clause-goes_on g c =

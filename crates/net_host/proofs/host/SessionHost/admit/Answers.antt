@@ -1,5 +1,5 @@
 use Rattle.std.proofs.Common.{refl}
-use Rattle.net_host.proofs.host.Host.admit.Goals as goal
+use Rattle.net_host.proofs.host.SessionHost.admit.Goals as goal
 
 pub returns-in-Some-clause-seats : goal.returns-in-Some-clause-seats
 returns-in-Some-clause-seats g c = rw (← c.in-Some.ensures.value) c.admit.ensures.seats

@@ -1,6 +1,6 @@
 use Rattle.net_host.proofs.Floors.{rounds_both}
 use Rattle.net_host.specs.Floor.{begins, rests, turns}
-use Rattle.net_host.proofs.host.Host.round.Goals as goal
+use Rattle.net_host.proofs.host.SessionHost.round.Goals as goal
 
 pub returns-in_err-has_event-clause-turns : goal.returns-in_err-has_event-clause-turns
 returns-in_err-has_event-clause-turns g c = turns begins (rests c.wait.ensures.rests)

@@ -4,7 +4,7 @@ use Rattle.net_host.proofs.Floors.{reports_after, rounds_both}
 use Rattle.net_host.proofs.Rosters.{goes_both, hears_after, on_time_after, unmet}
 use Rattle.net_host.specs.Floor.{begins, connections_of}
 use Rattle.net_host.specs.RosterOf.{now_of, roster}
-use Rattle.net_host.proofs.host.Host.next.Goals as goal
+use Rattle.net_host.proofs.host.SessionHost.next.Goals as goal
 
 pub loop-init : goal.loop-init
 loop-init g c = record { goes_on = record { rest = refl; no_more = omega arith }; turns = begins; on_time = λ comes. refl }
@@ -28,7 +28,7 @@ returns-in-News-clause-hears g c =
 
 pub returns-in-News-clause-reports : goal.returns-in-News-clause-reports
 returns-in-News-clause-reports g c =
-    reports_after (Some c.in-News.news) (connections_of c.look.new.self) c.loop.invariant.turns (rw c.in-News.is at c.in_ok-look.ensures.reports)
+    reports_after (Some c.in-News.news) (connections_of g.S.HostedSession.state c.look.new.self) c.loop.invariant.turns (rw c.in-News.is at c.in_ok-look.ensures.reports)
 
 pub returns-in-Over-clause-hears : goal.returns-in-Over-clause-hears
 returns-in-Over-clause-hears g c =
@@ -36,7 +36,7 @@ returns-in-Over-clause-hears g c =
 
 pub returns-in-Over-clause-reports : goal.returns-in-Over-clause-reports
 returns-in-Over-clause-reports g c =
-    reports_after None (connections_of c.look.new.self) c.loop.invariant.turns (rw c.in-Over.is at c.in_ok-look.ensures.reports)
+    reports_after None (connections_of g.S.HostedSession.state c.look.new.self) c.loop.invariant.turns (rw c.in-Over.is at c.in_ok-look.ensures.reports)
 
 pub returns-in-News-clause-on_time : goal.returns-in-News-clause-on_time
 returns-in-News-clause-on_time g c =
