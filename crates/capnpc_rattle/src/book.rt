@@ -2,10 +2,8 @@
 
 use crate::names::{is_ambiguous, is_taken};
 use crate::only::{has_method, has_type};
-use crate::out::{Arg, Out, before, file_name};
+use crate::out::{Out, before, file_name};
 use crate::reach::{Line, Naming, push_lines, push_naming};
-use crate::structs::has_name;
-use crate::templates::{SERVERS, SERVICES, Templates};
 use cp_schema::{Node, NodeKind, Schema};
 use std::alloc::{AllocError, Global};
 
@@ -41,18 +39,6 @@ impl Drop for Named {
     }
 }
 
-impl Named {
-    /// What stands for the places of templates of it: its name as a type, that in the schema, that in definitions, and its number.
-    pub fn args<'n>(&'n self, node: &'n Node) -> [Arg<'n>; 4] {
-        [
-            Arg::Text(self.name.as_str()),
-            Arg::Text(node.name()),
-            Arg::Text(self.word.as_str()),
-            Arg::Hex(node.id),
-        ]
-    }
-}
-
 /// What is written of a request.
 #[derive(Clone, Copy)]
 pub struct Scope<'s> {
@@ -64,13 +50,6 @@ pub struct Scope<'s> {
     pub interfaces: bool,
     /// Whether objects of interfaces may make others.
     pub services: bool,
-}
-
-impl Scope<'_> {
-    /// How objects of interfaces are written.
-    pub fn templates(&self) -> Templates {
-        if self.services { SERVICES } else { SERVERS }
-    }
 }
 
 /// All types and constants of a request.
@@ -164,11 +143,6 @@ impl<'s> Book<'s> {
         }
     }
 
-    /// Whether unions are written with what their members hold, by methods of all their fields.
-    pub fn has_members(&self) -> bool {
-        self.scope.only.is_empty()
-    }
-
     /// All interfaces that the one of this number extends.
     pub fn supers(&self, id: u64) -> &[u64] {
         for line in &self.lines {
@@ -223,7 +197,7 @@ fn names_of<'s>(
     scope: Scope<'_>,
 ) -> Named {
     let name = type_name(alloc, node);
-    let word = Out::of(alloc, "$0", &[Arg::Snake(name.as_str())]);
+    let word = Out::spelled(alloc, name.as_str(), "snake");
     Named {
         id: node.id,
         name,
@@ -237,7 +211,7 @@ fn names_of<'s>(
 /// A type's name in upper camel case, which is none of those that generated code has from elsewhere. Those of structs
 /// and groups get an ending.
 fn type_name(alloc: Global, node: &Node) -> Out {
-    let mut name = Out::of(alloc, "$0", &[Arg::Camel(node.name())]);
+    let mut name = Out::spelled(alloc, node.name(), "camel");
     let is_enum = matches!(node.kind, NodeKind::Enum(_));
     if is_ambiguous(name.as_str()) || is_enum && is_taken(name.as_str()) {
         name.push('_');
@@ -248,10 +222,12 @@ fn type_name(alloc: Global, node: &Node) -> Out {
 /// The module that a node is in: that of the struct which a group is in.
 fn module_of<'s>(alloc: Global, schema: &'s Schema, node: &'s Node) -> Out {
     if matches!(node.kind, NodeKind::Const(_)) {
-        return Out::of(alloc, "constants", &[]);
+        return Out::spelled(alloc, "constants", "");
     }
-    let name = Out::of(alloc, "$0", &[Arg::Camel(owner_of(schema, node).name())]);
-    Out::of(alloc, "$0", &[Arg::Method(name.as_str())])
+    let name = Out::spelled(alloc, owner_of(schema, node).name(), "camel");
+    let module = Out::spelled(alloc, name.as_str(), "method");
+    drop(name);
+    module
 }
 
 /// The struct that a group is in; another node is its own.
@@ -286,4 +262,16 @@ pub fn crate_name(alloc: Global, path: &str, krate: &str) -> Out {
         });
     }
     name
+}
+
+/// Whether a struct has a name in its schema, so that a list of it can be a field's type: not the params or results of a
+/// method.
+pub fn has_name(node: &Node) -> bool {
+    !node.name().contains("$")
+}
+
+/// Whether a struct is the params of a method, which has no name in its schema.
+pub fn is_params(node: &Node) -> bool {
+    // The schema compiler calls params so that have no name.
+    node.name().ends_with("$Params")
 }

@@ -11,44 +11,32 @@
 #![tactic(auto)]
 
 mod book;
-mod clients;
-mod comments;
-mod constants;
-mod defaults;
-mod dispatch;
-mod drafts;
-mod enums;
-mod getters;
+mod fields;
+mod filler;
 mod interfaces;
-mod kinds;
-mod methods;
+mod model;
 mod names;
+mod nodes;
 mod only;
 mod out;
 mod pages;
-mod parts;
-mod plain;
-mod promises;
 mod reach;
-mod servers;
-mod setters;
-mod sheet;
-mod structs;
 mod templates;
 mod told;
 mod trees;
 mod twice;
-mod unions;
+mod types;
 mod uses;
 
 use anyhow::{anyhow, bail};
 use book::{Book, Scope, crate_name};
 use cp_schema::{Node, Schema};
-use out::{Arg, Out, file_name};
-use pages::{line_of, name_twice, root_text, sheets, specs_root};
-use sheet::Sheet;
+use filler::Templates;
+use out::{Out, file_name};
+use pages::{Page, Target, line_of, name_twice, pages, root_text, specs_root};
 use std::io::Read;
 use std::{env, fs};
+use templates::TEMPLATES;
 use told::tell_names;
 use twice::found_twice;
 
@@ -174,46 +162,27 @@ impl Task {
     }
 
     /// Writes or prints a file of a crate, by its path in the crate's folder.
-    fn put(&self, rt: &HostRuntime, path: (&str, &str), text: Out) -> anyhow::Result<()> {
-        let put = self.put_text(rt, path, &text);
-        drop(text);
+    fn put(&self, rt: &HostRuntime, krate: &str, path: &[&str], text: &Out) -> anyhow::Result<()> {
+        let mut name = Out::new(rt.alloc());
+        name.all(&[krate, "/"]);
+        name.all(path);
+        let put = if text.is_full || name.is_full {
+            Err(anyhow!("memory ran out"))
+        } else {
+            self.put_text(rt, name.as_str(), text.as_str())
+        };
+        drop(name);
         put
     }
 
     /// Writes or prints this text.
-    fn put_text(
-        &self,
-        rt: &HostRuntime,
-        (krate, path): (&str, &str),
-        text: &Out,
-    ) -> anyhow::Result<()> {
-        if text.is_full {
-            bail!("memory ran out");
+    fn put_text(&self, rt: &HostRuntime, path: &str, text: &str) -> anyhow::Result<()> {
+        if self.prints {
+            print!(rt; "==> {path}\n{text}")?;
+        } else {
+            fs::write(rt, path, text)?;
         }
-        if !self.prints {
-            return write_file(rt, (krate, path), text.as_str());
-        }
-        print!(rt; "==> {krate}/{path}\n{}", text.as_str())?;
         Ok(())
-    }
-
-    /// Writes or prints the code of a module.
-    fn put_code(&self, rt: &HostRuntime, of: &File<'_>, sheet: &Sheet<'_>) -> anyhow::Result<()> {
-        let path = Out::of(rt.alloc(), "src/$0.rt", &[Arg::Text(sheet.module)]);
-        let put = self.put(rt, (of.krate, path.as_str()), sheet.module_text(of.schema));
-        drop(path);
-        put
-    }
-
-    /// Writes or prints the definitions of a module, if it has some.
-    fn put_specs(&self, rt: &HostRuntime, of: &File<'_>, sheet: &Sheet<'_>) -> anyhow::Result<()> {
-        if sheet.specs.is_empty() {
-            return Ok(());
-        }
-        let path = Out::of(rt.alloc(), "specs/$0.antt", &[Arg::Module(sheet.module)]);
-        let put = self.put(rt, (of.krate, path.as_str()), sheet.specs_text(of.schema));
-        drop(path);
-        put
     }
 
     /// Makes a folder of the crate, unless its files are printed.
@@ -227,59 +196,51 @@ impl Task {
         Ok(made?)
     }
 
-    /// Writes or prints the files of the modules.
-    fn put_modules(
-        &self,
-        rt: &HostRuntime,
-        of: &File<'_>,
-        sheets: &[Sheet<'_>],
-    ) -> anyhow::Result<()> {
-        self.make_folder(rt, of.krate, "src")?;
-        self.make_folder(rt, of.krate, "specs")?;
-        for sheet in sheets {
-            self.put_code(rt, of, sheet)?;
-            self.put_specs(rt, of, sheet)?;
+    /// Writes or prints the files of a crate's modules.
+    fn put_pages(&self, rt: &HostRuntime, krate: &str, pages: &[Page<'_>]) -> anyhow::Result<()> {
+        self.make_folder(rt, krate, "src")?;
+        self.make_folder(rt, krate, "specs")?;
+        for page in pages {
+            self.put(rt, krate, &["src/", page.module, ".rt"], &page.code)?;
+            if !page.specs.is_empty() {
+                let module = Out::spelled(rt.alloc(), page.module, "module");
+                let put = self.put(
+                    rt,
+                    krate,
+                    &["specs/", module.as_str(), ".antt"],
+                    &page.specs,
+                );
+                drop(module);
+                put?;
+            }
         }
         Ok(())
     }
 
-    /// Writes or prints the roots of the crate, and prints its line where they are written.
+    /// Writes or prints the roots of a crate, and prints its line where they are written.
     fn put_roots(
         &self,
         rt: &HostRuntime,
-        of: &File<'_>,
         book: &Book<'_>,
-        sheets: &[Sheet<'_>],
+        pages: &[Page<'_>],
+        of: Target<'_>,
     ) -> anyhow::Result<()> {
-        let text = root_text(book, sheets, of.schema);
-        self.put(rt, (of.krate, "src/lib.rt"), text)?;
-        let text = specs_root(book, sheets);
-        self.put(rt, (of.krate, "specs/Lib.antt"), text)?;
+        let root = root_text(book, pages, of.schema);
+        let put = self.put(rt, of.krate, &["src/lib.rt"], &root);
+        drop(root);
+        put?;
+        let root = specs_root(book, pages);
+        let put = self.put(rt, of.krate, &["specs/Lib.antt"], &root);
+        drop(root);
+        put?;
         if self.prints {
             return Ok(());
         }
-        let line = line_of(book, sheets, of.krate);
+        let line = line_of(book, pages, of.krate);
         let printed = print!(rt; "{}", line.as_str());
         drop(line);
         Ok(printed?)
     }
-}
-
-/// Writes a file of a crate.
-fn write_file(rt: &HostRuntime, (krate, path): (&str, &str), text: &str) -> anyhow::Result<()> {
-    let path = format!(in rt.alloc(); "{krate}/{path}")?;
-    let written = fs::write(rt, path.as_str(), text);
-    drop(path);
-    Ok(written?)
-}
-
-/// What a crate is made of.
-#[derive(Clone, Copy)]
-struct File<'f> {
-    /// The crate's name.
-    krate: &'f str,
-    /// The name of its schema's file.
-    schema: &'f str,
 }
 
 /// Makes the crate of a file.
@@ -299,50 +260,57 @@ fn put_crate<'n>(
     krate: &'n str,
 ) -> anyhow::Result<()> {
     let book = Book::of(rt.alloc(), schema, (path, krate), task.scope())?;
-    let schema = file_name(path);
-    let put = put_book(rt, task, &book, &File { krate, schema });
+    let target = Target {
+        krate,
+        schema: file_name(path),
+    };
+    let put = put_book(rt, task, &book, target);
     drop(book);
     put
 }
 
 /// Writes or prints a crate of these types and constants.
-fn put_book(rt: &HostRuntime, task: &Task, book: &Book<'_>, of: &File<'_>) -> anyhow::Result<()> {
-    let sheets = sheets(book, of.krate)?;
-    let put = put_sheets(rt, task, book, of, sheets.as_slice());
-    drop(sheets);
+fn put_book(rt: &HostRuntime, task: &Task, book: &Book<'_>, of: Target<'_>) -> anyhow::Result<()> {
+    let templates = Templates::new(rt.alloc(), &TEMPLATES);
+    let pages = pages(book, &templates, of);
+    drop(templates);
+    let pages = pages?;
+    let put = put_all(rt, task, book, of, pages.as_slice());
+    drop(pages);
     put
 }
 
 /// Writes or prints a crate of these modules.
-fn put_sheets(
+fn put_all(
     rt: &HostRuntime,
     task: &Task,
     book: &Book<'_>,
-    of: &File<'_>,
-    sheets: &[Sheet<'_>],
+    of: Target<'_>,
+    pages: &[Page<'_>],
 ) -> anyhow::Result<()> {
     // Before any file is written.
-    check(sheets)?;
-    task.put_modules(rt, of, sheets)?;
-    task.put_roots(rt, of, book, sheets)
+    check(pages)?;
+    task.put_pages(rt, of.krate, pages)?;
+    task.put_roots(rt, book, pages, of)
 }
 
 /// Refuses what can't be written.
-fn check(sheets: &[Sheet<'_>]) -> anyhow::Result<()> {
-    for sheet in sheets {
-        if !sheet.fault.is_empty() {
-            bail!("{}", sheet.fault.as_str());
+fn check(pages: &[Page<'_>]) -> anyhow::Result<()> {
+    for page in pages {
+        if let Some(of) = page.refusal {
+            let dot = if of.member.is_empty() { "" } else { "." };
+            bail!("{}{dot}{}: {}", of.title, of.member, of.why);
         }
-        if sheet.is_full() {
+        if page.is_full() {
             bail!("memory ran out");
         }
-        if let Some(name) = found_twice(sheet) {
-            let fault = anyhow!("{}: two things are called {}", sheet.module, name.as_str());
+        if let Some(name) = found_twice(page) {
+            let fault = anyhow!("{}: two things are called {}", page.module, name.as_str());
             drop(name);
             return Err(fault);
         }
     }
-    match name_twice(sheets) {
+    match name_twice(pages) {
         Some(name) => Err(anyhow!("two types are called {name}")),
         None => Ok(()),
     }

@@ -1,17 +1,16 @@
-//! The files of a crate: its modules, with what they import.
+//! The pages of a crate: its modules, with what they import, and its roots.
 
-use crate::book::{Book, Named};
-use crate::constants::constant;
-use crate::enums::enum_code;
-use crate::interfaces::interface;
-use crate::out::{Arg, Endings, Out, name_of};
-use crate::sheet::Sheet;
-use crate::structs::structure;
-use crate::uses::{of_clauses, of_code, of_specs};
-use cp_schema::{Node, NodeKind};
-use std::alloc::AllocError;
+use crate::book::Book;
+use crate::filler::Templates;
+use crate::model::{Model, Refusal};
+use crate::names::has_word;
+use crate::nodes::node;
+use crate::out::{Out, before, name_of};
+use crate::uses::{is_between, list, of_clauses, of_definitions, paths};
+use cp_schema::NodeKind;
+use std::alloc::{AllocError, Global};
 
-/// The libraries that the code of interfaces stands on, besides those of drafts.
+/// The libraries that the code of interfaces stands on, besides those of builders.
 const STUBS: &str = "\
 cp_vat_machine
 cp_refs
@@ -27,29 +26,82 @@ cp_makers
 cp_services
 ";
 
-/// The modules of a crate, in the order of their names.
-pub fn sheets<'b>(book: &'b Book<'_>, krate: &'b str) -> Result<Vec<Sheet<'b>>, AllocError> {
-    let (mut modules, mut sheets) = (Vec::new(book.alloc), Vec::new(book.alloc));
-    let pushed = push_sheets(book, krate, &mut modules, &mut sheets);
+/// The libraries that all generated code stands on.
+const ALWAYS: &str = "cp_words cp_tree cp_fields std";
+
+/// A module of a generated crate.
+pub struct Page<'b> {
+    pub module: &'b str,
+    /// Its code, as it was filled in, and then with its imports.
+    pub code: Out,
+    /// Its definitions likewise; empty if it has none.
+    pub specs: Out,
+    /// What it declares, by their paths, a line each.
+    pub exports: Out,
+    /// What the code imports of the crate's other modules, and of other crates, a line each.
+    pub uses: Out,
+    pub libraries: Out,
+    /// The definitions of other modules that clauses cite, a line each, and its own.
+    cited: Out,
+    words: Out,
+    /// The first thing that can't be written.
+    pub refusal: Option<Refusal<'b>>,
+    pub is_full: bool,
+}
+
+// Not derived: who lets one go calls this function, and need not prove the drop of all its texts.
+impl Drop for Page<'_> {
+    fn drop(self) {
+        let Page {
+            module: _,
+            code: _,
+            specs: _,
+            exports: _,
+            uses: _,
+            libraries: _,
+            cited: _,
+            words: _,
+            refusal: _,
+            is_full: _,
+        } = self;
+    }
+}
+
+/// A crate that is written, and the name of its schema's file.
+#[derive(Clone, Copy)]
+pub struct Target<'f> {
+    pub krate: &'f str,
+    pub schema: &'f str,
+}
+
+/// The pages of a crate, in the order of their modules' names.
+pub fn pages<'b>(
+    book: &'b Book<'_>,
+    templates: &Templates<'_>,
+    target: Target<'b>,
+) -> Result<Vec<Page<'b>>, AllocError> {
+    let (mut modules, mut pages) = (Vec::new(book.alloc), Vec::new(book.alloc));
+    let pushed = push_pages(book, templates, target, &mut modules, &mut pages);
     drop(modules);
     match pushed {
-        Ok(()) => Ok(sheets),
+        Ok(()) => Ok(pages),
         Err(error) => {
-            drop(sheets);
+            drop(pages);
             Err(error)
         }
     }
 }
 
-/// Adds the names of a crate's modules in order, and the modules.
-fn push_sheets<'b>(
+/// Adds the names of a crate's modules in order, and their pages.
+fn push_pages<'b>(
     book: &'b Book<'_>,
-    krate: &'b str,
+    templates: &Templates<'_>,
+    target: Target<'b>,
     modules: &mut Vec<&'b str>,
-    sheets: &mut Vec<Sheet<'b>>,
+    pages: &mut Vec<Page<'b>>,
 ) -> Result<(), AllocError> {
     for named in &book.names {
-        if named.is_written && named.krate.as_str() == krate {
+        if named.is_written && named.krate.as_str() == target.krate {
             modules.push(named.module.as_str())?;
         }
     }
@@ -57,114 +109,246 @@ fn push_sheets<'b>(
     // A struct's module has its groups too.
     modules.dedup();
     for module in modules.iter() {
-        sheets.push(sheet_of(book, module, krate))?;
+        pages.push(page_of(book, templates, target, module))?;
     }
     Ok(())
 }
 
-/// What a module is.
-fn sheet_of<'b>(book: &'b Book<'_>, module: &'b str, krate: &'b str) -> Sheet<'b> {
-    let endings = book.scope.templates().endings;
-    let mut sheet = Sheet::new(book.alloc, (module, krate), endings);
-    for node in &book.schema.nodes {
-        if let Some(named) = book.find(node.id) {
-            let is_here = named.krate.as_str() == krate && named.module.as_str() == module;
+/// A page.
+fn page_of<'b>(
+    book: &'b Book<'_>,
+    templates: &Templates<'_>,
+    target: Target<'b>,
+    module: &'b str,
+) -> Page<'b> {
+    let model = model_of(book, target, module);
+    let mut page = Page::new(book.alloc, module);
+    page.fill(templates, &model);
+    page.refusal = model.refusal;
+    drop(model);
+    page
+}
+
+/// What is known of a module.
+fn model_of<'b>(book: &'b Book<'_>, target: Target<'b>, module: &'b str) -> Model<'b> {
+    let mut model = Model::new(book.alloc, (target.krate, module));
+    let mut here = Out::new(book.alloc);
+    here.all(&["Rattle.", target.krate, ".specs."]);
+    here.spell(module, "module");
+    model.own("here", &[here.as_str()]);
+    drop(here);
+    model.text("schema", target.schema);
+    model.text("krate", target.krate);
+    model.text("module", module);
+    endings(&mut model, book.scope.services);
+    model.texts(&[("body", "self.now.body"), ("value", "value")]);
+    model.number("services", book.scope.services as u64);
+    let calls = nodes(&mut model, book, target, module);
+    model.number("calls", calls as u64);
+    model.close();
+    model
+}
+
+/// Adds what the names of types end with.
+fn endings(model: &mut Model<'_>, has_services: bool) {
+    if has_services {
+        model.texts(&[("Reader", "Reader"), ("Builder", "Builder")]);
+    } else {
+        model.texts(&[("Reader", "View"), ("Builder", "Draft")]);
+    }
+}
+
+/// Adds the types and constants of a module, and says whether it has an interface.
+fn nodes<'b>(model: &mut Model<'b>, book: &'b Book<'_>, target: Target<'b>, module: &str) -> bool {
+    let mut calls = false;
+    model.list("nodes");
+    for of in &book.schema.nodes {
+        if let Some(named) = book.find(of.id) {
+            let is_here = named.krate.as_str() == target.krate && named.module.as_str() == module;
             if is_here && named.is_written {
-                write_node(book, &mut sheet, node, named);
+                node(model, book, of, named);
+                calls = calls || matches!(of.kind, NodeKind::Interface(_));
             }
         }
     }
-    sheet.end();
-    sheet
+    model.close();
+    calls
 }
 
-/// Writes the code and the definitions of a node.
-fn write_node<'b>(book: &'b Book<'_>, sheet: &mut Sheet<'b>, node: &'b Node, named: &'b Named) {
-    match &node.kind {
-        NodeKind::Struct(of) => structure(book, sheet, node, named, of),
-        NodeKind::Enum(items) => enum_code(book, sheet, node, named, items.as_slice()),
-        NodeKind::Const(of) => constant(book, sheet, node, of),
-        NodeKind::Interface(of) if book.scope.interfaces => interface(book, sheet, node, named, of),
-        _ => {}
+impl<'b> Page<'b> {
+    fn new(alloc: Global, module: &'b str) -> Page<'b> {
+        Page {
+            module,
+            code: Out::new(alloc),
+            specs: Out::new(alloc),
+            exports: Out::new(alloc),
+            uses: Out::new(alloc),
+            libraries: Out::new(alloc),
+            cited: Out::new(alloc),
+            words: Out::new(alloc),
+            refusal: None,
+            is_full: false,
+        }
     }
-}
 
-impl Sheet<'_> {
-    /// The text of the module, of a schema's file of this name.
-    /// It isn't laid out: `rt fmt` does that.
-    pub fn module_text(&self, schema: &str) -> Out {
-        let args = [Arg::Text(self.module), Arg::Text(schema)];
-        let head = match self.code.endings {
-            Endings::Views => "//! `$0` of $1.\n\n",
-            Endings::Readers => "//! `$0` of $1, made by capnpc_rattle.\n\n",
+    /// Fills all of it in.
+    fn fill(&mut self, templates: &Templates<'_>, model: &Model<'_>) {
+        let mut text = Out::new(model.alloc);
+        templates.fill(model, ("code", "page"), 0, &mut text);
+        let here = match model.find(0, "here") {
+            Some(place) => model.text_at(place),
+            None => "",
         };
-        let mut text = Out::of(self.alloc, head, &args);
-        of_clauses(self, &mut text);
-        of_code(self, &mut text);
-        text.put(self.code.as_str());
-        text
+        let mut code = Out::new(model.alloc);
+        for line in text.as_str().lines() {
+            self.take(line, here, &mut code);
+        }
+        templates.fill(model, ("module", "head"), 0, &mut self.code);
+        self.finish(here, &code);
+        self.define(templates, model);
+        self.is_full = text.is_full || code.is_full || model.is_full() || templates.is_full;
+        drop(text);
+        drop(code);
     }
 
-    /// The text of the module's definitions.
-    pub fn specs_text(&self, schema: &str) -> Out {
-        let args = [Arg::Text(self.module), Arg::Text(schema)];
-        let mut text = Out::of(self.alloc, self.heading, &args);
-        of_specs(self, &mut text);
-        text.put(self.specs.as_str());
-        text
+    /// Takes a line of code, which may be an import. The definitions of this module are cited together.
+    fn take(&mut self, line: &str, here: &str, code: &mut Out) {
+        if let Some(path) = line.strip_prefix("ghost use ") {
+            match own_words(path, here) {
+                Some(words) => list(&mut self.words, words),
+                None => self.cited.all(&[line, "\n"]),
+            }
+        } else if let Some(path) = line.strip_prefix("use ") {
+            let path = before(path, ';');
+            if path.starts_with("crate::") {
+                self.uses.all(&[path, "\n"]);
+            } else if !path.starts_with("self::") {
+                self.libraries.all(&[path, "\n"]);
+            }
+        } else {
+            if let Some(rest) = line.strip_prefix("pub ") {
+                self.export(rest);
+            }
+            code.all(&[line, "\n"]);
+        }
+    }
+
+    /// Exports what a line declares, after its first word.
+    fn export(&mut self, line: &str) {
+        for name in after(line, ' ').split(is_between).take(1) {
+            self.exports.all(&[self.module, "::", name, "\n"]);
+        }
+    }
+
+    /// Puts the imports before the code.
+    fn finish(&mut self, here: &str, code: &Out) {
+        let text = code.as_str();
+        let has_stubs = self.has_stubs();
+        of_clauses(&mut self.code, text, has_stubs);
+        self.code.put_sorted(self.cited.as_str(), ("", "\n"));
+        if !self.words.is_empty() {
+            self.code.all(&["ghost use ", here, ".{"]);
+            self.code.put(self.words.as_str());
+            self.code.put("};\n");
+        }
+        self.code.put("\n");
+        let mut all = Out::new(code.alloc);
+        all.all(&[self.uses.as_str(), self.libraries.as_str()]);
+        paths(&mut all, text);
+        self.code.put_sorted(all.as_str(), ("use ", ";\n"));
+        self.code.put(text);
+        drop(all);
+    }
+
+    /// Whether the code stands on cp_stubs.
+    fn has_stubs(&self) -> bool {
+        self.libraries.as_str().contains("cp_stubs::")
+    }
+
+    /// Fills the definitions in, if there are some.
+    fn define(&mut self, templates: &Templates<'_>, model: &Model<'_>) {
+        let mut text = Out::new(model.alloc);
+        templates.fill(model, ("specs", "page"), 0, &mut text);
+        let (mut specs, mut imports) = (Out::new(model.alloc), Out::new(model.alloc));
+        for line in text.as_str().lines() {
+            if line.starts_with("use ") {
+                imports.all(&[line, "\n"]);
+            } else {
+                specs.all(&[line, "\n"]);
+            }
+        }
+        if !specs.is_empty() {
+            let has_stubs = self.has_stubs();
+            templates.fill(model, ("definitions", "head"), 0, &mut self.specs);
+            of_definitions(&mut self.specs, specs.as_str(), has_stubs);
+            self.specs.put_sorted(imports.as_str(), ("", "\n"));
+            self.specs.put(specs.as_str());
+        }
+        drop(text);
+        drop(specs);
+        drop(imports);
     }
 
     /// Whether memory ran out while it was written.
     pub fn is_full(&self) -> bool {
-        self.code.is_full
-            || self.helpers.is_full
+        self.is_full
+            || self.code.is_full
             || self.specs.is_full
             || self.exports.is_full
-            || self.words.is_full
-            || self.imports.is_full
-            || self.cited.is_full
             || self.uses.is_full
             || self.libraries.is_full
-            || self.crates.is_full
+            || self.cited.is_full
+            || self.words.is_full
+    }
+}
+
+/// The words that an import cites of these definitions, if it cites them.
+fn own_words<'l>(path: &'l str, here: &str) -> Option<&'l str> {
+    Some(before(path.strip_prefix(here)?.strip_prefix(".{")?, '}'))
+}
+
+/// What a text has after a character.
+fn after(text: &str, start: char) -> &str {
+    match text.split_once(start) {
+        Some((_, rest)) => rest,
+        None => "",
     }
 }
 
 /// The text of the crate's root.
-pub fn root_text(book: &Book<'_>, sheets: &[Sheet<'_>], schema: &str) -> Out {
-    let mut text = Out::of(
-        book.alloc,
-        "//! The types of $0, made by capnpc_rattle.\n#![tactic(auto)]\n\n",
-        &[Arg::Text(schema)],
-    );
-    let mut exports = Out::new(book.alloc);
-    for sheet in sheets {
-        text.fill("mod $0;\n", &[Arg::Text(sheet.module)]);
-        exports.put(sheet.exports.as_str());
+pub fn root_text(book: &Book<'_>, pages: &[Page<'_>], schema: &str) -> Out {
+    let (mut text, mut exports) = (Out::new(book.alloc), Out::new(book.alloc));
+    text.all(&[
+        "//! The types of ",
+        schema,
+        ", made by capnpc_rattle.\n#![tactic(auto)]\n\n",
+    ]);
+    for page in pages {
+        text.all(&["mod ", page.module, ";\n"]);
+        exports.put(page.exports.as_str());
     }
     text.push('\n');
     text.put_sorted(exports.as_str(), ("pub use ", ";\n"));
+    drop(exports);
     text
 }
 
 /// The text of the root of the crate's definitions.
-pub fn specs_root(book: &Book<'_>, sheets: &[Sheet<'_>]) -> Out {
+pub fn specs_root(book: &Book<'_>, pages: &[Page<'_>]) -> Out {
     let mut text = Out::new(book.alloc);
-    for sheet in sheets {
-        if !sheet.specs.is_empty() {
-            text.fill("pub mod $0\n", &[Arg::Module(sheet.module)]);
+    for page in pages {
+        if !page.specs.is_empty() {
+            text.put("pub mod ");
+            text.spell(page.module, "module");
+            text.put("\n");
         }
     }
     text
 }
 
 /// The line that names the crate and the libraries that it stands on.
-pub fn line_of(book: &Book<'_>, sheets: &[Sheet<'_>], krate: &str) -> Out {
-    let mut line = Out::of(
-        book.alloc,
-        "$0: cp_words cp_tree cp_fields",
-        &[Arg::Text(krate)],
-    );
-    let mut crates = Out::new(book.alloc);
+pub fn line_of(book: &Book<'_>, pages: &[Page<'_>], krate: &str) -> Out {
+    let (mut line, mut crates) = (Out::new(book.alloc), Out::new(book.alloc));
     if book.scope.drafts {
         crates.put("cp_builder\n");
     }
@@ -174,19 +358,26 @@ pub fn line_of(book: &Book<'_>, sheets: &[Sheet<'_>], krate: &str) -> Out {
     if book.scope.services {
         crates.put(SERVICES);
     }
-    for sheet in sheets {
-        crates.put(sheet.crates.as_str());
+    for page in pages {
+        for path in page.libraries.as_str().lines() {
+            let krate = before(path, ':');
+            if !has_word(ALWAYS, krate) {
+                crates.all(&[krate, "\n"]);
+            }
+        }
     }
+    line.all(&[krate, ": cp_words cp_tree cp_fields"]);
     line.put_sorted(crates.as_str(), (" ", ""));
     line.put("\n");
+    drop(crates);
     line
 }
 
 /// A name that two types have, but for its case.
-pub fn name_twice<'s>(sheets: &'s [Sheet<'_>]) -> Option<&'s str> {
-    for sheet in sheets {
-        for line in sheet.exports.as_str().lines() {
-            if count_of(sheets, name_of(line)) > 1 {
+pub fn name_twice<'s>(pages: &'s [Page<'_>]) -> Option<&'s str> {
+    for page in pages {
+        for line in page.exports.as_str().lines() {
+            if count_of(pages, name_of(line)) > 1 {
                 return Some(name_of(line));
             }
         }
@@ -195,10 +386,10 @@ pub fn name_twice<'s>(sheets: &'s [Sheet<'_>]) -> Option<&'s str> {
 }
 
 /// The number of types of a name, but for its case.
-fn count_of(sheets: &[Sheet<'_>], name: &str) -> u64 {
+fn count_of(pages: &[Page<'_>], name: &str) -> u64 {
     let mut count = 0_u64;
-    for sheet in sheets {
-        for line in sheet.exports.as_str().lines() {
+    for page in pages {
+        for line in page.exports.as_str().lines() {
             if name_of(line).eq_ignore_ascii_case(name) {
                 count = count.saturating_add(1);
             }

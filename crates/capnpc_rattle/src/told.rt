@@ -3,7 +3,7 @@
 use crate::book::Scope;
 use crate::names::is_reserved;
 use crate::only::has_method;
-use crate::out::{Arg, Out};
+use crate::out::Out;
 use cp_schema::{Node, NodeKind, Schema};
 use std::io;
 
@@ -46,7 +46,7 @@ fn tell_members(rt: &HostRuntime, node: &Node, scope: Scope<'_>) -> io::Result<(
 
 /// Says what a member is called, if its name is reserved.
 fn tell_name(rt: &HostRuntime, node: &Node, name: &str) -> io::Result<()> {
-    let word = Out::of(rt.alloc(), "$0", &[Arg::Snake(name)]);
+    let word = Out::spelled(rt.alloc(), name, "snake");
     if is_reserved(word.as_str()) {
         let (scope, word) = (node.name(), word.as_str());
         eprintln!(rt;

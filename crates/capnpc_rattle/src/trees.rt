@@ -1,158 +1,117 @@
-//! Trees as constants of code, and as definitions have them.
+//! Trees: constants, and what pointers are by default.
 
-use crate::out::{ARRAY, Arg, LIST, Listing, Out};
+use crate::model::Model;
 use cp_tree::{Body, Tree};
 
-/// Adds a tree as a constant of the type `Constant`.
-#[cycle(put)]
-pub fn put_tree(out: &mut Out, tree: &Tree) {
-    match tree {
+/// Adds a tree.
+#[cycle(trees)]
+pub fn tree(model: &mut Model<'_>, key: &'static str, of: &Tree) {
+    model.record(key);
+    match of {
         // A default names no capability.
-        Tree::Null | Tree::Cap(_) => out.put("Constant::Null"),
-        Tree::Struct(body) => {
-            out.put("Constant::Struct(");
-            put_body(out, body);
-            out.put(")");
+        Tree::Null | Tree::Cap(_) => {
+            model.text("node", "null");
+            model.number("leaf", 1);
+        }
+        Tree::Struct(of) => {
+            model.text("node", "struct");
+            body(model, of);
         }
         Tree::Ptrs(items) => {
-            out.put("Constant::Ptrs(");
-            put_row(out, items);
-            out.put(")");
+            model.text("node", "ptrs");
+            row(model, items);
         }
         Tree::Structs { words, ptrs, items } => {
-            let args = [Arg::Number(*words as u64), Arg::Number(*ptrs as u64)];
-            out.fill("Constant::Structs { words: $0, ptrs: $1, items: &[", &args);
-            for body in items {
-                put_body(out, body);
-                out.put(", ");
-            }
-            out.put("] }");
+            model.text("node", "structs");
+            model.numbers(&[("words", *words as u64), ("ptrs", *ptrs as u64)]);
+            bodies(model, items);
         }
         Tree::Voids(count) => {
-            out.fill(
-                "Constant::List(ListRef::Voids($0))",
-                &[Arg::Number(*count as u64)],
-            );
+            model.text("node", "voids");
+            model.number("count", *count as u64);
         }
-        _ => {
-            out.fill("Constant::List(ListRef::$0(", &[Arg::Text(kind_of(tree))]);
-            put_items(out, tree, ARRAY);
-            out.put("))");
+        _ => list(model, of),
+    }
+    model.close();
+}
+
+/// Adds the elements of a composite list.
+#[cycle(trees)]
+fn bodies(model: &mut Model<'_>, items: &[Body]) {
+    model.list("bodies");
+    for item in items {
+        model.record("");
+        body(model, item);
+        model.close();
+    }
+    model.close();
+}
+
+/// Adds the words and the pointers of a struct.
+#[cycle(trees)]
+fn body(model: &mut Model<'_>, of: &Body) {
+    numbers(model, of.words.as_slice());
+    row(model, of.ptrs.as_slice());
+}
+
+/// Adds trees one after another.
+#[cycle(trees)]
+fn row(model: &mut Model<'_>, trees: &[Tree]) {
+    model.list("trees");
+    for each in trees {
+        tree(model, "", each);
+    }
+    model.close();
+}
+
+/// Adds a list without pointers: its variant in code, its constructor in definitions, and its elements.
+fn list(model: &mut Model<'_>, of: &Tree) {
+    model.text("node", "list");
+    match of {
+        Tree::Bits(items) => {
+            kind(model, "Bits", "bits");
+            bits(model, items);
         }
-    }
-}
-
-/// Adds a struct.
-#[cycle(put)]
-fn put_body(out: &mut Out, body: &Body) {
-    out.put("ConstantBody { words: ");
-    out.items(&body.words, ARRAY);
-    out.put(", ptrs: ");
-    put_row(out, &body.ptrs);
-    out.put(" }");
-}
-
-/// Adds an array of trees.
-#[cycle(put)]
-fn put_row(out: &mut Out, trees: &[Tree]) {
-    out.put("&[");
-    for tree in trees {
-        put_tree(out, tree);
-        out.put(", ");
-    }
-    out.put("]");
-}
-
-/// The variant of a list without pointers in code.
-fn kind_of(tree: &Tree) -> &'static str {
-    match tree {
-        Tree::Bits(_) => "Bits",
-        Tree::Bytes(_) => "Bytes",
-        Tree::Halves(_) => "TwoBytes",
-        Tree::Quads(_) => "FourBytes",
-        _ => "Words",
-    }
-}
-
-/// Adds the elements of a list without pointers.
-fn put_items(out: &mut Out, tree: &Tree, form: Listing) {
-    match tree {
-        Tree::Bits(bits) => out.items(bits, form),
-        Tree::Bytes(numbers) => out.items(numbers, form),
-        Tree::Halves(numbers) => out.items(numbers, form),
-        Tree::Quads(numbers) => out.items(numbers, form),
-        Tree::Words(numbers) => out.items(numbers, form),
+        Tree::Bytes(items) => {
+            kind(model, "Bytes", "bytes");
+            numbers(model, items);
+        }
+        Tree::Halves(items) => {
+            kind(model, "TwoBytes", "halves");
+            numbers(model, items);
+        }
+        Tree::Quads(items) => {
+            kind(model, "FourBytes", "quads");
+            numbers(model, items);
+        }
+        Tree::Words(items) => {
+            kind(model, "Words", "words");
+            numbers(model, items);
+        }
         _ => {}
     }
 }
 
-/// Adds a tree as definitions have it.
-#[cycle(define)]
-pub fn define_tree(out: &mut Out, tree: &Tree) {
-    match tree {
-        Tree::Null | Tree::Cap(_) => out.put("trees.null"),
-        Tree::Struct(body) => {
-            out.put("trees.struct ");
-            define_body(out, body);
-        }
-        Tree::Ptrs(items) => {
-            out.put("trees.ptrs ");
-            define_row(out, items);
-        }
-        Tree::Structs { words, ptrs, items } => {
-            let args = [Arg::Number(*words as u64), Arg::Number(*ptrs as u64)];
-            out.fill("trees.structs $0 $1 ", &args);
-            for body in items {
-                out.put("(trees.body ");
-                define_body(out, body);
-                out.put(" ");
-            }
-            out.put("trees.no_bodies");
-            out.close(items.len());
-        }
-        Tree::Voids(count) => {
-            out.fill("trees.list (trees.voids $0)", &[Arg::Number(*count as u64)]);
-        }
-        _ => {
-            out.fill("trees.list (trees.$0 ", &[Arg::Text(definition_of(tree))]);
-            put_items(out, tree, LIST);
-            out.put(")");
-        }
-    }
+fn kind<'m>(model: &mut Model<'m>, variant: &'m str, elements: &'m str) {
+    model.texts(&[("variant", variant), ("elements", elements)]);
 }
 
-/// The constructor of a list without pointers in definitions.
-fn definition_of(tree: &Tree) -> &'static str {
-    match tree {
-        Tree::Bits(_) => "bits",
-        Tree::Bytes(_) => "bytes",
-        Tree::Halves(_) => "halves",
-        Tree::Quads(_) => "quads",
-        _ => "words",
+fn bits(model: &mut Model<'_>, items: &[bool]) {
+    model.list("numbers");
+    for item in items {
+        model.record("");
+        model.text("n", if *item { "true" } else { "false" });
+        model.close();
     }
+    model.close();
 }
 
-/// Adds the words and the pointers of a struct.
-#[cycle(define)]
-fn define_body(out: &mut Out, body: &Body) {
-    out.items(&body.words, LIST);
-    out.put(" ");
-    define_row(out, &body.ptrs);
-}
-
-/// Adds trees one after another.
-#[cycle(define)]
-fn define_row(out: &mut Out, trees: &[Tree]) {
-    for tree in trees {
-        let is_word = matches!(tree, Tree::Null | Tree::Cap(_));
-        out.put(if is_word {
-            "(trees.node "
-        } else {
-            "(trees.node ("
-        });
-        define_tree(out, tree);
-        out.put(if is_word { " " } else { ") " });
+fn numbers<T: Copy + Into<u64>>(model: &mut Model<'_>, items: &[T]) {
+    model.list("numbers");
+    for item in items {
+        model.record("");
+        model.number("n", (*item).into());
+        model.close();
     }
-    out.put("trees.no_nodes");
-    out.close(trees.len());
+    model.close();
 }

@@ -1,22 +1,24 @@
 //! Names that a module would have twice, for which nothing is written.
 
-use crate::out::{Arg, Out, before, name_of};
-use crate::sheet::Sheet;
+use crate::out::{Out, before, name_of};
+use crate::pages::Page;
 
 /// What ends a type, its methods, or a function.
 const END: &str = "\n}\n";
 
 /// A name that a module would have twice: a method's, a function's, or that of a type which it imports.
-pub fn found_twice(sheet: &Sheet<'_>) -> Option<Out> {
-    let mut paths = Out::new(sheet.alloc);
-    paths.put_sorted(sheet.uses.as_str(), ("", "\n"));
-    paths.put_sorted(sheet.libraries.as_str(), ("", "\n"));
-    let code = sheet.code.as_str();
+pub fn found_twice(page: &Page<'_>) -> Option<Out> {
+    let mut paths = Out::new(page.code.alloc);
+    paths.put_sorted(page.uses.as_str(), ("", "\n"));
+    paths.put_sorted(page.libraries.as_str(), ("", "\n"));
+    let code = page.code.as_str();
     let name = match (twice(code, ""), method_twice(code)) {
         (Some(name), _) | (None, Some(name)) => name,
-        (None, None) => path_twice(paths.as_str(), sheet.exports.as_str())?,
+        (None, None) => path_twice(paths.as_str(), page.exports.as_str())?,
     };
-    Some(Out::of(sheet.alloc, "$0", &[Arg::Text(name)]))
+    let name = Out::spelled(page.code.alloc, name, "");
+    drop(paths);
+    Some(name)
 }
 
 /// The name of a function that a line begins with, after these blanks.

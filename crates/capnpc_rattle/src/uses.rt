@@ -1,79 +1,24 @@
 //! The imports of generated code and definitions: of each name that the text has, and of no other.
 
-use crate::out::{Arg, Out, name_of};
-use crate::sheet::Sheet;
+use crate::out::{Out, name_of};
 
-/// A module, and the words that it has for clauses or definitions.
-type Module = (&'static str, &'static [&'static str]);
-
-/// The words of the libraries that generated text cites.
-const LIBRARY: [Module; 14] = [
-    (
-        "std.specs.Int",
-        &["cast_signed", "cast_unsigned", "w16", "w32", "w64", "w8"],
-    ),
-    ("std.specs.Float", &["binary32", "binary64"]),
-    ("cp_tree.specs.Seen", &["pointee_of"]),
-    ("cp_fields.specs.Constants", &["constant_of"]),
-    ("cp_fields.specs.Numbers", &["flag", "plain", "uint"]),
-    (
-        "cp_fields.specs.Pointers",
-        &[
-            "Reads",
-            "cap_field",
-            "data_field",
-            "held",
-            "list_field",
-            "or_default",
-            "struct_field",
-            "text_field",
-        ],
-    ),
-    (WRONG_KIND, &["WrongKind"]),
-    ("cp_builder.specs.Numbers", &["flag_bit"]),
-    (
-        "cp_builder.specs.declared.fault.DraftFault.TheVariants",
-        &["TooLong"],
-    ),
-    (
-        "cp_builder.specs.Drafts",
-        &[
-            "HoldsOneMore",
-            "bits_tree",
-            "blank",
-            "blank_list",
-            "bytes_tree",
-            "cap_tree",
-            "halves_tree",
-            "quads_tree",
-            "text_tree",
-            "with_last",
-            "with_pointer",
-            "with_uint",
-            "words_tree",
-        ],
-    ),
-    (
-        "cp_servants.specs.Naming",
-        &["pointer_naming", "with_named"],
-    ),
-    ("cp_stubs.specs.Calls", &["Makes", "ask_of", "request_of"]),
-    (
-        "cp_stubs.specs.Dispatch",
-        &[
-            "Anything",
-            "Gives",
-            "IsElsewhere",
-            "Method",
-            "Passes",
-            "Refuses",
-        ],
-    ),
-    (
-        "cp_stubs.specs.Promises",
-        &["Finds", "along", "promised_cap"],
-    ),
-];
+/// The modules of the libraries that generated text cites, each with its words.
+const LIBRARY: &str = "\
+std.specs.Int cast_signed cast_unsigned w16 w32 w64 w8
+std.specs.Float binary32 binary64
+cp_tree.specs.Seen pointee_of
+cp_fields.specs.Constants constant_of
+cp_fields.specs.Numbers flag plain uint
+cp_fields.specs.Pointers Reads cap_field data_field held list_field or_default struct_field text_field
+cp_fields.specs.declared.kind.WrongKind WrongKind
+cp_builder.specs.Numbers flag_bit
+cp_builder.specs.declared.fault.DraftFault.TheVariants TooLong
+cp_builder.specs.Drafts HoldsOneMore bits_tree blank blank_list bytes_tree cap_tree halves_tree quads_tree text_tree with_last with_pointer with_uint words_tree
+cp_servants.specs.Naming pointer_naming with_named
+cp_stubs.specs.Calls Makes ask_of request_of
+cp_stubs.specs.Dispatch Anything Gives IsElsewhere Method Passes Refuses
+cp_stubs.specs.Promises Finds along promised_cap
+";
 
 /// Where definitions have the kinds that a pointer may be of from.
 const WRONG_KIND: &str = "cp_fields.specs.declared.kind.WrongKind";
@@ -147,38 +92,43 @@ const SIZES: &str = "Rattle.cp_words.specs.declared.pointer.ElementSize.TheVaria
 
 /// Whether a text has a word, comments aside.
 fn has_word(text: &str, word: &str) -> bool {
+    // Objects that may make others have a type of this name.
+    if word == "Makes" {
+        return has_part(text, &["{ Makes ("]);
+    }
     for line in text.lines() {
-        // A word in a comment needs no import.
-        if !is_comment(line) && line_has(line, word) {
+        if !is_comment(line) && line.contains(word) && has_between(line, word) {
             return true;
         }
     }
     false
 }
 
-/// Whether a text has a word of a definition, comments aside. Objects that may make others have a type `Makes`.
-fn has_definition(text: &str, word: &str) -> bool {
-    if word == "Makes" {
-        return has_part(text, &["{ Makes ("]);
+/// Whether a line has a word: letters, digits and underscores, with none of these beside them.
+fn has_between(line: &str, word: &str) -> bool {
+    for part in line.split(is_between) {
+        if part == word {
+            return true;
+        }
     }
-    has_word(text, word)
+    false
+}
+
+/// Whether a character is no part of a word.
+pub fn is_between(c: char) -> bool {
+    !c.is_ascii_alphanumeric() && c != '_'
 }
 
 /// Whether a text has one of these parts, comments aside.
 fn has_part(text: &str, parts: &[&str]) -> bool {
     for line in text.lines() {
-        if !is_comment(line) && line_has_part(line, parts) {
-            return true;
-        }
-    }
-    false
-}
-
-/// Whether a line has one of these parts.
-fn line_has_part(line: &str, parts: &[&str]) -> bool {
-    for part in parts {
-        if line.contains(part) {
-            return true;
+        // What is in a comment needs no import.
+        if !is_comment(line) {
+            for part in parts {
+                if line.contains(part) {
+                    return true;
+                }
+            }
         }
     }
     false
@@ -190,147 +140,91 @@ fn is_comment(line: &str) -> bool {
     line.starts_with("///") || line.starts_with("--")
 }
 
-/// Whether a line has a word: letters, digits and underscores, with none of these beside them.
-fn line_has(line: &str, word: &str) -> bool {
-    if !line.contains(word) {
-        return false;
+/// Adds a word to a list of words.
+pub fn list(words: &mut Out, word: &str) {
+    if !words.is_empty() {
+        words.put(", ");
     }
-    for part in line.split(is_between) {
-        if part == word {
-            return true;
-        }
-    }
-    false
+    words.put(word);
 }
 
-/// Whether a character is no part of a word.
-fn is_between(c: char) -> bool {
-    !c.is_ascii_alphanumeric() && c != '_'
-}
-
-/// Adds a word of a module to a line that imports words of it, which the first one begins.
-fn add<'n>(out: &mut Out, (before, module): (&'n str, &'n str), word: &'n str, is_begun: bool) {
-    let args = [Arg::Text(before), Arg::Text(module), Arg::Text(word)];
-    out.fill(if is_begun { ", $2" } else { "$0Rattle.$1.{$2" }, &args);
-}
-
-/// Ends such a line, if it was begun.
-fn end(out: &mut Out, after: &str, is_begun: bool) {
-    if is_begun {
+/// Adds the import of these words of a module, if there are some, between these texts.
+fn import(out: &mut Out, module: &str, words: Out, (before, after): (&str, &str)) {
+    if !words.is_empty() {
+        out.put(before);
+        out.all(&["Rattle.", module, ".{"]);
+        out.put(words.as_str());
         out.put("}");
         out.put(after);
     }
+    drop(words);
 }
 
-/// Adds what a text imports of the prelude, with this beginning and this end.
-fn prelude<'n>(out: &mut Out, text: &str, (before, after): (&'n str, &'n str)) {
-    let mut is_begun = false;
+/// Adds what a text imports of the libraries, but for one module, between these texts. What doesn't stand on cp_stubs imports nothing
+/// of it.
+fn libraries(out: &mut Out, text: &str, around: (&str, &str), skipped: &str, has_stubs: bool) {
+    let mut found = Out::new(out.alloc);
     for (word, parts) in &PRELUDE {
         if has_part(text, parts) {
-            add(out, (before, "std.specs.Prelude"), word, is_begun);
-            is_begun = true;
+            list(&mut found, word);
         }
     }
-    end(out, after, is_begun);
-}
-
-/// Adds what a text imports of a module.
-fn of_module<'n>(
-    out: &mut Out,
-    text: &str,
-    (module, words): (&'n str, &[&'n str]),
-    (before, after): (&'n str, &'n str),
-) {
-    let mut is_begun = false;
-    for word in words {
-        if has_definition(text, word) {
-            add(out, (before, module), word, is_begun);
-            is_begun = true;
-        }
-    }
-    end(out, after, is_begun);
-}
-
-/// Adds what a text imports of the libraries, but for one module.
-fn libraries<'n>(
-    sheet: &Sheet<'_>,
-    out: &mut Out,
-    text: &str,
-    (before, after): (&'n str, &'n str),
-    skipped: &str,
-) {
-    prelude(out, text, (before, after));
+    import(out, "std.specs.Prelude", found, around);
     if has_word(text, "sizes") {
-        out.put_between(&[SIZES], (before, after));
+        out.put(around.0);
+        out.put(SIZES);
+        out.put(around.1);
     }
-    let has_stubs = sheet.libraries.as_str().contains("cp_stubs::");
-    for (module, words) in &LIBRARY {
-        if !is_left_out(module, skipped, has_stubs) {
-            of_module(out, text, (module, words), (before, after));
+    for line in LIBRARY.lines() {
+        let (module, words) = line.split_once(' ').unwrap_or((line, ""));
+        if module != skipped && (has_stubs || !module.starts_with("cp_stubs.")) {
+            import(out, module, words_in(out, text, words), around);
         }
     }
 }
 
-/// Whether nothing of a module is imported: of this one, and of cp_stubs by what doesn't stand on it.
-fn is_left_out(module: &str, skipped: &str, has_stubs: bool) -> bool {
-    module == skipped || !has_stubs && module.starts_with("cp_stubs.")
+/// Those of the words, with spaces between, that a text has.
+fn words_in(out: &Out, text: &str, words: &str) -> Out {
+    let mut found = Out::new(out.alloc);
+    for word in words.split(' ') {
+        if has_word(text, word) {
+            list(&mut found, word);
+        }
+    }
+    found
 }
 
-/// Adds the imports of a module's definitions.
-pub fn of_specs(sheet: &Sheet<'_>, out: &mut Out) {
-    let text = sheet.specs.as_str();
-    libraries(sheet, out, text, ("use ", "\n"), "");
+/// Adds what definitions import of the libraries.
+pub fn of_definitions(out: &mut Out, text: &str, has_stubs: bool) {
+    libraries(out, text, ("use ", "\n"), "", has_stubs);
     if has_word(text, "Tree") {
         out.put("use Rattle.cp_tree.specs.Node.{Node as Tree}\n");
     }
-    out.put_sorted(sheet.imports.as_str(), ("", "\n"));
 }
 
-/// Adds the imports of a module's clauses.
-pub fn of_clauses(sheet: &Sheet<'_>, out: &mut Out) {
-    let text = sheet.code.as_str();
-    libraries(sheet, out, text, ("ghost use ", ";\n"), WRONG_KIND);
-    out.put_sorted(sheet.cited.as_str(), ("", "\n"));
-    if !sheet.words.is_empty() {
-        let args = [
-            Arg::Text(sheet.krate),
-            Arg::Module(sheet.module),
-            Arg::Text(sheet.words.as_str()),
-        ];
-        out.fill("ghost use Rattle.$0.specs.$1.{$2};\n", &args);
-    }
-    out.put("\n");
+/// Adds what clauses import of the libraries.
+pub fn of_clauses(out: &mut Out, text: &str, has_stubs: bool) {
+    libraries(out, text, ("ghost use ", ";\n"), WRONG_KIND, has_stubs);
 }
 
-/// Adds the imports of a module's code.
-pub fn of_code(sheet: &Sheet<'_>, out: &mut Out) {
-    let text = sheet.code.as_str();
-    let mut paths = Out::new(sheet.alloc);
-    paths.put(sheet.uses.as_str());
-    paths.put(sheet.libraries.as_str());
-    put_fields(&mut paths, text);
-    if text.contains("Constant<'static>") {
-        put_used(&mut paths, text, &CONSTANTS);
-    }
-    put_used(&mut paths, text, &DRAFTS);
-    out.put_sorted(paths.as_str(), ("use ", ";\n"));
-}
-
-/// Adds the paths of those types of cp_fields that a text has, a line each.
-fn put_fields(out: &mut Out, text: &str) {
+/// Adds the paths of the types of libraries that code has, a line each.
+pub fn paths(out: &mut Out, text: &str) {
     for (name, parts) in &FIELDS {
         if has_part(text, parts) {
-            out.fill("cp_fields::$0\n", &[Arg::Text(name)]);
+            out.all(&["cp_fields::", name, "\n"]);
         }
     }
+    if text.contains("Constant<'static>") {
+        used(out, text, &CONSTANTS);
+    }
+    used(out, text, &DRAFTS);
 }
 
 /// Adds those of the paths whose names a text has, a line each.
-fn put_used(out: &mut Out, text: &str, paths: &[&str]) {
+fn used(out: &mut Out, text: &str, paths: &[&str]) {
     for path in paths {
         if has_word(text, name_of(path)) {
-            out.put(path);
-            out.put("\n");
+            out.all(&[path, "\n"]);
         }
     }
 }

@@ -1,0 +1,401 @@
+//! The fields of structs, as templates have them.
+
+use crate::book::{Book, Named, has_name};
+use crate::model::Model;
+use crate::names::has_word;
+use crate::out::Out;
+use crate::reach::Naming;
+use crate::trees::tree;
+use crate::types::{base_of, can_fail, elements_of, setting_of, size_of};
+use cp_schema::{Base, FieldKind, Node, NodeKind, SchemaValue, Slot, StructField, Structure};
+
+/// The deepest that groups may lie within one another.
+pub const DEEPEST: u32 = 64;
+
+/// The most arguments that a method has.
+const MOST: usize = 4;
+
+/// What the code around arguments calls its own.
+const OURS: &str = "alloc ask caller d made mark params request table";
+
+/// Adds a node's names, and where a module finds it.
+pub fn named<'m>(model: &mut Model<'m>, book: &'m Book<'_>, key: &'static str, of: &'m Named) {
+    model.record(key);
+    names(model, book, of);
+    model.close();
+}
+
+/// Adds these names to a record.
+pub fn names<'m>(model: &mut Model<'m>, book: &'m Book<'_>, of: &'m Named) {
+    let (title, is_struct) = match book.schema.find(of.id) {
+        Some(node) => (node.name(), matches!(node.kind, NodeKind::Struct(_))),
+        None => ("", false),
+    };
+    model.texts(&[
+        ("Type", of.name.as_str()),
+        ("word", of.word.as_str()),
+        ("krate", of.krate.as_str()),
+        ("module", of.module.as_str()),
+        ("title", title),
+    ]);
+    model.numbers(&[
+        ("id", of.id),
+        ("struct", is_struct as u64),
+        ("elsewhere", is_elsewhere(model, of) as u64),
+    ]);
+    let (krate, module) = model.page;
+    if of.krate.as_str() != krate {
+        model.own("from", &[of.krate.as_str(), "::"]);
+    } else if of.module.as_str() != module {
+        model.own("from", &["crate::", of.module.as_str(), "::"]);
+    } else {
+        model.text("from", "self::");
+    }
+}
+
+/// Whether a node is in another module.
+fn is_elsewhere(model: &Model<'_>, of: &Named) -> bool {
+    let (krate, module) = model.page;
+    of.krate.as_str() != krate || of.module.as_str() != module
+}
+
+/// A struct or a group, whose field this is.
+#[derive(Clone, Copy)]
+pub struct Part<'m> {
+    pub node: &'m Node,
+    pub of: &'m Structure,
+    /// Its word in definitions.
+    pub word: &'m str,
+}
+
+/// Adds what is said of a field of any kind.
+pub fn field<'m>(
+    model: &mut Model<'m>,
+    book: &'m Book<'_>,
+    part: &Part<'m>,
+    i: usize,
+    of: &'m StructField,
+) {
+    model.texts(&[
+        ("name", of.name.as_str()),
+        ("about", book.about_member(part.node.id, i)),
+    ]);
+    model.numbers(&[
+        ("ordinal", of.ordinal as u64),
+        ("member", of.is_member() as u64),
+        ("tag", of.tag as u64),
+        ("tag_place", part.of.tag_place as u64),
+    ]);
+}
+
+/// Adds what is said of a field that is no group, as it is read.
+pub fn slot<'m>(
+    model: &mut Model<'m>,
+    book: &'m Book<'_>,
+    part: &Part<'m>,
+    field: &'m StructField,
+    slot: &'m Slot,
+) {
+    let (base, width) = base_of(slot.of.of);
+    let shape = if slot.of.lists > 0 { "list" } else { base };
+    let has_default = slot.points || slot.of.lists == 0 && slot.default != 0;
+    model.texts(&[("base", base), ("shape", shape), ("size", size_of(slot.of))]);
+    model.own("form", &[shape, if has_default { "_or" } else { "" }]);
+    model.numbers(&[
+        ("width", width as u64),
+        ("place", slot.place as u64),
+        ("inner", slot.of.lists.saturating_sub(1) as u64),
+        ("fails", can_fail(slot.of) as u64),
+        ("reads", (shape == "struct") as u64),
+    ]);
+    type_of(model, book, part, field, slot);
+    default(model, part, field, slot);
+}
+
+/// Adds the node of a field's type, and its interface.
+fn type_of<'m>(
+    model: &mut Model<'m>,
+    book: &'m Book<'_>,
+    part: &Part<'m>,
+    field: &'m StructField,
+    slot: &'m Slot,
+) {
+    let mut values = false;
+    if let Base::Enum(id) | Base::Struct(id) = slot.of.of {
+        match book.find(id) {
+            Some(of) => {
+                named(model, book, "of", of);
+                values = matches!(slot.of.of, Base::Enum(_))
+                    && slot.of.lists == 0
+                    && is_elsewhere(model, of);
+            }
+            None => model.refuse(
+                part.node.name(),
+                field.name.as_str(),
+                "the request has no node of its type",
+            ),
+        }
+    }
+    model.number("values", values as u64);
+    if let Some(of) = client_of(book, slot) {
+        named(model, book, "client", of);
+    }
+}
+
+/// Adds what a field is by default.
+fn default<'m>(model: &mut Model<'m>, part: &Part<'m>, field: &'m StructField, slot: &'m Slot) {
+    match &field.default {
+        SchemaValue::Text(text) => model.text("literal", text.as_str()),
+        SchemaValue::Data(bytes) => model.bytes("literal", bytes.as_slice()),
+        SchemaValue::Tree(of) if slot.points => {
+            let name = Out::spelled(model.alloc, field.name.as_str(), "snake");
+            model.own("default", &[part.word, "_", name.as_str(), "_default"]);
+            drop(name);
+            tree(model, "tree", of);
+            return;
+        }
+        _ => {}
+    }
+    model.number("default", slot.default);
+}
+
+/// The interface of a field that is a capability, where interfaces are written.
+pub fn client_of<'b>(book: &'b Book<'_>, slot: &Slot) -> Option<&'b Named> {
+    match slot.of.of {
+        Base::Interface(id) if book.scope.interfaces && slot.of.lists == 0 => book.find(id),
+        _ => None,
+    }
+}
+
+/// Adds how a field is set.
+fn setting<'m>(model: &mut Model<'m>, book: &'m Book<'_>, slot: &'m Slot, is_member: bool) {
+    let of = setting_of(slot, book.scope.services);
+    let (base, width) = base_of(slot.of.of);
+    let (elements, maker) = elements_of(width);
+    let has_default = !of.points && slot.default != 0;
+    model.own("form", &[of.form, if has_default { "_or" } else { "" }]);
+    model.texts(&[
+        ("base", base),
+        ("kind", of.kind),
+        ("elements", elements),
+        ("maker", maker),
+    ]);
+    // Builders name a capability by its client alone.
+    let is_set = client_of(book, slot).is_none() || !book.scope.services;
+    model.numbers(&[
+        ("width", width as u64),
+        ("place", slot.place as u64),
+        ("default", slot.default),
+        ("depth", slot.of.lists.saturating_sub(1) as u64),
+        ("points", of.points as u64),
+        ("fails", of.fails as u64),
+        ("copied", (of.kind == "copied") as u64),
+        ("first", (of.fails && is_member) as u64),
+        ("set", is_set as u64),
+    ]);
+}
+
+/// Adds the fields of a struct with those of its groups, as they are set and promised.
+#[cycle(parts)]
+pub fn parts<'m>(
+    model: &mut Model<'m>,
+    book: &'m Book<'_>,
+    part: &Part<'m>,
+    prefix: &str,
+    depth: u32,
+) {
+    for (i, of) in part.of.fields.iter().enumerate() {
+        let name = Out::spelled(model.alloc, of.name.as_str(), "snake");
+        model.record("");
+        model.own("joined", &[prefix, name.as_str()]);
+        field(model, book, part, i, of);
+        setter(model, book, part, of);
+        model.close();
+        if let FieldKind::Group(id) = &of.kind {
+            group(model, book, (*id, name.as_str()), prefix, depth);
+        }
+        drop(name);
+    }
+}
+
+/// Adds the fields of a group. It has no builder of its own, since its fields lie in the struct.
+#[cycle(parts)]
+fn group<'m>(
+    model: &mut Model<'m>,
+    book: &'m Book<'_>,
+    (id, name): (u64, &str),
+    prefix: &str,
+    depth: u32,
+) {
+    let Some(node) = book.schema.find(id) else {
+        return;
+    };
+    let NodeKind::Struct(of) = &node.kind else {
+        return;
+    };
+    // In a wrong request a group could lie in itself.
+    if depth == 0 {
+        model.refuse(node.name(), "", "its groups are too deep");
+        return;
+    }
+    let mut inner = Out::new(model.alloc);
+    inner.all(&[prefix, name, "_"]);
+    let part = Part { node, of, word: "" };
+    parts(model, book, &part, inner.as_str(), depth - 1);
+    drop(inner);
+}
+
+/// Adds how a field is set and what it is promised as. A group is set if it is a member of a union, and so is a field without bits.
+fn setter<'m>(model: &mut Model<'m>, book: &'m Book<'_>, part: &Part<'m>, of: &'m StructField) {
+    match &of.kind {
+        FieldKind::Slot(at) if !is_void(&of.kind) => {
+            model.text("setter", "field");
+            setting(model, book, at, of.is_member());
+            type_of(model, book, part, of, at);
+            promised(model, book, at);
+        }
+        FieldKind::Slot(_) | FieldKind::Group(_) if of.is_member() => model.text(
+            "setter", "member",
+        ),
+        _ => model.text("setter", ""),
+    }
+}
+
+/// Adds what a field will be, if it is a struct or a capability.
+fn promised<'m>(model: &mut Model<'m>, book: &'m Book<'_>, slot: &'m Slot) {
+    let (id, ending) = match slot.of.of {
+        Base::Struct(id) => (id, "Promise"),
+        Base::Interface(id) => (id, "Client"),
+        _ => return,
+    };
+    if let (0, Some(of)) = (slot.of.lists, book.find(id)) {
+        model.record("promised");
+        names(model, book, of);
+        model.text("ending", ending);
+        model.close();
+    }
+}
+
+/// Whether a field has no bits.
+pub fn is_void(kind: &FieldKind) -> bool {
+    match kind {
+        FieldKind::Slot(slot) => slot.of.lists == 0 && matches!(slot.of.of, Base::Void),
+        FieldKind::Group(_) | FieldKind::Unknown => false,
+    }
+}
+
+/// Adds the params that are numbers, texts and capabilities, if objects may make others: methods are called with these, in place of
+/// a builder.
+pub fn plain<'m>(model: &mut Model<'m>, book: &'m Book<'_>, id: u64) {
+    let Some(node) = book.schema.find(id) else {
+        return;
+    };
+    match &node.kind {
+        NodeKind::Struct(of) if book.scope.services && !has_name(node) && is_plain(book, of) => {
+            let part = Part { node, of, word: "" };
+            model.record("plain");
+            model.numbers(&[("words", of.words as u64), ("pointers", of.pointers as u64)]);
+            wraps(model, of);
+            arguments(model, book, &part);
+            clients(model, book, &part, ("clients", of.fields.len()));
+            model.close();
+        }
+        _ => {}
+    }
+}
+
+/// Adds for each field whether it is a pointer, the last one first.
+fn wraps(model: &mut Model<'_>, of: &Structure) {
+    model.list("wraps");
+    for field in of.fields.iter().rev() {
+        if let FieldKind::Slot(slot) = &field.kind {
+            model.record("");
+            model.number("points", setting_of(slot, true).points as u64);
+            model.close();
+        }
+    }
+    model.close();
+}
+
+/// Adds the fields as arguments, each with the capabilities before it.
+fn arguments<'m>(model: &mut Model<'m>, book: &'m Book<'_>, part: &Part<'m>) {
+    model.list("args");
+    for (i, of) in part.of.fields.iter().enumerate() {
+        if let FieldKind::Slot(at) = &of.kind {
+            model.record("");
+            model.text("name", of.name.as_str());
+            value(model, of.name.as_str());
+            setting(model, book, at, false);
+            type_of(model, book, part, of, at);
+            clients(model, book, part, ("before", i));
+            model.close();
+        }
+    }
+    model.close();
+}
+
+/// Adds those of the first so many fields that are capabilities.
+fn clients<'m>(
+    model: &mut Model<'m>,
+    book: &'m Book<'_>,
+    part: &Part<'m>,
+    (key, count): (&'static str, usize),
+) {
+    model.list(key);
+    for of in part.of.fields.iter().take(count) {
+        if let FieldKind::Slot(at) = &of.kind {
+            if let Some(with) = client_of(book, at) {
+                model.record("");
+                value(model, of.name.as_str());
+                named(model, book, "client", with);
+                model.close();
+            }
+        }
+    }
+    model.close();
+}
+
+/// Adds what an argument is called.
+fn value(model: &mut Model<'_>, name: &str) {
+    let word = Out::spelled(model.alloc, name, "method");
+    model.own("value", &[word.as_str()]);
+    drop(word);
+}
+
+/// Whether all fields of a struct are numbers, texts and capabilities, and few.
+fn is_plain(book: &Book<'_>, of: &Structure) -> bool {
+    for field in &of.fields {
+        let is_argument = match &field.kind {
+            FieldKind::Slot(slot) => is_value(slot) || client_of(book, slot).is_some(),
+            _ => false,
+        };
+        if !is_argument || has_word(OURS, field.name.as_str()) {
+            return false;
+        }
+    }
+    of.fields.len() <= MOST
+}
+
+/// Whether a field is a number or a text.
+fn is_value(slot: &Slot) -> bool {
+    slot.of.lists == 0
+        && matches!(
+            slot.of.of,
+            Base::Unsigned(_) | Base::Signed(_) | Base::Float(_) | Base::Bool | Base::Text
+        )
+}
+
+/// Adds by which table a struct names capabilities.
+pub fn naming(model: &mut Model<'_>, of: Naming) {
+    let text = match of {
+        Naming::Never => "never",
+        Naming::Own => "own",
+        Naming::Shared => "shared",
+    };
+    model.text("naming", text);
+    model.numbers(&[
+        ("never", (text == "never") as u64),
+        ("own", (text == "own") as u64),
+        ("shared", (text == "shared") as u64),
+    ]);
+}
