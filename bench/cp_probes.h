@@ -1,4 +1,4 @@
-// The exports of cp_probes. Nothing checks these lines against its source.
+// The exports of nightly/probes. Nothing checks these lines against its source.
 // A slice is a pointer and a length, an allocator is nothing. An answer of 0 says that there was nothing, a fault, or no memory.
 #pragma once
 #include <cstddef>

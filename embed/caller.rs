@@ -1,4 +1,4 @@
-//! caller PORT    puts a text into a store (crates/store/store.capnp) of 127.0.0.1, gets it back, and prints it.
+//! caller PORT    puts a text into a store (tests/store/store.capnp) of 127.0.0.1, gets it back, and prints it.
 #[allow(dead_code)]
 mod jamdrosek;
 

@@ -13,7 +13,7 @@ cc -std=gnu99 -O2 -Wall -Wextra -Werror -I "$here" -o "$folder/echo" "$here/echo
 cc -std=c99 -O2 -Wall -I "$here" -Wl,--wrap=malloc,--wrap=realloc,--wrap=free -o "$folder/starved" "$here/starved.c" "$folder/libjamdrosek.a"
 ! command -v capnp >/dev/null || g++ -std=c++17 -O2 -Wall -I "$here" -o "$folder/rpc" "$here/rpc.cpp" "$folder/libjamdrosek.a" -lcapnp -lkj
 if command -v capnp >/dev/null; then
-    capnp compile -oc++:"$folder" --src-prefix="$here/../crates/store" "$here/../crates/store/store.capnp"
+    capnp compile -oc++:"$folder" --src-prefix="$here/../tests/store" "$here/../tests/store/store.capnp"
     g++ -std=c++17 -O2 -Wall -I "$here" -I "$folder" -o "$folder/store" "$here/store.cpp" "$folder/store.capnp.c++" "$folder/libjamdrosek.a" -lcapnp-rpc -lcapnp -lkj-async -lkj
     g++ -std=c++17 -O2 -Wall -I "$folder" -o "$folder/ezstore" "$here/ezstore.cpp" "$folder/store.capnp.c++" -lcapnp-rpc -lcapnp -lkj-async -lkj
 fi
@@ -23,7 +23,7 @@ done
 ! command -v rustc >/dev/null || for program in frames caller; do
     rustc --edition 2024 -O -o "$folder/$program" -L "$folder" -l static=jamdrosek "$here/$program.rs"
 done
-"$here/streams.py" "$here/../crates/test_interop/data/frames.txt" "$folder/streams"
+"$here/streams.py" "$here/../tests/test_interop/data/frames.txt" "$folder/streams"
 cd "$folder"
 export LIBJAMDROSEK=$folder/libjamdrosek.so PYTHONDONTWRITEBYTECODE=1
 watched=()

@@ -1,4 +1,4 @@
-// store serve PORT    serves a store of texts (crates/store/store.capnp) on 127.0.0.1, to one client after another
+// store serve PORT    serves a store of texts (tests/store/store.capnp) on 127.0.0.1, to one client after another
 // store call PORT     puts a text into such a store, gets it back, and prints it
 //
 // The connection is libjamdrosek's; the reference library's generated code reads and builds what crosses it.

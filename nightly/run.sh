@@ -5,6 +5,7 @@
 #
 #   part      what it runs                                                     what it takes
 #   look      the first look, in a clean copy                                  half a minute
+#   proofs    the proofs of tests/, and the edits of its crates                two hours of processors
 #   memory    each test of allocation failures, once for each allocation       the proofs of three crates with their tests, and minutes
 #   moves     random moves of two vats, of two ends that serve tail calls, and of one with a stranger that makes them    the proof of a
 #             program of its own, and half an hour
@@ -25,7 +26,7 @@
 #   services  promises, objects made in calls and times, with both libraries     the proof of a program of its own, and five minutes
 #   notebook  objects made in calls, and pushes, with the reference library    the proof of examples, and half a minute
 #   lives     an hour of 950 connections that watch, open pages and go       the proof of examples, and an hour, with a fifth of a processor
-#   chat      a chat room with 999 silent members of the reference library      the proof of examples, and half a minute
+#   chat      a chat room with 999 silent members of the reference library      the proof of a program of its own, and half a minute
 #   netns     servers and clients over a slow, lossy link, as root              the proof of examples, and three minutes
 #   sessions  15,000 random sessions with two servers                          ten minutes
 #   crowd     the same with servers that serve 16 of them at once              ten minutes
@@ -38,16 +39,18 @@
 #   fuzz      10 million frames by libFuzzer, and 600,000 with the sanitizer   two minutes on four processors
 #   night     100 million inputs over all these; INPUTS=N has another number,  a quarter of an hour on four idle processors
 #             SEED=N others of them
+#   moves, served, pieces, starved, fuzz and night first take the proof of the library of probes/, once for a FOLDER
 #   edits     the edits of each must-fail-more/                                a proof of each of these crates, and hours
+#   planted   21 wrong lines of the product, which ./test must see     twice the compiling of all tests, ten minutes
 #   plants    wrong bodies that rt makes up, in ten crates                     hours; wants a quiet machine, and its lines want reading
 #
 # Debian packages: g++ clang libclang-rt-14-dev make libcapnp-dev capnproto cargo librust-capnp-rpc-dev librust-async-io-dev. Rattle's rt is in PATH.
 set -u
 here=$(cd "$(dirname "${BASH_SOURCE[0]}")" && pwd)
-root=$(dirname "$here")
-all=(look memory moves peers matrix relay guard fields schemas texts host load callees faults readme interfaces services notebook lives chat netns sessions crowd served pieces starved embed fuzz words made edits plants)
+. "$here/../tools/crates.sh"
+all=(look proofs memory moves peers matrix relay guard fields schemas texts host load callees faults readme interfaces services notebook lives chat netns sessions crowd served pieces starved embed fuzz words made edits planted plants)
 alone=night # runs only where it is named: it takes as long as all others
-planted=(cp_words cp_tables cp_writing cp_packed cp_frame cp_messages cp_rpc cp_stream cp_refs cp_vat cp_serve)
+of_plants=(cp_words cp_tables cp_writing cp_packed cp_frame cp_messages cp_rpc cp_stream cp_refs cp_vat cp_serve)
 
 [ $# -ge 1 ] || { sed -n '2,/^# Debian/s/^# \{0,1\}//p' "$0" >&2; exit 2; }
 mkdir -p "$1" && folder=$(cd "$1" && pwd)
@@ -55,9 +58,9 @@ shift
 kit=$(dirname "$(rt doc)")
 server=$root/crates/cp_cli/out/cp_cli
 
-crates_with() { (cd "$root/crates" && grep -rl "$1" -- */src | cut -d/ -f1 | sort -u); } # TEXT
+tests_with() { (cd "$root/tests" && grep -rl "$1" -- */src | cut -d/ -f1 | sort -u); } # TEXT
 
-library() { "$root/tools/build.sh" cp_probes jamdrosek_c; }
+library() { "$here/probes/build.sh" "$folder" && "$root/tools/build.sh" jamdrosek_c; }
 
 built() { "$root/tools/build.sh" cp_cli; }
 
@@ -67,10 +70,30 @@ fuzzers() { library && make -s -C "$here/fuzz" B="$folder" KIT="$kit" "${@/#/$fo
 
 look() { "$root/tools/test_first_look.sh"; }
 
+proofs() {
+    local crate failed=0 tests
+    tests=$(sed -n 's/^\([a-z_]*\):.*/\1/p' "$root/tests/libraries.txt")
+    lay_tests "$folder/tests" $tests || return 1
+    for crate in $tests; do (prove "$folder/tests" "$crate") || failed=1; done
+    return "$failed"
+}
+
+prove() { # FOLDER CRATE    one of tests/, laid out there: its tests, or what it prints, and its edits
+    cd "$1/crates/$2" || return 1
+    if [ -e src/main.rt ]; then
+        rt run -- none || true # (which builds it)
+        (cd "$root/tests/$2/data" && "$1/crates/$2/out/$2") | diff - "$root/tests/$2/stdout"
+    else
+        rt check && rt test
+    fi || return 1
+    [ ! -d "$root/tests/$2/must-fail-more" ] || { cp -a "$root/tests/$2/must-fail-more" must-fail && cd "$1" && rt must-fail "$2"; }
+}
+
 memory() {
-    local crate
-    for crate in $(crates_with allocation_failure); do
-        (cd "$root/crates/$crate" && rt test) && "$here/memory/sweep.sh" "$root/crates/$crate/out/${crate}_tests" || return 1
+    local crate room
+    for crate in $(tests_with allocation_failure); do
+        room=$folder/$crate
+        lay_tests "$room" "$crate" && (cd "$room/crates/$crate" && rt test) && "$here/memory/sweep.sh" "$room/crates/$crate/out/${crate}_tests" || return 1
     done
 }
 
@@ -131,7 +154,9 @@ notebook() { "$root/tools/build.sh" examples && "$here/notebook/run.sh" "$root/c
 
 lives() { "$root/tools/build.sh" examples && "$here/notebook/lives.sh" "$root/crates/examples/out/examples" "$folder/lives"; }
 
-chat() { "$root/tools/build.sh" examples && "$here/chat/run.sh" "$root/crates/examples/out/examples" "$folder/chat"; }
+more_examples() { lay_tests "$folder/more" store chat more_examples && (cd "$folder/more/crates/more_examples" && rt run); }
+
+chat() { more_examples && "$here/chat/run.sh" "$folder/more/crates/more_examples/out/more_examples" "$folder/chat"; }
 
 sessions() { built && "$here/fuzz/sessions.sh" "$server" "$folder" 15000 7; }
 
@@ -158,7 +183,7 @@ words() {
     local number processors started=() failed=0
     "$here/fuzz/words/build.sh" "$folder" && make -s -C "$here/fuzz" B="$folder" KIT="$kit" "$folder/words" "$folder/words-asan" "$folder/word_seeds" || return 1
     processors=$(nproc)
-    export FUZZ_DATA=$root/crates/test_interop/data
+    export FUZZ_DATA=$root/tests/test_interop/data
     for number in $(seq "$processors"); do
         (one_fuzzer words "$number" "$((4000000 / processors))" word_seeds -dict=../word_seeds.dict) & started+=($!)
     done
@@ -221,12 +246,15 @@ edits() {
     for it in "$root"/crates/*/must-fail-more; do
         "$root/tools/edits.sh" "$(basename "$(dirname "$it")")" || failed=1
     done
+    "$here/probes/build.sh" "$folder" --edits || failed=1
     return "$failed"
 }
 
+planted() { "$here/planted/planted.py"; }
+
 plants() {
     local crate
-    for crate in "${planted[@]}"; do
+    for crate in "${of_plants[@]}"; do
         (cd "$root/crates/$crate" && rt plant --minutes 60) || return 1
     done
 }

@@ -108,9 +108,9 @@ finish() { # CRATE
     unset "pid[$name]"
     if [ "$status" -ne 0 ] || [ ! -e "${made[$name]}" ]; then
         tail -n 40 "$room/$name.log" >&2
-        mkdir -p "$root/crates/$name/out"
-        cp "$room/$name.log" "$root/crates/$name/out/build.log"
-        fail "$name is not proved and built (status $status): all that rattle said is in crates/$name/out/build.log"
+        mkdir -p "$root/out"
+        cp "$room/$name.log" "$root/out/$name.log"
+        fail "$name is not proved and built (status $status): all that rattle said is in out/$name.log"
     fi
     # (an edit that came meanwhile is newer)
     touch -r "$room/began" "${made[$name]}"

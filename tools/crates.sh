@@ -2,7 +2,7 @@
 root=$(cd "$(dirname "${BASH_SOURCE[0]}")/.." && pwd)
 statements=$root/.git/statements # of the libraries that are built. (rt ci wants no .rt file where no check reads it)
 [ -d "$root/.git" ] || statements=$root/out/statements
-declare -A uses of_kit made stands seen
+declare -A uses of_kit main made stands seen
 declare -a order locks
 
 say() { printf '%s\n' "$*" >&2; }
@@ -13,7 +13,7 @@ find_kit() { # sets kit to the toolchain's folder
     kit=$(dirname "$(dirname "$(realpath "$(command -v rt)")")")
 }
 
-read_crates() { # the libraries of each crate, in this repository and in the kit, and the file that shows that it is built
+read_crates() { # the libraries of each crate, in this repository and in the kit, a program's root file, and the file that shows that it is built
     local line head it own others out libraries
     while IFS= read -r line; do
         line=${line%%#*} own='' others=''
@@ -25,8 +25,11 @@ read_crates() { # the libraries of each crate, in this repository and in the kit
         out=$root/crates/${head[0]}/out
         made[${head[0]}]=$statements/${head[0]}.rlib/format
         [[ " ${head[*]} " != *" staticlib "* ]] || made[${head[0]}]=$out/lib${head[0]}.a
-        [ ! -f "${out%/out}/src/main.rt" ] || made[${head[0]}]=$out/${head[0]}
+        [ ! -f "${out%/out}/src/main.rt" ] || made[${head[0]}]=$out/${head[0]} main[${head[0]}]=${out%/out}/src/main.rt
     done <"$root/crates.txt"
+    # The commands on files alone are a program that the gate leaves out, as cp_cli has them too.
+    uses[capnp_files]=' cp_commands cli_words' of_kit[capnp_files]=''
+    made[capnp_files]=$root/out/capnp_files main[capnp_files]=$root/tools/capnp_files.rs
 }
 
 visit() {
@@ -52,6 +55,7 @@ is_fresh() { # whether the crate is built, and no source that it comes from is n
     [ -e "${made[$1]}" ] || return 1
     for it in ${stands[$1]}; do
         for part in src specs proofs; do [ ! -d "$root/crates/$it/$part" ] || sources+=("$root/crates/$it/$part"); done
+        [ -z "${main[$it]-}" ] || sources+=("${main[$it]}")
     done
     [ -z "$(find "${sources[@]}" -newer "${made[$1]}" -print -quit)" ]
 }
@@ -80,7 +84,7 @@ copy_sources() { # FOLDER CRATE..
     local to=$1 it part parts
     for it in "${@:2}"; do
         parts=()
-        for part in "$root/crates/$it"/*; do [[ $part == */out || $part == */must-fail* || $part == */wrong-bodies ]] || parts+=("$part"); done
+        for part in "$root/crates/$it"/*; do [[ $part == */out || $part == */must-fail* || $part == */wrong-* ]] || parts+=("$part"); done
         mkdir -p "$to/$it"
         cp -a "${parts[@]}" "$to/$it/"
     done
@@ -119,24 +123,37 @@ lay_beside() {
     "$root/tools/stamp.py" "$to"
 }
 
-# FOLDER SOURCES NAME LIBRARIES: puts a crate into FOLDER/crates that the gate has no room for. SOURCES has its src/ and specs/, with .in
-# after each file's name: rt refuses a source that is in no crate of crates.txt
-lay_crate() {
-    local to=$1/crates/$3 it
+# FOLDER SOURCES NAME LIBRARIES: puts a crate into FOLDER/crates, unless it is there, that the gate has no room for
+lay_crate() { [ -e "$1/crates/$3" ] || "$root/tools/lay.py" "$@"; }
+
+libraries_of_test() { sed -n "s/^$1: //p" "$root/tests/libraries.txt"; } # CRATE
+
+# FOLDER LIBRARY..: a repository of those among them that are in crates/ or tests/, and of all that these use
+lay_libraries() {
+    local to=$1 it below own=() of_tests=()
+    for it in "${@:2}"; do
+        [ ! -d "$root/crates/$it" ] || own+=("$it")
+        [ -d "$root/tests/$it" ] || continue
+        of_tests+=("$it")
+        for below in $(libraries_of_test "$it"); do [ ! -d "$root/crates/$below" ] || own+=("$below"); done
+    done
     mkdir -p "$to"
-    for it in src specs; do [ ! -d "$2/$it" ] || cp -a "$2/$it" "$to/"; done
-    find "$to" -name '*.in' | while IFS= read -r it; do mv "$it" "${it%.in}"; done
-    echo "$3: $4" >>"$1/crates.txt"
+    lay_beside "$to" "${own[@]}"
+    cp "$root/HANDLES" "$to/"
+    for it in "${of_tests[@]}"; do lay_crate "$to" "$root/tests/$it" "$it" "$(libraries_of_test "$it")"; done
+}
+
+lay_tests() { # FOLDER CRATE..: a repository of these crates of tests/, and of all that they use
+    local it
+    lay_libraries "$1" $(for it in "${@:2}"; do libraries_of_test "$it"; done)
+    for it in "${@:2}"; do lay_crate "$1" "$root/tests/$it" "$it" "$(libraries_of_test "$it")"; done
 }
 
 # FOLDER SOURCES NAME LIBRARIES: lays such a crate into a room of its own in FOLDER, which $folder and $room are afterwards
 lay_room() {
-    local it own=()
     mkdir -p "$1"
     folder=$(cd "$1" && pwd) room=$folder/room.$3
-    for it in $4; do [ ! -d "$root/crates/$it" ] || own+=("$it"); done
-    lay_beside "$room" "${own[@]}"
-    cp "$root/HANDLES" "$room/"
+    lay_libraries "$room" $4
     lay_crate "$room" "$2" "$3" "$4"
 }
 

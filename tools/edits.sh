@@ -1,9 +1,9 @@
 #!/usr/bin/env bash
 # tools/edits.sh CRATE [PATTERN]    tries all edits of a crate, or those whose names have PATTERN in them.
 #
-# The prover must refuse each. Those of crates/CRATE/must-fail/ and wrong-bodies/ are a part of the gate, and those of
-# must-fail-more/ aren't. (They can't lie in a folder below must-fail/, where rt ci takes each file for an edit in the wrong
-# place.) The libraries below the crate are built first, where they aren't up to date. Then `rt must-fail` tries all in a copy.
+# The prover must refuse each. Those of crates/CRATE/wrong-bodies/ and wrong-definitions/ are a part of the gate, by
+# tools/wrong_bodies.py, and those of must-fail-more/ aren't. The libraries below the crate are built first, where they aren't up
+# to date. Then `rt must-fail` tries all in a copy.
 set -eu
 . "$(dirname "${BASH_SOURCE[0]}")/build.sh"
 copy=''
@@ -16,9 +16,9 @@ remove_copy() {
 }
 
 [ $# -eq 1 ] || [ $# -eq 2 ] || fail "usage: tools/edits.sh CRATE [PATTERN]
-tries the edits of must-fail/, wrong-bodies/ and must-fail-more/ of crates/CRATE, or those whose names have PATTERN in them: the prover must refuse each"
+tries the edits of wrong-bodies/, wrong-definitions/ and must-fail-more/ of crates/CRATE, or those whose names have PATTERN in them: the prover must refuse each"
 crate=$1 edits=()
-for it in "$root/crates/$crate"/{must-fail,wrong-bodies,must-fail-more}/*.edit; do
+for it in "$root/crates/$crate"/{wrong-bodies,wrong-definitions,must-fail-more}/*.edit; do
     [[ ! -f $it || $(basename "$it" .edit) != *"${2-}"* ]] || edits+=("$it")
 done
 [ ${#edits[@]} -gt 0 ] || fail "crates/$crate has no edit${2+ with $2 in its name}"

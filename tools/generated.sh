@@ -12,21 +12,23 @@ differ=0
 
 generate() { (cd "$room" && "$root/capnpc_rattle" "${@:2}" <"$1" >/dev/null); } # REQUEST ARGUMENT..
 
-compare() { # CRATE    once what the plugin wrote of it is laid out
+compare() { # CRATE FOLDER    once what the plugin wrote of it is laid out, with what is kept in the folder
     local part
     echo "$1:" >"$room/crates.txt"
     (cd "$room/$1" && rt fmt >/dev/null)
     for part in src specs; do
-        diff -r "$room/$1/$part" "$root/crates/$1/$part" || differ=1
+        diff -r "$room/$1/$part" "$2/$1/$part" || differ=1
     done
 }
 
 generate "$root/crates/capnpc_rattle/stdin" --crate=cp_schema_capnp --only="$(paste -sd, "$root/crates/cp_schema_capnp/only.txt")"
-compare cp_schema_capnp
+compare cp_schema_capnp "$root/crates"
 regenerate() { # CRATE OPTION
-    (cd "$root/crates/$1" && capnp compile -o- "$1.capnp") >"$room/request"
+    local kept=$root/crates at=$root/crates
+    [ ! -d "$root/tests/$1" ] || { at=$root/tests kept=$room/kept/crates && lay_crate "$room/kept" "$at/$1" "$1" ''; }
+    (cd "$at/$1" && capnp compile -o- "$1.capnp") >"$room/request"
     generate "$room/request" "$2"
-    compare "$1"
+    compare "$1" "$kept"
 }
 
 if command -v capnp >/dev/null; then

@@ -8,20 +8,20 @@ set -eu
 find_kit
 read_crates
 closure "$1"
-cd "$root/crates/$1"
 words=(--crate-name "$1" --links "$1=" --jobs "$2" -L "dependency=$kit/rlibs" -L "dependency=$statements")
 words+=(--antt-project "$kit/rattle/logic/antt-project.json" --logic-built "$kit/logic_built")
 for it in std ${of_kit[$1]}; do words+=(--extern "$it=$kit/rlibs/$it.rlib"); done
 for it in ${uses[$1]}; do words+=(--extern "$it=$statements/$it.rlib"); done
 native=(--toolchain "$kit/toolchain" --backend llvm)
-mkdir -p out "$statements"
+[ ! -d "$root/crates/$1" ] || cd "$root/crates/$1"
+mkdir -p "$(dirname "${made[$1]}")" "$statements"
 
 case ${made[$1]} in
 */out/"$1")
-    "$kit/bin/rattle" build src/main.rt "${words[@]}" "${native[@]}" -o "out/$1.o"
+    "$kit/bin/rattle" build "${main[$1]}" "${words[@]}" "${native[@]}" -o "${made[$1]}.o"
     "$kit/bin/rattle-link" --target x86_64-unknown-linux-gnu --toolchain "$kit/toolchain" \
-        -o "out/$1" "out/$1.o" "$kit/c/libos_c.a" "$kit/c/liblibc_c.a"
+        -o "${made[$1]}" "${made[$1]}.o" "$kit/c/libos_c.a" "$kit/c/liblibc_c.a"
     ;;
-*.a) "$kit/bin/rattle" build src/lib.rt "${words[@]}" "${native[@]}" --crate-type staticlib -o "out/lib$1.a" ;;
+*.a) "$kit/bin/rattle" build src/lib.rt "${words[@]}" "${native[@]}" --crate-type staticlib -o "${made[$1]}" ;;
 *) "$kit/bin/rattle" build src/lib.rt "${words[@]}" --statements -o "$statements/$1.rlib" ;;
 esac

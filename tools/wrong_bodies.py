@@ -1,17 +1,27 @@
 #!/usr/bin/env python3
-"""tools/wrong_bodies.py [--list] [CRATE..]    tries the wrong bodies of all crates, or of these, or lists them.
+"""tools/wrong_bodies.py [--all] [--record] [--list] [CRATE..]    tries wrong bodies and definitions: the prover must refuse each.
 
-By an edit of crates/CRATE/wrong-bodies/ a function does something else than its contract says, and the prover must refuse it.
-The file is written as those of must-fail/ are. Its name is the function's path, with dots, and what is wrong then.
+It tries the edits of each crate that changed since they were last tried, or whose libraries did, and of a quarter of the other
+crates, by the hash of the commit. If crates are named, it tries those of these alone.
 
-A proof rests on the contracts of the functions that are called, and on no body. So one check tries several edits, each of
-another function, over the libraries that rt ci built, or else tools/build.sh. The crate's other functions stand by their
-contracts: rt ci has proved them, so their proofs are holes in this check. Functions that call one another have one proof, and
-keep it. All that is refused has to be the proof of a function with an edit, so refusals are due to the edits.
+  --all     tries those of all crates, as before a release
+  --record  writes the sums of the crates whose edits were all refused into tools/tried_edits.txt
+  --list    lists what it would try
+
+By an edit of crates/CRATE/wrong-bodies/ a function does something else than its contract says. The file's name is the
+function's path, with dots, and what is wrong then. An edit of wrong-definitions/ changes what the crate's laws rest on.
+Both are written as rt's must-fail edits are, and tried over the libraries that rt ci built, or else tools/build.sh.
+
+A proof rests on the contracts of the functions that are called, and on no body. So one check tries several bodies, each of
+another function. The crate's other functions stand by their contracts: rt ci has proved them, so their proofs are holes in this
+check. Functions that call one another have one proof, and keep it. All that is refused has to be the proof of a function with
+an edit, so refusals are due to the edits. Definitions are tried by `rt must-fail` in a copy, each over all proofs of its crate.
 
 The last line is 'N passed, M failed'. The status is 1 where an edit wasn't refused, can't be applied or wasn't tried.
 """
+import argparse
 import concurrent.futures
+import hashlib
 import os
 import pathlib
 import re
@@ -21,6 +31,8 @@ import sys
 import tempfile
 
 TOP = pathlib.Path(__file__).resolve().parent.parent
+BODIES, DEFINITIONS = "wrong-bodies", "wrong-definitions"
+SUMS = TOP / "tools/tried_edits.txt"
 sys.dont_write_bytecode = True
 sys.path.insert(0, os.path.dirname(os.path.realpath(shutil.which("rt") or sys.exit("rt isn't in PATH"))))
 import rtlib
@@ -34,10 +46,10 @@ NAMES = re.compile(r"has no field|is not in scope|has no `|was not admitted")
 
 
 class Edit:
-    """A change of a function's body, what was said of it, and whether that is the prover's refusal."""
+    """A change of a function's body or of a definition, what was said of it, and whether that is the prover's refusal."""
 
     def __init__(self, file):
-        self.file, self.label = file, f"{file.parts[-3]}/{file.stem}"
+        self.file, self.kind, self.label = file, file.parent.name, f"{file.parts[-3]}/{file.stem}"
         self.function = file.stem.rpartition(".")[0].replace(".", "::")
         self.said, self.is_refused = "", False
 
@@ -99,31 +111,44 @@ def leave_out(crate, room, tried):
             folder.joinpath("Proof.antt").write_text(f"{statement}pub {proof} : {{M : Type 1}} → statement M\n{proof} = ?\n")
 
 
-def check(crate, room, only):
-    """The status of a check of these functions, the lines that it said, and its processor seconds."""
-    words = [rtlib.RATTLE, "check", *crate.words(["--jobs", "1", "--allow-holes"], keeps=False), *[f"--only={it}" for it in only]]
+def run(words, room, **environment):
+    """The status of a command, the lines that it said, and the processor seconds that it took."""
     with tempfile.TemporaryFile("w+", errors="replace") as out:
-        ran = subprocess.Popen([*rtlib.guarded(), *words], cwd=room, stdin=subprocess.DEVNULL, stdout=out, stderr=out)
+        how = {"stdin": subprocess.DEVNULL, "stdout": out, "stderr": out, "env": {**os.environ, **environment}}
+        ran = subprocess.Popen([*rtlib.guarded(), *words], cwd=room, **how)
         _, status, used = os.wait4(ran.pid, 0)
         ran.returncode = os.waitstatus_to_exitcode(status)
         out.seek(0)
         return ran.returncode, out.read().splitlines(), used.ru_utime + used.ru_stime
 
 
-def try_together(crate, edits):
+def check(crate, room, only):
+    """Checks these functions."""
+    words = crate.words(["--jobs", "1", "--allow-holes"], keeps=False)
+    return run([rtlib.RATTLE, "check", *words, *[f"--only={it}" for it in only]], room)
+
+
+def copy_sources(crate, to):
+    for part in rtlib.PARTS:
+        if os.path.isdir(f"{crate.folder}/{part}"):
+            shutil.copytree(f"{crate.folder}/{part}", f"{to}/{part}")
+
+
+def try_bodies(crate, edits):
     """Tries edits of different functions, and gives the processor seconds that it took."""
     with tempfile.TemporaryDirectory(prefix=f"rt-edit-{os.getpid()}-") as room:
-        for part in rtlib.PARTS:
-            if os.path.isdir(f"{crate.folder}/{part}"):
-                shutil.copytree(f"{crate.folder}/{part}", f"{room}/{part}")
+        copy_sources(crate, room)
         for it in edits:
             try:
                 it.apply(pathlib.Path(room))
             except (OSError, ValueError) as why:
                 it.said = f"BAD EDIT: {why}"
         tried = {it.function: it for it in edits if not it.said}
+        others = [it for it in map("::".join, functions_of(pathlib.Path(room, "src"))) if it not in tried]
         leave_out(crate, pathlib.Path(room), tried)
-        status, lines, seconds = check(crate, room, tried) if tried else (0, [], 0)
+        # (beside a lone edit, one more function shows that the check comes to its end)
+        only = [*tried, *others[: len(tried) == 1]]
+        status, lines, seconds = check(crate, room, only) if tried else (0, [], 0)
     verdicts = dict(re.findall(rf"^fn {crate.name}::(\S+): (.+)$", "\n".join(lines), re.M))
     errors = [it.removeprefix("./") for it in lines if re.match(r"\S+:\d+:\d+: error", it)]
     lost = lost_by(crate.name, status, lines, verdicts, errors, tried)
@@ -157,6 +182,39 @@ def lost_by(crate, status, lines, verdicts, errors, tried):
     return lost if others else lost + ["no function without an edit was checked"]
 
 
+def lay_out(crate, edits, room):
+    """Makes a repository of the crate with these edits, and of those below as they are built."""
+    whole = [*crate.below(), crate]
+    for it in whole:
+        copy_sources(it, room / "crates" / it.name)
+    for it in crate.below():
+        made = room / "crates" / it.name / "out/rlib"
+        made.mkdir(parents=True)
+        (made / f"{it.name}.rlib").symlink_to(it.rlib)
+    names = [it.name for it in whole]
+    lines = (TOP / "crates.txt").read_text().splitlines(True)
+    (room / "crates.txt").write_text("".join(it for it in lines if re.match(r"\w*", it)[0] in names))
+    (room / "tmp").mkdir()
+    (room / "crates" / crate.name / "must-fail").mkdir()
+    for it in edits:
+        shutil.copy(it.file, room / "crates" / crate.name / "must-fail")
+    subprocess.run([TOP / "tools/stamp.py", room], check=True)
+
+
+def try_definitions(crate, edits):
+    """Tries edits of definitions, and gives the processor seconds that it took."""
+    with tempfile.TemporaryDirectory(prefix=f"rt-edit-{os.getpid()}-") as name:
+        room = pathlib.Path(name)
+        lay_out(crate, edits, room)
+        status, lines, seconds = run(["rt", "must-fail", crate.name], room, RT_JOBS="1", TMPDIR=str(room / "tmp"))
+    for it in edits:
+        label = f"rt: must-fail {crate.name}/{it.file.name}: "
+        said = [line.removeprefix(label) for line in lines if line.startswith(label)]
+        it.said = said[0] if said else f"NOT TRIED: rt must-fail ended with status {status}: {' '.join(lines[-1:])}"
+        it.is_refused = it.said.startswith("refused, as it must be")
+    return seconds
+
+
 def find_libraries(crates):
     """Takes the libraries in out/ where all are of one build, and newer than their sources; else those of tools/build.sh."""
     below = {it.name: it for crate in crates for it in crate.below()}
@@ -171,30 +229,100 @@ def find_libraries(crates):
         it.rlib = f"{TOP}/{'.git' if (TOP / '.git').is_dir() else 'out'}/statements/{name}.rlib"
 
 
-def main(words):
-    names, known, edits = [it for it in words if it != "--list"], {}, {}
-    for file in sorted(TOP.glob("crates/*/wrong-bodies/*.edit")):
-        if not names or file.parts[-3] in names:
-            edit, turn = Edit(file), 0
-            # (two edits of one function are tried one after the other)
-            while edit.function in (it.function for it in edits.get((file.parts[-3], turn), [])):
-                turn += 1
-            edits.setdefault((file.parts[-3], turn), []).append(edit)
-    every = [it for found in edits.values() for it in found]
-    if "--list" in words:
-        print(*[it.label for it in every], sep="\n")
-        return 0
-    crates = {name: rtlib.Crate(f"{TOP}/crates/{name}", str(TOP), known) for name, _ in edits}
-    find_libraries(crates.values())
+def read_edits():
+    """The edits of each crate that has some, by its name."""
+    found = {}
+    for kind in (DEFINITIONS, BODIES):
+        for file in sorted(TOP.glob(f"crates/*/{kind}/*.edit")):
+            found.setdefault(file.parts[-3], []).append(Edit(file))
+    return found
+
+
+def sum_of(crate):
+    """A checksum of all that the refusal of a crate's edits rests on.
+
+    Of the libraries below, a proof sees contracts, types and definitions. Their files are taken whole, with bodies that it doesn't
+    see: only the compiler tells these apart. Proofs of libraries don't count."""
+    sum = hashlib.sha256(pathlib.Path(rtlib.KIT, "KIT-ID").read_bytes())
+    for it in [*crate.below(), crate]:
+        sum.update(repr((it.name, it.of_kit)).encode())
+        for part in (*rtlib.PARTS, BODIES, DEFINITIONS) if it is crate else ("src", "specs"):
+            for file in sorted(TOP.glob(f"crates/{it.name}/{part}/**/*.*")):
+                sum.update(f"\n{file.relative_to(TOP)}\n".encode() + file.read_bytes())
+    return sum.hexdigest()[:16]
+
+
+def read_tried():
+    """The lines of tried_edits.txt: a crate, and a sum of it whose edits were all refused."""
+    return {tuple(it.split()) for it in SUMS.read_text().splitlines() if re.fullmatch(r"\w+ \w+", it)} if SUMS.exists() else set()
+
+
+def choose(sums):
+    """The crates that changed, and those of the others whose turn it is."""
+    tried = read_tried()
+    changed = [name for name, sum in sums.items() if (name, sum) not in tried]
+    others = sorted({*sums} - {*changed})
+    head = subprocess.run(["git", "rev-parse", "HEAD"], cwd=TOP, capture_output=True, text=True).stdout.strip()
+    return changed, others[int(head, 16) % 4 :: 4] if head else others
+
+
+def record(sums, refused):
+    """Writes the sums of the crates whose edits were all refused. The lines of the other crates that have edits stay."""
+    kept = [it for it in read_tried() if it[0] in sums and it[0] not in refused]
+    lines = [f"{name} {sum}\n" for name, sum in sorted([*kept, *[(it, sums[it]) for it in refused]])]
+    first = "# crate, and a sum of what its edits rest on: all were refused then (tools/wrong_bodies.py --record writes it)\n"
+    SUMS.write_text(first + "".join(lines))
+
+
+def checks_of(edits):
+    """The checks that try a crate's edits: one for definitions, and for bodies as many as one function has."""
+    yield try_definitions, [it for it in edits if it.kind == DEFINITIONS]
+    left = [it for it in edits if it.kind == BODIES]
+    while left:
+        each = [*{it.function: it for it in reversed(left)}.values()][::-1]
+        yield try_bodies, each
+        left = [it for it in left if it not in each]
+
+
+def try_all(crates, edits):
+    """Tries the edits of these crates, side by side, and prints what came of each."""
+    find_libraries(crates)
     rtlib.guarded()
     with concurrent.futures.ThreadPoolExecutor(int(os.environ.get("RT_JOBS", len(os.sched_getaffinity(0))))) as pool:
-        for name, found, end in [(name, found, pool.submit(try_together, crates[name], found)) for (name, _), found in edits.items()]:
-            print(f"{name}: {len(found)} edits in {end.result():.0f} s of a processor")
+        checks = [(crate, found, how) for crate in crates for how, found in checks_of(edits[crate.name]) if found]
+        ends = [pool.submit(how, crate, found) for crate, found, how in checks]
+        for (crate, found, _), end in zip(checks, ends):
+            print(f"{crate.name}: {len(found)} edits in {end.result():.0f} s of a processor")
             print(*[f"{it.label}: {it.said[:200]}" for it in found], sep="\n", flush=True)
+
+
+def main():
+    parser = argparse.ArgumentParser(description=__doc__, formatter_class=argparse.RawDescriptionHelpFormatter)
+    for it in ("--all", "--record", "--list"):
+        parser.add_argument(it, action="store_true")
+    parser.add_argument("crates", nargs="*", metavar="CRATE")
+    given = parser.parse_args()
+    edits, known = read_edits(), {}
+    crates = {name: rtlib.Crate(f"{TOP}/crates/{name}", str(TOP), known) for name in edits}
+    sums = {name: sum_of(it) for name, it in crates.items()}
+    if not edits or {*given.crates} - {*edits}:
+        parser.error(f"no edits of {' '.join(it for it in given.crates if it not in edits) or 'any crate'}")
+    asked = given.crates or [it for it in edits if given.all]
+    changed, turn = ([], []) if asked else choose(sums)
+    chosen = asked or changed + turn
+    every = [it for name in chosen for it in edits[name]]
+    if given.list:
+        print(*[it.label for it in every], sep="\n")
+        return 0
+    if not asked:
+        print(f"changed: {' '.join(changed) or 'no crate'}; of the others a quarter: {' '.join(turn)}", flush=True)
+    try_all([crates[it] for it in chosen], edits)
+    if given.record:
+        record(sums, [name for name in chosen if all(it.is_refused for it in edits[name])])
     passed = sum(it.is_refused for it in every)
     print(f"{passed} passed, {len(every) - passed} failed")
-    return int(passed < len(every) or not every)
+    return int(passed < len(every))
 
 
 if __name__ == "__main__":
-    sys.exit(main(sys.argv[1:]))
+    sys.exit(main())

@@ -1,5 +1,5 @@
 #!/usr/bin/env bash
-# run.sh EXAMPLES BUILD [SILENT]    the chat room of the program EXAMPLES over TCP: SILENT members (999, as the host takes 1,000
+# run.sh EXAMPLES BUILD [SILENT]    the chat room of the program EXAMPLES (more_examples, built) over TCP: SILENT members (999, as the host takes 1,000
 #                                   connections) by the reference library that say nothing, and one that talks. All must hear it.
 set -eu
 examples=$1 silent=${3:-999}

@@ -6,7 +6,7 @@ import subprocess
 
 from session import BUILD, Peer, frames_of, play
 
-DATA = pathlib.Path(__file__).resolve().parents[2] / "crates/test_interop/data"
+DATA = pathlib.Path(__file__).resolve().parents[2] / "tests/test_interop/data"
 CALLS = ["i=e5a1000000000001 m=0", "question:1[0] i=e5a1000000000002 m=0 {(2900000000000000;null) caps[]}"]
 
 

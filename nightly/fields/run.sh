@@ -7,7 +7,7 @@
 #                                   newer edition are written again by the older one's drafts, which keep what they don't know. With - for
 #                                   PLUGIN no code is made, and COMMAND alone is tried, in a minute.
 #
-# The programs that print are made by print.py, those that build by copy.py, of the request alone; keep.rt.in is one by hand. `rt try` runs them,
+# The programs that print are made by print.py, those that build by copy.py, of the request alone; keep.rs is one by hand. `rt try` runs them,
 # over unproved code.
 set -eu
 plugin=$1
@@ -25,7 +25,7 @@ make_program() { # PROGRAM NAME STRUCT [FIELD..]: the program that prints messag
     shift 2
     mkdir -p "$room/crates/$program/src"
     "$here/print.py" "$room/$name.request" "$@" >"$room/crates/$program/src/main.rt"
-    cp "$here/line.rt.in" "$room/crates/$program/src/line.rt"
+    cp "$here/line.rs" "$room/crates/$program/src/line.rt"
     printf '%s: cp_words cp_reading cp_frame cp_fields %s anyhow\n' "$program" "$name" >>"$room/crates.txt"
 }
 
@@ -66,10 +66,10 @@ calls() { # a session's calls and results, by the names of the methods: desk.1.c
     [ -n "$command" ] || return 0
     capnp compile --src-prefix="$root/nightly/peers" -o- "$root/nightly/peers/desk.capnp" >"$room/request"
     cp "$here/desk.txt" "$room/wanted"
-    "$command" show --schema "$room/request" "$root/crates/test_interop/data/desk.1.c2s" >"$room/found" 2>"$room/said" || :
+    "$command" show --schema "$room/request" "$root/tests/test_interop/data/desk.1.c2s" >"$room/found" 2>"$room/said" || :
     same desk.txt "show --schema desk.capnp"
     cp "$here/returns.txt" "$room/wanted"
-    "$command" show --schema "$room/request" --calls "$root/crates/test_interop/data/desk.1.c2s" "$root/crates/test_interop/data/desk.1.s2c" \
+    "$command" show --schema "$room/request" --calls "$root/tests/test_interop/data/desk.1.c2s" "$root/tests/test_interop/data/desk.1.s2c" \
         >"$room/found" 2>"$room/said" || :
     same returns.txt "show --schema desk.capnp --calls"
 }
@@ -96,7 +96,7 @@ compare() { # TEXTS WRITER READER STRUCT: texts that WRITER's schema encodes, re
 make_keeper() { # the program that writes messages of a newer schema again, by the drafts of an older one
     [ "$plugin" != - ] || return 0
     mkdir -p "$room/crates/keep_older/src"
-    cp "$here/keep.rt.in" "$room/crates/keep_older/src/main.rt"
+    cp "$here/keep.rs" "$room/crates/keep_older/src/main.rt"
     printf 'keep_older: cp_words cp_tree cp_reading cp_frame cp_fields cp_builder cp_stream older anyhow\n' >>"$room/crates.txt"
 }
 

@@ -1,5 +1,5 @@
 // Texts by a schema, calls by name, and rules with the streams that they guard, over the static library of words/. FUZZ_DATA names the folder
-// with the requests that are read, of ../../crates/test_interop/data.
+// with the requests that are read, of ../../tests/test_interop/data.
 //
 // An input is a byte and the rest, which the byte says how to read. Each is read whole and again in pieces, and must come to the same. Texts that are
 // frames are shown, and what is shown is read again and shown the same.

@@ -25,7 +25,7 @@ through() { # WORD.. -- SERVER.. -- CLIENT..    a session of the client with the
     wait "$serving"
 }
 
-python3 "$here/streams.py" "$command" "$here/../../crates/test_interop/data/frames.txt"
+python3 "$here/streams.py" "$command" "$here/../../tests/test_interop/data/frames.txt"
 
 for kind in first second abort; do
     through -- "$command" serve "$served" 1 -- "$build/peers/client" "$relayed" "$kind" 1

@@ -115,7 +115,7 @@ def main(folder, *seeds):
     for stem in stems:
         with open(os.path.join(folder, f"on_{stem}.rt"), "w", encoding="utf-8") as file:
             file.write(module_of(os.path.join(folder, "..", "..", "..", f"{stem}.request"), stem))
-    shutil.copy(os.path.join(FIELDS, "line.rt.in"), os.path.join(folder, "line.rt"))
+    shutil.copy(os.path.join(FIELDS, "line.rs"), os.path.join(folder, "line.rt"))
     arms = "".join(f"        {place} => on_{stem}::show(rt, segments),\n" for place, stem in enumerate(stems))
     with open(os.path.join(folder, "main.rt"), "w", encoding="utf-8") as file:
         file.write(MAIN.format(modules="".join(f"mod on_{stem};\n" for stem in stems), arms=arms))

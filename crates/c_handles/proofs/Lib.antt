@@ -1,5 +1,6 @@
-pub mod ReaderHandles
+pub mod Handles
 pub mod Values
 pub mod Reading
 pub mod Counting
-pub mod RelayHandles
+pub mod Naming
+pub mod Framing

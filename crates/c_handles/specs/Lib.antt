@@ -1,10 +1,14 @@
 pub mod Given
 pub mod Limits
 pub mod Code
+pub mod Fault
 pub mod Message
 pub mod Check
 pub mod Kept
 pub mod Reader
-pub mod ReaderOwned
+pub mod Handle
 pub mod Rules
-pub mod RelayOwned
+pub mod Caps
+pub mod Content
+pub mod Event
+pub mod Connection

@@ -4,8 +4,14 @@
 
 mod buffer;
 mod bytes;
+mod caps;
 mod check;
 mod code;
+mod connection;
+mod connection_handle;
+mod content;
+mod event;
+mod fault;
 mod limits;
 mod loose;
 mod message;
@@ -18,10 +24,14 @@ mod text;
 
 pub use buffer::fill;
 pub use bytes::Bytes;
+pub use caps::CapNumbers;
 pub use check::{Verdict, check_all};
 pub use code::{CallFault, NOWHERE, Spot};
+pub use connection::ConnectionState;
+pub use connection_handle::ConnectionHandle;
+pub use event::{EventNumbers, OriginNumbers};
+pub use fault::{fault_of, told};
 pub use limits::LimitNumbers;
-pub use loose::Loose;
 pub use message::MessageNumbers;
 pub use method::{MethodNumbers, MethodRules};
 pub use reader::ReaderState;

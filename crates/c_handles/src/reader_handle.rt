@@ -1,8 +1,10 @@
 //! C's handle on a reader.
 
 ghost use Rattle.std.specs.Prelude.{◌≡◌, Option, None, Some};
+ghost use Rattle.std.specs.Coded.{coded_option};
 ghost use Rattle.c_handles.specs.declared.reader.ReaderState.{ReaderState};
-ghost use Rattle.c_handles.specs.ReaderOwned.{handle_owns, option_coded, Took, TookBox};
+ghost use Rattle.c_handles.specs.contracts.reader.ReaderState.{the_row as reader_row};
+ghost use Rattle.c_handles.specs.Handle.{handle_owns, Took, TookBox};
 
 use crate::loose::Loose;
 use crate::reader::ReaderState;
@@ -16,11 +18,11 @@ pub struct ReaderHandle {
     at: *mut u8,
     alloc: Global,
     is_open: bool,
-    pub ghost value: { Option ReaderState } by { option_coded },
+    pub ghost value: { Option ReaderState } by { coded_option reader_row.coded },
 }
 
 impl Model for ReaderHandle {
-    ghost also_owns = { λ h. handle_owns h.alloc h.at h.is_open h.value };
+    ghost also_owns = { λ h. handle_owns reader_row h.alloc h.at h.is_open h.value };
 }
 
 impl Drop for ReaderHandle {

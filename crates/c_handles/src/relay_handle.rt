@@ -1,8 +1,10 @@
 //! C's handle on a relay.
 
 ghost use Rattle.std.specs.Prelude.{◌≡◌, Option, None, Some};
+ghost use Rattle.std.specs.Coded.{coded_option};
 ghost use Rattle.c_handles.specs.declared.relay.RelayState.{RelayState};
-ghost use Rattle.c_handles.specs.RelayOwned.{handle_owns, option_coded, Took, TookBox};
+ghost use Rattle.c_handles.specs.contracts.relay.RelayState.{the_row as relay_row};
+ghost use Rattle.c_handles.specs.Handle.{handle_owns, Took, TookBox};
 
 use crate::loose::Loose;
 use crate::relay::RelayState;
@@ -16,11 +18,11 @@ pub struct RelayHandle {
     at: *mut u8,
     alloc: Global,
     is_open: bool,
-    pub ghost value: { Option RelayState } by { option_coded },
+    pub ghost value: { Option RelayState } by { coded_option relay_row.coded },
 }
 
 impl Model for RelayHandle {
-    ghost also_owns = { λ h. handle_owns h.alloc h.at h.is_open h.value };
+    ghost also_owns = { λ h. handle_owns relay_row h.alloc h.at h.is_open h.value };
 }
 
 impl Drop for RelayHandle {

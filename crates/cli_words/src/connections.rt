@@ -5,8 +5,8 @@ use crate::arguments::{
     limits_of, mode_of,
 };
 use crate::serving::{LISTEN, address};
-use crate::task::{AskedTypes, Calling, Guarding, Relaying, Task};
 use clap::ArgMatches;
+use cp_commands::{CallPlan, Guarding, RelayForm, RelayRoute, RelayTask, Task, TypesPlan};
 use cp_frame::Mode;
 use cp_words::Limits;
 use std::net::SocketAddr;
@@ -296,16 +296,22 @@ pub(crate) fn loop_of<'a, 'b>(matches: &'b ArgMatches<'a>) -> Option<Task<'a, 'b
 /// What the words of `relay` ask for.
 pub(crate) fn relay_of<'a, 'b>(matches: &'b ArgMatches<'a>) -> Option<Task<'a, 'b>> {
     let near = mode_of(matches);
-    Some(Task::Relay(Relaying {
+    let form = RelayForm {
         near,
         far: far_mode(near, matches.get_flag("other")),
         anew: matches.get_flag("anew"),
         limits: relay_limits_of(matches)?,
         shows: matches.get_flag("show"),
-        guarding: guarding_of(matches),
+    };
+    let route = RelayRoute {
         address: SocketAddr::from((address(matches)?, matches.get_one::<u16>("PORT")?)),
         target: matches.get_str("HOST:PORT")?,
         count: matches.get_one::<u32>("COUNT")?,
+    };
+    Some(Task::Relay(RelayTask {
+        route,
+        form,
+        guarding: guarding_of(matches),
     }))
 }
 
@@ -329,9 +335,9 @@ pub(crate) fn call_of<'a, 'b>(matches: &'b ArgMatches<'a>) -> Option<Task<'a, 'b
     let (request, name) = (matches.get_str("schema"), matches.get_str("describe"));
     if matches.get_flag("list") || name.is_some() {
         let request = request?;
-        return Some(Task::Types(AskedTypes { request, name }));
+        return Some(Task::Types(TypesPlan { request, name }));
     }
-    Some(Task::Call(Calling {
+    Some(Task::Call(CallPlan {
         mode: mode_of(matches),
         limits: limits_of(matches)?,
         shows_messages: matches.get_flag("messages"),

@@ -3,8 +3,8 @@
 use crate::arguments::{
     Argument, ArgumentForm, FILE, MOST_WORDS, NESTING, PACKED, TRAVERSAL, Words, limits_of, mode_of,
 };
-use crate::task::{FileCommand, SchemaNames, StructName, Task};
 use clap::ArgMatches;
+use cp_commands::{EncodePlan, FileTask, Plan, STDIN, ShowPlan, Task};
 
 /// The schema by which messages are shown.
 const SCHEMA: Argument = Argument {
@@ -169,62 +169,66 @@ pub(crate) static RECUT_ARGUMENTS: [Argument; 3] = [PACKED, WORDS, FILE];
 
 /// What the words of `show` ask for.
 pub(crate) fn show_of<'a, 'b>(matches: &'b ArgMatches<'a>) -> Option<Task<'a, 'b>> {
-    let (path, limits) = (matches.get_str("FILE")?, limits_of(matches)?);
-    let command = FileCommand::Show {
-        mode: mode_of(matches),
-        limits,
-        names: names_of(matches),
+    let (path, mode) = (matches.get_str("FILE")?, mode_of(matches));
+    let limits = limits_of(matches)?;
+    let Some(request) = matches.get_str("schema") else {
+        return Some(Task::OnFile(FileTask::Frames {
+            plan: Plan::Show { mode, limits },
+            path,
+        }));
     };
-    Some(Task::OnFile { command, path })
+    Some(Task::OnFile(FileTask::Show(ShowPlan {
+        mode,
+        limits,
+        request,
+        name: matches.get_str("type"),
+        calls: matches.get_str("calls"),
+        path,
+    })))
 }
 
 /// What the words of `encode` ask for.
 pub(crate) fn encode_of<'a, 'b>(matches: &'b ArgMatches<'a>) -> Option<Task<'a, 'b>> {
-    let path = matches.get_str("FILE").unwrap_or("-");
-    let structs = StructName {
+    Some(Task::OnFile(FileTask::Encode(EncodePlan {
+        mode: mode_of(matches),
         request: matches.get_str("schema")?,
         name: matches.get_str("type")?,
-    };
-    let mode = mode_of(matches);
-    let command = FileCommand::Encode { mode, structs };
-    Some(Task::OnFile { command, path })
+        path: matches.get_str("FILE").unwrap_or(STDIN),
+    })))
 }
 
 /// What the words of `check` ask for.
 pub(crate) fn check_of<'a, 'b>(matches: &'b ArgMatches<'a>) -> Option<Task<'a, 'b>> {
-    let (path, limits) = (matches.get_str("FILE")?, limits_of(matches)?);
-    let mode = mode_of(matches);
-    let command = FileCommand::Check { mode, limits };
-    Some(Task::OnFile { command, path })
+    let (path, mode) = (matches.get_str("FILE")?, mode_of(matches));
+    let limits = limits_of(matches)?;
+    Some(Task::OnFile(FileTask::Frames {
+        plan: Plan::Check { mode, limits },
+        path,
+    }))
 }
 
 /// What the words of `pack` ask for.
 pub(crate) fn pack_of<'a, 'b>(matches: &'b ArgMatches<'a>) -> Option<Task<'a, 'b>> {
-    let path = matches.get_str("FILE")?;
-    let command = FileCommand::Pack;
-    Some(Task::OnFile { command, path })
+    Some(Task::OnFile(FileTask::Frames {
+        plan: Plan::Pack,
+        path: matches.get_str("FILE")?,
+    }))
 }
 
 /// What the words of `unpack` ask for.
 pub(crate) fn unpack_of<'a, 'b>(matches: &'b ArgMatches<'a>) -> Option<Task<'a, 'b>> {
-    let path = matches.get_str("FILE")?;
-    let command = FileCommand::Unpack;
-    Some(Task::OnFile { command, path })
+    Some(Task::OnFile(FileTask::Frames {
+        plan: Plan::Unpack,
+        path: matches.get_str("FILE")?,
+    }))
 }
 
 /// What the words of `recut` ask for.
 pub(crate) fn recut_of<'a, 'b>(matches: &'b ArgMatches<'a>) -> Option<Task<'a, 'b>> {
-    let (path, words) = (matches.get_str("FILE")?, matches.get_one::<u32>("words")?);
-    let mode = mode_of(matches);
-    let command = FileCommand::Recut { mode, words };
-    Some(Task::OnFile { command, path })
-}
-
-/// The names that were given.
-fn names_of<'a>(matches: &ArgMatches<'a>) -> Option<SchemaNames<'a>> {
-    Some(SchemaNames {
-        request: matches.get_str("schema")?,
-        name: matches.get_str("type"),
-        calls: matches.get_str("calls"),
-    })
+    let (path, mode) = (matches.get_str("FILE")?, mode_of(matches));
+    let words = matches.get_one::<u32>("words")?;
+    Some(Task::OnFile(FileTask::Frames {
+        plan: Plan::Recut { mode, words },
+        path,
+    }))
 }

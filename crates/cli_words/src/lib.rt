@@ -5,11 +5,6 @@ mod arguments;
 mod connections;
 mod files;
 mod serving;
-mod task;
 mod words;
 
-pub use task::{
-    AskedTypes, Calling, FileCommand, GivenPlace, GivenService, Guarding, Relaying, SchemaNames,
-    Serving, StructName, Task,
-};
-pub use words::{Acts, WRONG, run};
+pub use words::{Acts, run};

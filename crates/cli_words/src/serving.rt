@@ -1,8 +1,8 @@
 //! The words of `serve`.
 
 use crate::arguments::{Argument, ArgumentForm, COUNT, PACKED, PORT, Words, mode_of};
-use crate::task::{GivenPlace, GivenService, Serving, Task};
 use clap::ArgMatches;
+use cp_commands::{ListenAddress, ServePlan, Service, Task};
 use std::net::{IpAddr, Ipv4Addr, SocketAddr};
 
 /// The most connections at once.
@@ -102,13 +102,13 @@ pub(crate) static OPEN_ARGUMENTS: [Argument; 7] = [
 /// What the words of `serve` ask for.
 pub(crate) fn serve_of<'a, 'b>(matches: &'b ArgMatches<'a>) -> Option<Task<'a, 'b>> {
     match serving_of(matches) {
-        Some(serving) => Some(Task::Serve(serving)),
+        Some(plan) => Some(Task::Serve(plan)),
         None => None,
     }
 }
 
 /// How connections are served.
-fn serving_of<'a>(matches: &ArgMatches<'a>) -> Option<Serving<'a>> {
+fn serving_of<'a>(matches: &ArgMatches<'a>) -> Option<ServePlan<'a>> {
     let (first, second) = (matches.get_str("PORT")?, matches.get_str("COUNT"));
     if let Some(path) = matches.get_str("socket") {
         return at_path(matches, path, first, second);
@@ -124,15 +124,15 @@ fn serving_of<'a>(matches: &ArgMatches<'a>) -> Option<Serving<'a>> {
 }
 
 /// What is served at a port.
-fn at_port<'a>(matches: &ArgMatches<'a>, port: u16, count: Option<u32>) -> Option<Serving<'a>> {
+fn at_port<'a>(matches: &ArgMatches<'a>, port: u16, count: Option<u32>) -> Option<ServePlan<'a>> {
     match count {
-        Some(count) if !has_options(matches) => Some(Serving::InTurn {
+        Some(count) if !has_options(matches) => Some(ServePlan::InTurn {
             mode: mode_of(matches),
             port,
             count,
         }),
-        count => Some(Serving::Hosted {
-            place: GivenPlace::Address(SocketAddr::from((address(matches)?, port))),
+        count => Some(ServePlan::Hosted {
+            address: ListenAddress::Address(SocketAddr::from((address(matches)?, port))),
             service: service(matches, count),
         }),
     }
@@ -144,22 +144,22 @@ fn at_path<'a>(
     path: &'a str,
     count: &str,
     further: Option<&str>,
-) -> Option<Serving<'a>> {
+) -> Option<ServePlan<'a>> {
     if further.is_some() {
         return None;
     }
-    Some(Serving::Hosted {
-        place: GivenPlace::Path(path),
+    Some(ServePlan::Hosted {
+        address: ListenAddress::Path(path),
         service: service(matches, count_of(count)?),
     })
 }
 
 /// What is served over standard input and output.
-fn on_pipe<'a>(matches: &ArgMatches<'a>, place: &str) -> Option<Serving<'a>> {
+fn on_pipe<'a>(matches: &ArgMatches<'a>, place: &str) -> Option<ServePlan<'a>> {
     if place != DASH || has_options(matches) {
         return None;
     }
-    Some(Serving::Pipe {
+    Some(ServePlan::Pipe {
         mode: mode_of(matches),
     })
 }
@@ -181,8 +181,8 @@ fn count_of(word: &str) -> Option<Option<u32>> {
 }
 
 /// How connections are served.
-fn service(matches: &ArgMatches, count: Option<u32>) -> GivenService {
-    GivenService {
+fn service(matches: &ArgMatches, count: Option<u32>) -> Service {
+    Service {
         mode: mode_of(matches),
         at_once: matches.get_one::<u32>("at-once").unwrap_or(1),
         idle: matches.get_one::<u32>("idle"),

@@ -3,14 +3,11 @@
 use crate::arguments::{Argument, Words, command_of};
 use crate::connections::asks_types;
 use crate::serving::{self, is_open};
-use crate::task::Task;
 use crate::{connections, files};
 use clap::{ArgMatches, Command, Error};
+use cp_commands::{BROKEN, Task};
 use std::alloc::{AllocError, Global};
 use std::{env, io};
-
-/// The status where the words aren't what a command takes.
-pub const WRONG: u8 = 2;
 
 /// The version of what users see.
 const VERSION: &str = "0.2.0";
@@ -85,7 +82,7 @@ fn act_by<A: Acts>(rt: &HostRuntime, matches: &ArgMatches) -> io::Result<u8> {
                 None => "",
             };
             eprintln!(rt; "error: not what `{name}` takes: see capnp_cli help {name}")?;
-            Ok(WRONG)
+            Ok(BROKEN)
         }
     }
 }

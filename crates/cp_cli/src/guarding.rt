@@ -1,9 +1,10 @@
 //! The rules of a guard, by the words of `relay`.
 
-use cli_files::{failed, schema_at};
-use cli_words::{Guarding, WRONG};
-use cp_guard::{CallLimits, RuleFault, Rules};
-use cp_schema::Schema;
+use cp_commands::{BROKEN, Guarding, failed, schema_at};
+use cp_methods::{RuleFault, named_methods, ruled_method};
+use cp_relay::{CallLimits, MethodId, MethodName, Rules};
+use cp_schema::{MethodNumber, Schema};
+use std::alloc::{AllocError, Global};
 use std::fs;
 
 /// Whether those that connect are guarded.
@@ -52,7 +53,7 @@ fn add_all(
     schema: &Schema,
     rules: &mut Rules,
 ) -> Result<(), u8> {
-    if rules.add_names(rt.alloc(), schema).is_err() {
+    if add_names(rt.alloc(), schema, rules).is_err() {
         return Err(refused(rt, "--schema", RuleFault::OutOfMemory));
     }
     rules.only = guarding.allow.is_some();
@@ -62,6 +63,17 @@ fn add_all(
         Some(path) => add_file(rt, schema, rules, path),
         None => Ok(()),
     }
+}
+
+/// Adds the names of a schema's methods.
+fn add_names(alloc: Global, schema: &Schema, rules: &mut Rules) -> Result<(), AllocError> {
+    for named in named_methods(alloc, schema)? {
+        rules.add_name(MethodName {
+            method: id_of(named.number),
+            name: named.name,
+        })?;
+    }
+    Ok(())
 }
 
 /// Adds the rules of words.
@@ -122,20 +134,40 @@ fn add_lines(rt: &HostRuntime, schema: &Schema, rules: &mut Rules, text: &str) -
 
 /// Adds a rule on a method.
 fn add(rt: &HostRuntime, schema: &Schema, rules: &mut Rules, word: &str) -> Result<(), u8> {
-    match rules.add_rule(rt.alloc(), schema, word) {
+    match add_rule(rt.alloc(), schema, rules, word) {
         Ok(()) => Ok(()),
         Err(fault) => Err(refused(rt, word, fault)),
+    }
+}
+
+/// Adds a rule on the method that a word names.
+fn add_rule(
+    alloc: Global,
+    schema: &Schema,
+    rules: &mut Rules,
+    word: &str,
+) -> Result<(), RuleFault> {
+    let number = ruled_method(alloc, schema, word)?;
+    rules.add_rule(id_of(number))?;
+    Ok(())
+}
+
+/// A schema's method, as rules have it.
+fn id_of(number: MethodNumber) -> MethodId {
+    MethodId {
+        interface: number.interface,
+        method: number.method,
     }
 }
 
 /// Says why a word is no rule, and gives the status.
 fn refused(rt: &HostRuntime, word: &str, fault: RuleFault) -> u8 {
     let _ = eprintln!(rt; "error: {word}: {fault}");
-    WRONG
+    BROKEN
 }
 
 /// Says what is wrong with a line, and gives the status.
 fn mistaken(rt: &HostRuntime, line: &str, what: &str) -> u8 {
     let _ = eprintln!(rt; "error: {line}: {what}");
-    WRONG
+    BROKEN
 }

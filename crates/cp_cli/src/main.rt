@@ -1,12 +1,13 @@
 //! `capnp_cli`: shows the messages of Cap'n Proto streams, and serves, relays and calls over connections.
 #![tactic(auto)]
 
-mod connections;
 mod guarding;
+mod relaying;
 
-use cli_files::{act_on_file, failed, print_types};
-use cli_words::{Acts, Task, run};
-use connections::{call, on_loop, relay, serve};
+use cli_connections::{call, loop_file, print_types, serve};
+use cli_words::{Acts, run};
+use cp_commands::{Task, act_on_file, failed};
+use relaying::relay;
 use std::process::ExitCode;
 
 /// All commands.
@@ -15,18 +16,12 @@ struct All;
 impl Acts for All {
     fn act(rt: &HostRuntime, task: &Task) -> u8 {
         match task {
-            Task::OnFile { command, path } => act_on_file(rt, command, path),
-            Task::Loop { mode, path } => {
-                on_loop(rt, *mode, path).unwrap_or_else(|error| failed(rt, path, error))
-            }
-            Task::Serve(serving) => serve(rt, serving),
-            Task::Relay(relaying) => relay(rt, relaying).unwrap_or_else(|error| failed(
-                rt,
-                relaying.target,
-                error,
-            )),
-            Task::Call(calling) => call(rt, calling),
-            Task::Types(asked) => print_types(rt, asked),
+            Task::OnFile(task) => act_on_file(rt, task),
+            Task::Loop { mode, path } => loop_file(rt, *mode, path),
+            Task::Serve(plan) => serve(rt, plan),
+            Task::Relay(task) => relay(rt, task),
+            Task::Call(plan) => call(rt, plan),
+            Task::Types(plan) => print_types(rt, plan),
         }
     }
 }

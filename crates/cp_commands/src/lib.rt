@@ -1,19 +1,27 @@
-//! What `capnp_cli` does with a file, over a reader and two writers.
+//! What `capnp_cli` is asked to do, and what it does with a file, over a reader and two writers.
 #![tactic(auto)]
 
 mod asked;
 mod batch;
+mod by_schema;
 mod fault;
+mod files;
 mod foreign;
 mod names;
 mod plan;
 mod status;
 mod stop;
+mod task;
 mod texts;
 
 pub use asked::Asked;
+pub use files::{BUFFER, STDIN, act_on_file, failed, schema_at};
 pub use foreign::{foreign_protocol, is_other_form};
 pub use names::Names;
 pub use plan::{Plan, act};
 pub use status::{ACCEPTED, BROKEN, CLOSED, REFUSED};
+pub use task::{
+    CallPlan, EncodePlan, FileTask, Guarding, ListenAddress, RelayForm, RelayRoute, RelayTask,
+    ServePlan, Service, ShowPlan, Task, TypesPlan,
+};
 pub use texts::{Encoding, encode};

@@ -3,8 +3,8 @@
 use crate::notation::{separate, tree};
 use cp_reading::View;
 use cp_rpc::{
-    CallView, Context, DescriptorView, DisembargoView, ExceptionKind, ExceptionView, MessageIn,
-    MessageText, MessageView, Op, PayloadView, PromisedAnswerView, ResolutionView, ResolveView,
+    CallView, Context, DescriptorView, DisembargoView, Exception, ExceptionKind, ExceptionView,
+    MessageIn, MessageView, Op, PayloadView, PromisedAnswerView, ResolutionView, ResolveView,
     ReturnView, ReturnedView, SendResultsToView, TargetView,
 };
 use std::alloc::{AllocError, Global};
@@ -45,6 +45,25 @@ pub fn push_line(
         }
     }
     line.push('\n')
+}
+
+/// Adds an exception: its type, its reason between quotes, and, where there is one, its trace.
+pub fn push_exception(line: &mut String, exception: &Exception) -> Result<(), AllocError> {
+    match exception.kind {
+        ExceptionKind::Failed => line.push_str("failed")?,
+        ExceptionKind::Overloaded => line.push_str("overloaded")?,
+        ExceptionKind::Disconnected => line.push_str("disconnected")?,
+        ExceptionKind::Unimplemented => line.push_str("unimplemented")?,
+        ExceptionKind::Unknown(number) => write!(line, "unknown:{}", number.number())?,
+    }
+    line.push(' ')?;
+    text(line, exception.reason.as_str())?;
+    let trace = exception.trace.as_str();
+    if !trace.is_empty() {
+        line.push_str(" trace ")?;
+        text(line, trace)?;
+    }
+    Ok(())
 }
 
 /// A call: `call q=N to=TARGET i=H m=N results=R params=P`.
@@ -178,33 +197,23 @@ fn descriptor(line: &mut String, view: &DescriptorView<View>) -> Result<(), Allo
     }
 }
 
-/// An exception: its type, its reason between quotes, and, where there is one, its trace.
+/// An exception that is read in place.
 fn exception(
     alloc: Global,
     line: &mut String,
     view: &ExceptionView<View>,
 ) -> Result<(), AllocError> {
-    match view.kind {
-        ExceptionKind::Failed => line.push_str("failed")?,
-        ExceptionKind::Overloaded => line.push_str("overloaded")?,
-        ExceptionKind::Disconnected => line.push_str("disconnected")?,
-        ExceptionKind::Unimplemented => line.push_str("unimplemented")?,
-        ExceptionKind::Unknown(number) => write!(line, "unknown:{}", number.number())?,
-    }
-    line.push(' ')?;
-    text(alloc, line, &view.reason)?;
-    if !view.trace.is_empty() {
-        line.push_str(" trace ")?;
-        text(alloc, line, &view.trace)?;
-    }
-    Ok(())
+    let owned = view.exception(alloc)?;
+    let pushed = push_exception(line, &owned);
+    drop(owned);
+    pushed
 }
 
 /// A text between quotes. Bytes outside 20 to 7e, the quote and the backslash are written as `\x`
 /// and two hexadecimal digits.
-fn text(alloc: Global, line: &mut String, view: &MessageText<View>) -> Result<(), AllocError> {
+fn text(line: &mut String, text: &str) -> Result<(), AllocError> {
     line.push('"')?;
-    for byte in view.text(alloc)?.as_str().as_bytes() {
+    for byte in text.as_bytes() {
         match *byte {
             // So that the line stays one, of ASCII.
             b'"' | b'\\' | 0..0x20 | 0x7f.. => write!(line, "\\x{byte:02x}")?,

@@ -1,4 +1,5 @@
-//! Calls of a schema's methods as one types them, `Notebook.add (text = "milk")`, and the interfaces and types of a request as text.
+//! Calls of a schema's methods as one types them, `Notebook.add (text = "milk")`, the methods that rules name, and the interfaces and types
+//! of a request as text.
 #![tactic(auto)]
 
 mod calls;
@@ -10,10 +11,12 @@ mod given;
 mod listing;
 mod mentions;
 mod results;
+mod rules;
 mod word;
 
 pub use calls::{CallReader, NamedCall};
 pub use describing::{describe, nearest_names, type_named};
 pub use listing::list_methods;
 pub use results::results_line;
+pub use rules::{NamedMethod, RuleFault, named_methods, ruled_method};
 pub use word::{is_named, plain_params};

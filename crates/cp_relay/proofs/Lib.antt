@@ -1,2 +1,6 @@
 pub mod Passing
 pub mod Streams
+pub mod One
+pub mod Filtering
+pub mod Allowed
+pub mod Once

@@ -213,6 +213,8 @@ module _ {V : Type 0} (says : V → Message → Bool → V → Type 0) (p : Pass
         front = g.front;
         whole = g.whole;
         shorter = g.shorter;
+        sent = sent;
+        goes_out = goes;
         went_on = refl;
         goes_on = refl;
         same_stream = record { output = output; mode = ap (λ (r : frames.Reader). r.mode) read ∙ g.same_mode; limits = ap (λ (r : frames.Reader). r.limits) read ∙ g.same_limits };
@@ -250,6 +252,7 @@ module _ {V : Type 0} (says : V → Message → Bool → V → Type 0) (p : Pass
   pub gives_none : (reader : frames.Reader) (new : Passage) (piece : List ℕ) (v : V) (out : List ℕ) → frames.Gives p.frames piece reader []
       → new.output ≡ p.output → new.kept.items ≡ kept_with p.output p.kept.items piece → new.frames ≡ reader → new.at ≡ p.at → GivesNone says (seen p None) piece (seen new None) v v out out
   gives_none reader new piece v out g output kept read at = record {
+    nothing = refl;
     went_on = refl;
     goes_on = refl;
     same_stream = record { output = output; mode = ap (λ (r : frames.Reader). r.mode) read ∙ g.same_mode; limits = ap (λ (r : frames.Reader). r.limits) read ∙ g.same_limits };

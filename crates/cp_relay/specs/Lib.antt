@@ -1,3 +1,11 @@
 pub mod Relay
 pub mod Passage
 pub mod Runs
+pub mod Rules
+pub mod Answer
+pub mod State
+pub mod Judged
+pub mod Guard
+pub mod Filter
+pub mod Allowed
+pub mod Once

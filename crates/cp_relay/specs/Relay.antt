@@ -103,11 +103,13 @@ pub record Repeats {V : Type 0} (old new : Relay) (before after : V) (out now : 
   pub unasked : after ≡ before
   pub nothing : now ≡ out
 
--- The piece was read up to the end of a frame, whose message went out.
+-- The piece was read up to the end of a frame, whose message went out, after what was there.
 pub record GivesNext {V : Type 0} (says : V → Message → Bool → V → Type 0) (old : Relay) (piece : List ℕ) (new : Relay) (before after : V) (out now back : List ℕ) : Type 0 where
   pub front : List ℕ
   pub whole : piece ≡ front ++ back
   pub shorter : length back < length piece
+  pub sent : List ℕ
+  pub goes_out : now ≡ out ++ sent
   pub went_on : old.fault ≡ None
   pub goes_on : new.fault ≡ None
   pub same_stream : IsSameStream old new
@@ -115,6 +117,7 @@ pub record GivesNext {V : Type 0} (says : V → Message → Bool → V → Type 
 
 -- The piece was read, and nothing ends in it.
 pub record GivesNone {V : Type 0} (says : V → Message → Bool → V → Type 0) (old : Relay) (piece : List ℕ) (new : Relay) (before after : V) (out now : List ℕ) : Type 0 where
+  pub nothing : now ≡ out
   pub went_on : old.fault ≡ None
   pub goes_on : new.fault ≡ None
   pub same_stream : IsSameStream old new

@@ -1,5 +1,7 @@
-//! What holds of every stream.
+//! What holds of every stream, and of every message that is judged.
 
+ghost use Rattle.cp_relay.specs.Allowed.{OnlyAllowed, AllowedPass};
+ghost use Rattle.cp_relay.specs.Once.{AnsweredOnce, DropsFinishes, Remembers};
 ghost use Rattle.cp_relay.specs.Runs.{FeedsStream, FeedsSame};
 
 use crate::visitor::Visitor;
@@ -8,4 +10,19 @@ use crate::visitor::Visitor;
 pub fn any_cut<V: Visitor>()
     ensures all { FeedsStream V.says }
     ensures any { FeedsSame V.says }
+{}
+
+/// Whatever a caller sends, what goes to the callee is allowed: no call of a method that may not be called, and nothing that names
+/// a question that was refused. And what is allowed goes as it came, unless a limit is met.
+pub fn only_allowed()
+    ensures only { OnlyAllowed }
+    ensures pass { AllowedPass }
+{}
+
+/// A question that is refused is answered once: it is remembered up to its Finish, which goes nowhere, and a remembered question isn't
+/// answered again. Nothing else is answered by the guard, and nothing else goes nowhere while the connection goes on.
+pub fn answered_once()
+    ensures answers { AnsweredOnce }
+    ensures drops { DropsFinishes }
+    ensures remembers { Remembers }
 {}

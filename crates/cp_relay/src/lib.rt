@@ -1,16 +1,27 @@
-//! A guard for one direction of a connection: bytes go in, in any pieces, and what comes out are the frames of
-//! the messages that were accepted.
+//! What is let through of a connection. A `Relay` of one direction: bytes go in, in any pieces, and the frames of the messages
+//! that were accepted come out. A `Guard` of both, which judges the calls of one end by `Rules`, with a `Filter` for each.
 #![tactic(auto)]
 
+mod answer;
+mod caps;
 mod fault;
+mod filter;
+mod guard;
 mod laws;
 mod output;
 mod passage;
 mod relay;
+mod rules;
+mod ruling;
+mod state;
 mod visitor;
 
 pub use fault::{RelayFault, Why};
-pub use laws::any_cut;
+pub use filter::{Filter, FilterFault};
+pub use guard::{Guard, JudgedCall};
+pub use laws::{answered_once, any_cut, only_allowed};
 pub use output::Output;
 pub use relay::Relay;
+pub use rules::{CallLimits, MethodId, MethodName, Rules};
+pub use ruling::{Breach, Cause, Ruling};
 pub use visitor::{Everything, Visitor};

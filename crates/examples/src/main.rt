@@ -1,17 +1,13 @@
-//! Runs each example on its file of `data/`, under a heading. With the word `server` it serves a notebook, with `client` it calls it, and with `chat` it serves a chat room.
+//! Runs each example on its file of `data/`, under a heading. With the word `server` it serves a notebook, and with `client` it calls it.
 #![tactic(auto)]
 
 mod book;
-mod call;
-mod chat_server;
-mod chat_test;
 mod connection;
 mod count;
 mod draft;
 mod notebook_client;
 mod notebook_server;
 mod notebook_test;
-mod serve;
 mod vat;
 mod view;
 mod write;
@@ -22,7 +18,6 @@ fn main(rt: HostRuntime) -> anyhow::Result<()> {
     match env::args(&rt)?.nth(1) {
         Some(word) if word.as_str() == "server" => notebook_server::run(&rt),
         Some(word) if word.as_str() == "client" => notebook_client::run(&rt),
-        Some(word) if word.as_str() == "chat" => chat_server::run(&rt),
         _ => run_all(&rt),
     }
 }
@@ -39,18 +34,12 @@ fn run_all(rt: &HostRuntime) -> anyhow::Result<()> {
     book::run(rt)?;
     heading(rt, "draft")?;
     draft::run(rt)?;
-    heading(rt, "serve")?;
-    serve::run(rt)?;
-    heading(rt, "call")?;
-    call::run(rt)?;
     heading(rt, "connection")?;
     connection::run(rt)?;
     heading(rt, "vat")?;
     vat::run(rt)?;
     heading(rt, "notebook_test")?;
-    notebook_test::run(rt)?;
-    heading(rt, "chat_test")?;
-    chat_test::run(rt)
+    notebook_test::run(rt)
 }
 
 /// Prints an example's name on a line of its own.

@@ -203,7 +203,7 @@
 //! `serve` takes one connection's reader and writer, and the objects that its peer may call. Their list is fixed, so `--interfaces` in place
 //! of `--services` generates their traits:
 //!
-//! ```rust crates/examples/src/serve.rt
+//! ```rust tests/more_examples/src/serve.rs
 //! let texts = BTreeMap::new(alloc);
 //! let object = Shelf { alloc, texts };
 //! let mut objects: Vec<Box<dyn Servant>> = Vec::new(alloc);
@@ -228,7 +228,7 @@
 //!
 //! A client over that code puts a text into the store and gets it back, in one round trip:
 //!
-//! ```rust crates/examples/src/call.rt whole
+//! ```rust tests/more_examples/src/call.rs whole
 //! #![tactic(auto)]
 //!
 //! use jamdrosek::client::Client;

@@ -2,9 +2,9 @@
 use Rattle.std.proofs.Common.{◌≡◌, ℕ, List, Option, None, Some, Result, subst}
 use Rattle.std.specs.Global.{Box}
 use Rattle.c_handles.specs.declared.code.CallFault.{CallFault}
-use Rattle.c_connections.specs.Connection.{TakesAs}
-use Rattle.c_connections.specs.ConnectionOwned.{TookBox}
-use Rattle.c_connections.specs.declared.connection.ConnectionState.{ConnectionState}
+use Rattle.c_handles.specs.Connection.{TakesAs}
+use Rattle.c_handles.specs.Handle.{TookBox}
+use Rattle.c_handles.specs.declared.connection.ConnectionState.{ConnectionState}
 use Rattle.jamdrosek_c.specs.Connection.{Through, Takes}
 use Rattle.jamdrosek_c.specs.Tell.{TellsNumber}
 

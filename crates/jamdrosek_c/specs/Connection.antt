@@ -14,14 +14,14 @@ use Rattle.c_handles.specs.declared.code.CallFault.{CallFault}
 use Rattle.c_handles.specs.declared.code.Spot.{Spot}
 use Rattle.c_handles.specs.declared.method.MethodNumbers.{MethodNumbers}
 use Rattle.c_handles.specs.Code.{code_of, spot_of, nowhere}
-use Rattle.c_connections.specs.declared.caps.CapNumbers.{CapNumbers}
-use Rattle.c_connections.specs.declared.connection.ConnectionState.{ConnectionState}
-use Rattle.c_connections.specs.declared.event.EventNumbers.{EventNumbers}
-use Rattle.c_connections.specs.declared.event.OriginNumbers.{OriginNumbers}
-use Rattle.c_connections.specs.Caps.{of_kind}
-use Rattle.c_connections.specs.Event.{nothing, numbers_of, origin_of}
-use Rattle.c_connections.specs.Fault.{fault_of}
-use Rattle.c_connections.specs.Connection.{ChangesOnly, ActsAs, TakesAs, EndsAs, Resolves, Calls, Answers, Fails, Keeps, LendsContent, LendsNone, HasCap, HasNoCap, LendsReason, LendsNoReason}
+use Rattle.c_handles.specs.declared.caps.CapNumbers.{CapNumbers}
+use Rattle.c_handles.specs.declared.connection.ConnectionState.{ConnectionState}
+use Rattle.c_handles.specs.declared.event.EventNumbers.{EventNumbers}
+use Rattle.c_handles.specs.declared.event.OriginNumbers.{OriginNumbers}
+use Rattle.c_handles.specs.Caps.{of_kind}
+use Rattle.c_handles.specs.Event.{nothing, numbers_of, origin_of}
+use Rattle.c_handles.specs.Fault.{fault_of}
+use Rattle.c_handles.specs.Connection.{ChangesOnly, ActsAs, TakesAs, EndsAs, Resolves, Calls, Answers, Fails, Keeps, LendsContent, LendsNone, HasCap, HasNoCap, LendsReason, LendsNoReason}
 use Rattle.jamdrosek_c.specs.Tell.{TellsNumber, done_code}
 
 -- the object that a Bootstrap gets, if there is one

@@ -4,7 +4,7 @@ ghost use Rattle.std.specs.Prelude.{◌≡◌, ◌≢◌, None};
 ghost use Rattle.cp_vat_machine.specs.declared.event.Event.TheVariants as events;
 ghost use Rattle.cp_vat_machine.specs.declared.event.Value.TheVariants as values;
 ghost use Rattle.c_handles.specs.Limits.{bounds_of};
-ghost use Rattle.c_connections.specs.Connection.{LendsContent, LendsNone, LendsReason, LendsNoReason};
+ghost use Rattle.c_handles.specs.Connection.{LendsContent, LendsNone, LendsReason, LendsNoReason};
 ghost use Rattle.jamdrosek_c.specs.Reader.{mode_of, IsAllowedFor};
 ghost use Rattle.jamdrosek_c.specs.Connection as through;
 ghost use Rattle.jamdrosek_c.specs.Connection.{Opens, Through, Takes, Ends, Asks, Acts, CallsFor, AnswersTo, FailsTo, Settles};
@@ -13,10 +13,10 @@ ghost use Rattle.jamdrosek_c.specs.Connection.{Lends, LendsOutgoing, Writes, Han
 use crate::tell::{
     CLOSED, DONE, NO_MEMORY, mode_of, tell_bytes, tell_cap, tell_count, tell_number,
 };
-use c_connections::{
-    CapNumbers, ConnectionHandle, ConnectionState, EventNumbers, OriginNumbers, fault_of,
+use c_handles::{
+    Bytes, CallFault, CapNumbers, ConnectionHandle, ConnectionState, EventNumbers, LimitNumbers,
+    MethodNumbers, NOWHERE, OriginNumbers, Spot, fault_of,
 };
-use c_handles::{Bytes, CallFault, LimitNumbers, MethodNumbers, NOWHERE, Spot};
 use cp_connection::ConnectionFault;
 use std::alloc::Global;
 

@@ -5,8 +5,7 @@ ghost use Rattle.jamdrosek_c.specs.Reader.{mode_of};
 ghost use Rattle.jamdrosek_c.specs.Connection.{TellsCap};
 ghost use Rattle.jamdrosek_c.specs.Tell.{Tells, TellsStep, TellsNumber, TellsNumbers, end_code, done_code};
 
-use c_connections::CapNumbers;
-use c_handles::{CallFault, MessageNumbers, NOWHERE, Spot};
+use c_handles::{CallFault, CapNumbers, MessageNumbers, NOWHERE, Spot};
 use cp_frame::{FrameFault, Mode};
 
 /// All went well.

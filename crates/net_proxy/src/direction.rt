@@ -3,8 +3,7 @@
 use crate::gate::{Gate, GateFault, PairGuard};
 use crate::read_buffer::{PIECE, ReadBuffer};
 use crate::watch::Watch;
-use cp_guard::Breach;
-use cp_relay::RelayFault;
+use cp_relay::{Breach, RelayFault};
 use cp_stream::Refusal;
 use net_sockets::{Got, NonblockingStream};
 use std::alloc::{AllocError, Global};

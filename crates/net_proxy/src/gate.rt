@@ -2,8 +2,7 @@
 
 use crate::read_buffer::PIECE;
 use crate::watch::Watch;
-use cp_guard::{Breach, Filter, FilterFault, Guard, Rules};
-use cp_relay::{Relay, RelayFault, Why};
+use cp_relay::{Breach, Filter, FilterFault, Guard, Relay, RelayFault, Rules, Why};
 use cp_stream::Refusal;
 use std::alloc::Global;
 use std::io::Write;

@@ -11,4 +11,4 @@ mod target;
 mod watch;
 
 pub use gate::GuardPlan;
-pub use plan::{RelayPlan, RelayRoute, relay_port};
+pub use plan::{RelayPlan, relay_port};

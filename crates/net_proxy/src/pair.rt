@@ -2,8 +2,9 @@
 
 use crate::direction::{Direction, DirectionEnd, is_reset};
 use crate::gate::PairGuard;
-use crate::plan::{ACCEPTED, BROKEN, REFUSED, RelayPlan};
+use crate::plan::RelayPlan;
 use crate::watch::{RelayedFrom, Watch};
+use cp_commands::{ACCEPTED, BROKEN, REFUSED};
 use cp_frame::FrameFault;
 use cp_relay::Why;
 use cp_stream::Refusal;

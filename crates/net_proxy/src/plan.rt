@@ -4,59 +4,32 @@ use crate::gate::{Gate, GuardPlan, PairGuard};
 use crate::proxy::Proxy;
 use crate::target::Target;
 use crate::watch::Watch;
+use cp_commands::{BROKEN, RelayForm, RelayRoute};
 use cp_frame::Mode;
-use cp_guard::Filter;
-use cp_relay::{Output, Relay};
-use cp_words::Limits;
+use cp_relay::{Filter, Output, Relay};
 use net_sockets::{Incoming, Listener};
 use std::alloc::{AllocGlobal, Global};
 use std::io::{self, Write};
-use std::net::{Net, SocketAddr};
+use std::net::Net;
 use std::time::Clock;
-
-/// Everything was let through.
-pub(crate) const ACCEPTED: u8 = 0;
-/// Something was refused.
-pub(crate) const REFUSED: u8 = 1;
-/// A connection failed.
-pub(crate) const BROKEN: u8 = 2;
-
-/// The connections that are relayed.
-#[derive(Clone, Copy)]
-pub struct RelayRoute<'a> {
-    /// The address that takes them.
-    pub address: SocketAddr,
-    /// A `HOST:PORT`, or the path of a Unix socket, to which one is made for each.
-    pub target: &'a str,
-    /// How many are taken.
-    pub count: u32,
-}
 
 /// How the messages of a connection are relayed.
 #[derive(Clone, Copy)]
 pub struct RelayPlan<'r> {
-    /// The form of the frames of those that connect.
-    pub near: Mode,
-    /// The form of the target's frames.
-    pub far: Mode,
-    /// Whether each message is written anew, as it is anyway where the two forms differ.
-    pub anew: bool,
-    pub limits: Limits,
-    /// Whether each message that goes is printed as a line.
-    pub shows: bool,
-    /// How those that connect are guarded, if they are. Then `shows` says nothing.
+    pub form: RelayForm,
+    /// How those that connect are guarded, if they are.
     pub guard: Option<GuardPlan<'r>>,
 }
 
 impl<'r> RelayPlan<'r> {
     /// What lets messages to the target through.
     pub(crate) fn there(&self, alloc: Global) -> Gate {
-        self.gate(alloc, self.near, self.output(self.far), false)
+        self.gate(alloc, self.form.near, self.output(self.form.far), false)
     }
 
     /// What lets the messages that come back through.
     pub(crate) fn back(&self, alloc: Global) -> Gate {
-        self.gate(alloc, self.far, self.output(self.near), true)
+        self.gate(alloc, self.form.far, self.output(self.form.near), true)
     }
 
     /// The guard of a connection, if it has one.
@@ -70,16 +43,16 @@ impl<'r> RelayPlan<'r> {
     /// What lets messages of this form through.
     fn gate(&self, alloc: Global, from: Mode, output: Output, comes_back: bool) -> Gate {
         if self.guard.is_some() {
-            Gate::Filter(Filter::new(alloc, from, output, self.limits, comes_back))
+            Gate::Filter(Filter::new(alloc, from, output, self.form.limits, comes_back))
         } else {
-            Gate::Relay(Relay::new(alloc, from, output, self.limits))
+            Gate::Relay(Relay::new(alloc, from, output, self.form.limits))
         }
     }
 
     /// What goes out, in this form.
     fn output(&self, mode: Mode) -> Output {
         // A frame changes its form only as its message is written anew.
-        if self.anew || self.near != self.far {
+        if self.form.anew || self.form.near != self.form.far {
             Output::Anew(mode)
         } else {
             Output::AsRead
@@ -105,7 +78,7 @@ pub fn relay_port<N, W: Write + Drop, E: Write>(
 where
     N: Net + Clock + AllocGlobal,
 {
-    let mut watch = Watch::new(rt.alloc(), out, plan.shows, route.count > 1);
+    let mut watch = Watch::new(rt.alloc(), out, plan.form.shows, route.count > 1);
     match relay(rt, route, plan, &mut watch, err) {
         Ok(status) => status,
         Err(error) => {

@@ -5,11 +5,11 @@ ghost use Rattle.net_sockets.specs.Incoming.{came_of, count_of};
 
 use crate::direction::DirectionEnd;
 use crate::pair::{Pair, PairEnd, PairTurn};
-use crate::plan::{ACCEPTED, RelayPlan};
+use crate::plan::RelayPlan;
 use crate::target::Target;
 use crate::watch::Watch;
-use cp_guard::{Breach, Cause};
-use cp_schema::MethodNumber;
+use cp_commands::ACCEPTED;
+use cp_relay::{Breach, Cause, MethodId};
 use mio::{Events, Poll, Token};
 use net_sockets::{Incoming, NonblockingStream};
 use slab::Slab;
@@ -301,7 +301,7 @@ impl<'a, 'p, 'r> Proxy<'a, 'p, 'r> {
             return None;
         };
         let guard = self.plan.guard?;
-        Some(guard.rules.name_of(MethodNumber { interface, method }))
+        Some(guard.rules.name_of(MethodId { interface, method }))
     }
 }
 

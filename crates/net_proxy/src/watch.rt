@@ -1,9 +1,8 @@
 //! The lines of the messages that go.
 
 use crate::pair::arrow;
-use cp_guard::{Cause, JudgedCall, Rules};
 use cp_lines::push_line;
-use cp_relay::Visitor;
+use cp_relay::{Cause, JudgedCall, Rules, Visitor};
 use cp_rpc::MessageView;
 use std::alloc::{AllocError, Global};
 use std::io::{self, Write};

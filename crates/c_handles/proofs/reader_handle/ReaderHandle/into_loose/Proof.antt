@@ -24,13 +24,14 @@ use Rattle.std.proofs.alloc.Global.TheLaws as heap_laws
 use Rattle.std.proofs.raw_atomic.Walks.{proved_at, leaves}
 use Rattle.std.specs.contracts.option.Option as option
 use Rattle.std.specs.contracts.impls.GlobalAllocator.TheImpl.{ghosts}
-use Rattle.c_handles.specs.ReaderOwned.{Took}
+use Rattle.c_handles.specs.Handle.{Took}
 use Rattle.c_handles.specs.contracts.reader.ReaderState.{the_row as reader_row}
-use Rattle.c_handles.proofs.Values.{both, loose_good, loose_in}
+use Rattle.c_handles.proofs.Values.{both, Loose, loose_good, loose_in}
 use Rattle.std_alloc.proofs.ResultValues.{and_tt}
 use Rattle.std.specs.declared.option.Option.{Option}
 use Rattle.c_handles.specs.declared.reader.ReaderState.{ReaderState}
-use Rattle.c_handles.proofs.ReaderHandles.{ptr_good, ptr_tt, Z, Hd, Lr, word, with_tt, handle_out, either}
+use Rattle.c_handles.specs.contracts.reader_handle.ReaderHandle as handle
+use Rattle.c_handles.proofs.Handles.{ptr_good, ptr_tt, Z, word, with_tt, handle_out, either}
 use Rattle.c_handles.specs.contracts.reader_handle.ReaderHandle.into_loose.{ended, clauses}
 use Rattle.c_handles.specs.contracts.reader_handle.ReaderHandle.into_loose.Key.{name as #self}
 use Rattle.c_handles.proofs.reader_handle.ReaderHandle.into_loose.Statement.{statement}
@@ -38,12 +39,12 @@ use Rattle.c_handles.proofs.reader_handle.ReaderHandle.into_loose.Code as code
 
 pub into_loose_spec : {M : Type 1} → statement M
 into_loose_spec 𝓤 𝓛 𝓜 𝓡 wired =
-    let H = 𝓛.H in let 𝓣 = tables 𝓤 H 𝓜 𝓡 𝓡.env in let LZ = heap_laws.the_row_laws in let c = clauses 𝓛 𝓜.mem 𝓡.returns in let fn = code.function in
+    let H = 𝓛.H in let 𝓣 = tables 𝓤 H 𝓜 𝓡 𝓡.env in let LZ = heap_laws.the_row_laws in let c = clauses 𝓛 𝓜.mem 𝓡.returns in let fn = code.function in let Hd = handle.the_row in let Lr = Loose reader_row Z LZ ghosts in
     let hs : Stays ended.signature.params ended.kept = (stay_dropped (plain (λ _. Hd)) yes, tt) in
     proved_at 𝓛 ended hs c 𝓜 𝓡 (Goes-dropped 𝓛 0 (plain (λ _. Hd)) yes (λ κs x f. refl), tt) #self fn (code.unfolded 𝓤 H 𝓜 𝓡 wired) (λ z are.
     let Post : Val → SProp 𝓤 = (walk_of 𝓛 ended hs c).post z in let Run : List Val → SProp 𝓤 = λ ws. WpFn 𝓤 H 𝓣.C 𝓣.Λ fn ws Post in let v = z.0.3.0 in let Out : RattleType = option.the_row Lr in
-    qed 𝓛 ((‵ ftrue ⊛ ‵ (owns (types_at ended.signature.params z.0.0) z.0.3 z.0.4)) ∷ raw (emp 𝓤) ∷ []) ∵ split ! $ move ! (1 ∷ []) $ fsplit ! $ handle_out ! v z.0.4.0 (λ h ws fits. keep ! (0 ∷ 1 ∷ []) $
-    either ! v.alloc v.at v.is_open v.value
+    qed 𝓛 ((‵ ftrue ⊛ ‵ (owns (types_at ended.signature.params z.0.0) z.0.3 z.0.4)) ∷ raw (emp 𝓤) ∷ []) ∵ split ! $ move ! (1 ∷ []) $ fsplit ! $ handle_out handle.the_type reader_row ! v.at v.alloc v.is_open v.value z.0.4.0 (λ h ws fits. keep ! (0 ∷ 1 ∷ []) $
+    either handle.the_type reader_row ! v.alloc v.at v.is_open v.value
     (λ b o x at_b is_open is_some. let w : Val = word (vptr b o) h true in let typed : Good (layout Hd) w = (with_tt _ fits.0, (tt, (fits.1, (tt, tt)))) in
     let made : Val = both (vptr b o) h in let fine = loose_good reader_row Z LZ ghosts b o h fits in let out : Val = live 1 (vcons made vnil) in let good : Good (layout Out) out = (and_tt _ fine.0, (record { fits = lit< tt }, (fine.1, tt))) in
     let d : Lr.Denot = record { at = block_ptr b o; alloc = v.alloc; value = x } in

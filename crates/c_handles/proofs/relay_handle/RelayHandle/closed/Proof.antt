@@ -20,7 +20,9 @@ use denote.Triple.Walked.{Stays, stay_dropped, walk_of, Goes-dropped}
 use Rattle.core.proofs.cell.Inside.{Good, one}
 use Rattle.std.proofs.alloc.Global.TheLaws as heap_laws
 use Rattle.std.proofs.raw_atomic.Walks.{proved_at, leaves}
-use Rattle.c_handles.proofs.RelayHandles.{Z, Hd, word, with_tt, handle_in}
+use Rattle.c_handles.specs.contracts.relay.RelayState.{the_row as relay_row}
+use Rattle.c_handles.specs.contracts.relay_handle.RelayHandle as handle
+use Rattle.c_handles.proofs.Handles.{Z, word, with_tt, handle_in}
 use Rattle.c_handles.specs.contracts.relay_handle.RelayHandle.closed.{ended, clauses}
 use Rattle.c_handles.specs.contracts.relay_handle.RelayHandle.closed.Key.{name as #self}
 use Rattle.c_handles.proofs.relay_handle.RelayHandle.closed.Statement.{statement}
@@ -28,7 +30,7 @@ use Rattle.c_handles.proofs.relay_handle.RelayHandle.closed.Code as code
 
 pub closed_spec : {M : Type 1} → statement M
 closed_spec 𝓤 𝓛 𝓜 𝓡 wired =
-    let H = 𝓛.H in let 𝓣 = tables 𝓤 H 𝓜 𝓡 𝓡.env in let LZ = heap_laws.the_row_laws in let c = clauses 𝓛 𝓜.mem 𝓡.returns in let fn = code.function in
+    let H = 𝓛.H in let 𝓣 = tables 𝓤 H 𝓜 𝓡 𝓡.env in let LZ = heap_laws.the_row_laws in let c = clauses 𝓛 𝓜.mem 𝓡.returns in let fn = code.function in let Hd = handle.the_row in
     let hs : Stays ended.signature.params ended.kept = (stay_dropped (plain (λ _. Z)) yes, tt) in
     proved_at 𝓛 ended hs c 𝓜 𝓡 (Goes-dropped 𝓛 0 (plain (λ _. Z)) yes (λ κs x f. refl), tt) #self fn (code.unfolded 𝓤 H 𝓜 𝓡 wired) (λ z are.
     let Post : Val → SProp 𝓤 = (walk_of 𝓛 ended hs c).post z in let Run : List Val → SProp 𝓤 = λ ws. WpFn 𝓤 H 𝓣.C 𝓣.Λ fn ws Post in
@@ -39,5 +41,5 @@ closed_spec 𝓤 𝓛 𝓜 𝓡 wired =
     suffices ! (Run (h.0 ∷ [])) (subst (λ (us : List Val). ent 𝓤 (Run (h.0 ∷ [])) (Run us)) (sym (λ i. h.1 i ++ [])) (id⊢ 𝓤 (Run (h.0 ∷ [])))) $
     enter ! 𝓣.C 𝓣.Λ fn (h.0 ∷ []) Post $ alloc_all ! (λ l. pass_all ! refl (h.2, tt) $
     sets ! (agg ! (and_then ! (lit ! tt) (and_then ! (get ! refl) (and_then ! (false_lit !) (no_more !))))) refl good $
-    nothing ! $ handle_in ! d h.0 $ use0 𝓛 (raw (fact 𝓤 (d.value ≡ None))) (fact_i 𝓤 (d.value ≡ None) (emp 𝓤) refl) $ nothing ! $ nothing ! $ fjoin ! $ nothing ! $
+    nothing ! $ handle_in handle.the_type relay_row ! null_ptr a false None h.0 $ use0 𝓛 (raw (fact 𝓤 (d.value ≡ None))) (fact_i 𝓤 (d.value ≡ None) (emp 𝓤) refl) $ nothing ! $ nothing ! $ fjoin ! $ nothing ! $
     returns ! (look_at ! 0 refl) $ free_all ! refl $ keep ! (0 ∷ 1 ∷ 3 ∷ 2 ∷ []) $ by ! (leaves 𝓛 ended hs c z w d (tt, tt) (tt, tt))))

@@ -1,3 +1,0 @@
-pub mod ConnectionHandles
-pub mod Naming
-pub mod Framing

@@ -1,6 +1,0 @@
--- `bootstrap` does what the call of the connection does.
-use Rattle.std.proofs.Common.{refl}
-use Rattle.c_connections.proofs.connection.ConnectionState.bootstrap.Goals as goal
-
-pub returns : goal.returns
-returns c = record { given = c.bootstrap.result; acts = c.bootstrap.ensures; result_is = c.told.ensures; changes = refl }

@@ -1,6 +1,0 @@
--- `promise` does what the call of the connection does.
-use Rattle.std.proofs.Common.{refl}
-use Rattle.c_connections.proofs.connection.ConnectionState.promise.Goals as goal
-
-pub returns : goal.returns
-returns c = record { given = c.promise.result; acts = c.promise.ensures; result_is = c.told.ensures; changes = refl }

@@ -1,6 +1,0 @@
-pub mod Fault
-pub mod Caps
-pub mod Content
-pub mod Event
-pub mod Connection
-pub mod ConnectionOwned

@@ -1,0 +1,6 @@
+-- `bootstrap` does what the call of the connection does.
+use Rattle.std.proofs.Common.{refl}
+use Rattle.c_handles.proofs.connection.ConnectionState.bootstrap.Goals as goal
+
+pub returns : goal.returns
+returns c = record { given = c.bootstrap.result; acts = c.bootstrap.ensures; result_is = c.told.ensures; changes = refl }

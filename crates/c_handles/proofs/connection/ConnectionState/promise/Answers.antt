@@ -1,0 +1,6 @@
+-- `promise` does what the call of the connection does.
+use Rattle.std.proofs.Common.{refl}
+use Rattle.c_handles.proofs.connection.ConnectionState.promise.Goals as goal
+
+pub returns : goal.returns
+returns c = record { given = c.promise.result; acts = c.promise.ensures; result_is = c.told.ensures; changes = refl }

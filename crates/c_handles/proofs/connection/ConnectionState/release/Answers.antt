@@ -1,0 +1,6 @@
+-- `release` does what the call of the connection does.
+use Rattle.std.proofs.Common.{refl}
+use Rattle.c_handles.proofs.connection.ConnectionState.release.Goals as goal
+
+pub returns : goal.returns
+returns c = record { given = c.release.result; acts = c.release.ensures; result_is = c.told.ensures; changes = refl }

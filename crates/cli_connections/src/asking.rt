@@ -1,0 +1,272 @@
+//! Calls and their outcomes, over a connection.
+
+use crate::duplex::{DuplexStream, Half};
+use crate::fault::CommandFault;
+use cp_client::{Client, ClientFault, Question};
+use cp_commands::{CallPlan, foreign_protocol, is_other_form};
+use cp_connection::ConnectionFault;
+use cp_lines::push_outcome_of;
+use cp_methods::results_line;
+use cp_refs::{Cap, Outcome, Request};
+use cp_schema::{MethodNumber, Schema};
+use cp_stream::DeviceError;
+use net_sockets::NonblockingStream;
+use std::alloc::Global;
+use std::cell::RefCell;
+use std::io::{ErrorKind, Write};
+use std::net::Net;
+
+/// Makes calls on the objects of the peer behind a stream, in one go, and prints what each came to.
+/// Says whether each has results.
+pub(crate) fn converse<'p, N: Net + AllocGlobal, O: Write>(
+    rt: &N,
+    stream: NonblockingStream,
+    plan: &CallPlan<'p, '_>,
+    schema: Option<&Schema>,
+    calls: Vec<(Cap, Request)>,
+    out: &mut O,
+) -> Result<bool, CommandFault<'p>> {
+    let alloc = rt.alloc();
+    let stream = match DuplexStream::new(rt, alloc, stream, plan) {
+        Ok(stream) => RefCell::new(stream),
+        Err(error) => {
+            drop(calls);
+            let address = plan.address;
+            return Err(CommandFault::Device { address, error });
+        }
+    };
+    let peer = Peer {
+        alloc,
+        stream: &stream,
+        plan,
+        schema,
+    };
+    let (from, to) = (Half::new(&stream), Half::new(&stream));
+    let mut client = Client::new(alloc, from, to, plan.mode, plan.limits);
+    let ended = ask(&mut client, &peer, calls, out);
+    // Only now is the stream closed: some peers take the end of what they read as that of the connection.
+    drop(client.into_devices());
+    let printed = peer.print_rest(out);
+    drop(stream);
+    match printed {
+        Ok(()) => ended,
+        Err(fault) => {
+            drop(ended);
+            Err(fault)
+        }
+    }
+}
+
+/// A client over both halves of a stream.
+type PeerClient<'a> = Client<Half<'a>, Half<'a>>;
+
+/// The peer of a client: by what its answers are printed, and what is told where it fails.
+/// It is apart from the client, which would cost each function here a proof of what it is made of.
+#[derive(Clone, Copy)]
+struct Peer<'a, 'p> {
+    alloc: Global,
+    stream: &'a RefCell<DuplexStream>,
+    plan: &'a CallPlan<'p, 'a>,
+    schema: Option<&'a Schema>,
+}
+
+/// A call that is made.
+#[derive(Clone, Copy)]
+struct Asked {
+    question: Question,
+    method: MethodNumber,
+}
+
+/// Makes calls, and prints what each came to. Says whether each has results.
+fn ask<'p, O: Write>(
+    client: &mut PeerClient<'_>,
+    peer: &Peer<'_, 'p>,
+    calls: Vec<(Cap, Request)>,
+    out: &mut O,
+) -> Result<bool, CommandFault<'p>> {
+    let mut asked = Vec::new(peer.alloc);
+    let told = match call_all(client, calls, &mut asked) {
+        Ok(()) => tell_all(client, peer, &asked, out),
+        Err(fault) => Err(fault),
+    };
+    drop(asked);
+    told
+}
+
+/// Asks for the bootstrap, question 0, and makes calls. They are sent when an outcome is waited for.
+fn call_all(
+    client: &mut PeerClient<'_>,
+    calls: Vec<(Cap, Request)>,
+    asked: &mut Vec<Asked>,
+) -> Result<(), CommandFault<'static>> {
+    if let Err(fault) = client.bootstrap() {
+        drop(calls);
+        return Err(CommandFault::from(fault));
+    }
+    for (cap, request) in calls {
+        call_one(client, cap, request, asked)?;
+    }
+    Ok(())
+}
+
+/// Makes a call, and adds its question.
+fn call_one(
+    client: &mut PeerClient<'_>,
+    cap: Cap,
+    request: Request,
+    asked: &mut Vec<Asked>,
+) -> Result<(), CommandFault<'static>> {
+    let number = asked.len().saturating_add(1);
+    let method = MethodNumber {
+        interface: request.interface,
+        method: request.method,
+    };
+    match client.call(cap, request) {
+        Ok(question) => Ok(asked.push(Asked { question, method })?),
+        Err(fault) => Err(CommandFault::Unmade { number, fault }),
+    }
+}
+
+/// Waits for what each call came to, and prints it. Says whether each has results.
+fn tell_all<'p, O: Write>(
+    client: &mut PeerClient<'_>,
+    peer: &Peer<'_, 'p>,
+    asked: &[Asked],
+    out: &mut O,
+) -> Result<bool, CommandFault<'p>> {
+    let mut all = true;
+    for asked in asked {
+        match client.wait(asked.question) {
+            Ok(outcome) => all &= peer.tell(*asked, outcome, out)?,
+            Err(fault) => return Err(peer.fault(client, fault)),
+        }
+    }
+    Ok(all)
+}
+
+impl<'a, 'p> Peer<'a, 'p> {
+    /// Prints what a call came to. Says whether it has results.
+    fn tell<O: Write>(
+        &self,
+        asked: Asked,
+        outcome: Outcome,
+        out: &mut O,
+    ) -> Result<bool, CommandFault<'p>> {
+        let has_results = matches!(outcome, Outcome::Results { .. });
+        let printed = self.print(asked, &outcome, out);
+        drop(outcome);
+        printed?;
+        Ok(has_results)
+    }
+
+    /// Prints what a call came to: by the names of the schema, where there is one that has its method, else by numbers.
+    fn print<O: Write>(
+        &self,
+        asked: Asked,
+        outcome: &Outcome,
+        out: &mut O,
+    ) -> Result<(), CommandFault<'p>> {
+        let mut plain = String::new(self.alloc);
+        push_outcome_of(self.alloc, &mut plain, asked.question.number, outcome)?;
+        match self.named(&plain, asked.method, outcome)? {
+            Some(line) => {
+                let printed = self.print_line(line.as_str(), out);
+                drop(line);
+                printed
+            }
+            None => self.print_line(&plain, out),
+        }
+    }
+
+    /// The line of results by the names of the schema.
+    fn named(
+        &self,
+        plain: &str,
+        method: MethodNumber,
+        outcome: &Outcome,
+    ) -> Result<Option<String>, CommandFault<'p>> {
+        match (self.schema, outcome) {
+            (Some(schema), Outcome::Results { content, .. }) => {
+                let limits = self.plan.limits;
+                Ok(results_line(self.alloc, schema, method, plain, content, limits)?)
+            }
+            _ => Ok(None),
+        }
+    }
+
+    /// Why the calls of this client come to nothing.
+    fn fault(&self, client: &PeerClient<'_>, fault: ClientFault) -> CommandFault<'p> {
+        match fault {
+            ClientFault::Device(error) => self.device(error),
+            fault => self.refusal(client, fault),
+        }
+    }
+
+    /// The same, where no device failed.
+    fn refusal(&self, client: &PeerClient<'_>, fault: ClientFault) -> CommandFault<'p> {
+        if let Some(reason) = client.closed() {
+            match format!(in self.alloc; "{reason}") {
+                Ok(reason) => return CommandFault::Closed(reason),
+                Err(error) => return CommandFault::from(error),
+            }
+        }
+        match fault {
+            ClientFault::Connection(ConnectionFault::Unreadable { at: 0, .. }) => {
+                self.first_fault(fault)
+            }
+            fault => CommandFault::Refused(fault),
+        }
+    }
+
+    /// Why the peer's first bytes can't be read.
+    fn first_fault(&self, fault: ClientFault) -> CommandFault<'p> {
+        let Ok(stream) = self.stream.try_borrow_mut() else {
+            return CommandFault::Refused(fault);
+        };
+        let mode = self.plan.mode;
+        let protocol = foreign_protocol(&stream.first);
+        let is_other_form = is_other_form(mode, &stream.first);
+        drop(stream);
+        match protocol {
+            Some(protocol) => CommandFault::Foreign { fault, protocol },
+            None if is_other_form => CommandFault::OtherForm { fault, mode },
+            None => CommandFault::Refused(fault),
+        }
+    }
+
+    /// Why a device failed: it has an error, or nothing came in time.
+    fn device(&self, error: DeviceError) -> CommandFault<'p> {
+        // Where the system says that a time is over, the error has its number.
+        let address = self.plan.address;
+        let is_silent = error == DeviceError::from(ErrorKind::TimedOut);
+        match self.plan.timeout {
+            Some(seconds) if is_silent => CommandFault::Silent { address, seconds },
+            _ => CommandFault::Device {
+                address,
+                error: error.into(),
+            },
+        }
+    }
+
+    /// Prints the messages that weren't, and has all that is printed go out.
+    fn print_rest<O: Write>(&self, out: &mut O) -> Result<(), CommandFault<'p>> {
+        self.print_messages(out)?;
+        Ok(out.flush()?)
+    }
+
+    /// Prints the messages that weren't, and a line.
+    fn print_line<O: Write>(&self, line: &str, out: &mut O) -> Result<(), CommandFault<'p>> {
+        self.print_messages(out)?;
+        Ok(out.write_all(line.as_bytes())?)
+    }
+
+    /// Prints the messages that weren't.
+    fn print_messages<O: Write>(&self, out: &mut O) -> Result<(), CommandFault<'p>> {
+        let Ok(mut stream) = self.stream.try_borrow_mut() else {
+            return Ok(());
+        };
+        let printed = stream.log.print(out);
+        drop(stream);
+        Ok(printed?)
+    }
+}

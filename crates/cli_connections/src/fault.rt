@@ -1,0 +1,209 @@
+//! What stops a conversation.
+
+use cp_client::ClientFault;
+use cp_commands::{BROKEN, CLOSED, REFUSED};
+use cp_connection::ConnectionFault;
+use cp_encoder::{EncodeFault, NotationFault};
+use cp_frame::Mode;
+use cp_lines::Wrong;
+use cp_schema::DecodeFault;
+use std::alloc::{AllocError, AllocFailed};
+use std::fmt::{self, Display};
+use std::io::{self, ErrorKind, Write};
+
+/// Why the calls didn't all come to an outcome. Addresses and paths are those of the words.
+#[derive(Drop)]
+pub(crate) enum CommandFault<'a> {
+    /// The word of this number isn't a call.
+    Word {
+        number: usize,
+        wrong: Wrong,
+    },
+    /// The word of this number isn't a call of the schema.
+    Named {
+        number: usize,
+        fault: EncodeFault,
+    },
+    /// The word of this number has names, and there is no schema.
+    Unnamed {
+        number: usize,
+    },
+    /// This isn't an address.
+    Address(&'a str),
+    /// The file of this path can't be read.
+    File {
+        path: &'a str,
+        error: io::Error,
+    },
+    /// The file of this path isn't a message.
+    Content {
+        path: &'a str,
+    },
+    /// The connection can't be made, or a call of it failed.
+    Device {
+        address: &'a str,
+        error: io::Error,
+    },
+    /// What is printed can't be written.
+    Printing(io::Error),
+    /// Nothing came or went in time.
+    Silent {
+        address: &'a str,
+        seconds: u32,
+    },
+    /// The vat closed, for this reason.
+    Closed(String),
+    /// The call of this number can't be made.
+    Unmade {
+        number: usize,
+        fault: ClientFault,
+    },
+    /// The connection ended, or memory ran out.
+    Refused(ClientFault),
+    /// The peer speaks another protocol than Cap'n Proto's.
+    Foreign {
+        fault: ClientFault,
+        protocol: &'static str,
+    },
+    /// The peer's frames can't be read in this form, and seem to have the other one.
+    OtherForm {
+        fault: ClientFault,
+        mode: Mode,
+    },
+}
+
+impl CommandFault<'_> {
+    /// Says what it is, unless it is that the reader of what is printed went away. Answers the status that the command ends with.
+    pub(crate) fn tell<E: Write>(&self, err: &mut E) -> u8 {
+        match self {
+            CommandFault::Printing(error) if error.kind() == ErrorKind::BrokenPipe => CLOSED,
+            fault => {
+                let _ = writeln!(err, "{fault}");
+                fault.status()
+            }
+        }
+    }
+
+    /// The status after it was said.
+    fn status(&self) -> u8 {
+        match self {
+            CommandFault::Content { .. }
+            | CommandFault::Closed(_)
+            | CommandFault::Unmade { .. }
+            | CommandFault::Refused(_)
+            | CommandFault::Foreign { .. }
+            | CommandFault::OtherForm { .. } => REFUSED,
+            _ => BROKEN,
+        }
+    }
+}
+
+impl Display for CommandFault<'_> {
+    fn fmt<W: fmt::Write>(&self, f: &mut fmt::Formatter<W>) -> fmt::Result {
+        match self {
+            CommandFault::Word { number, wrong } => write!(f, "call {number}: {wrong}"),
+            CommandFault::Named { number, fault } => wrong_name(f, *number, fault),
+            CommandFault::Unnamed { number } => write!(
+                f,
+                "call {number}: it has no i=INTERFACE m=METHOD, and names want --schema REQUEST"
+            ),
+            CommandFault::Address(address) => write!(
+                f,
+                "{address}: not HOST:PORT, nor the path of a Unix socket, with a slash or after unix:"
+            ),
+            CommandFault::File { path, error } => device(f, path, error),
+            CommandFault::Content { path } => write!(f, "refused: {path} isn't a message"),
+            CommandFault::Device { address, error } => device(f, address, error),
+            CommandFault::Printing(error) => device(f, "can't write", error),
+            CommandFault::Silent { address, seconds } => {
+                write!(f, "device: {address}: nothing came for {seconds} s")
+            }
+            CommandFault::Closed(reason) => f.write_str(reason),
+            CommandFault::Unmade { number, fault } => write!(f, "call {number}: refused: {fault}"),
+            CommandFault::Refused(ClientFault::Connection(fault)) => refused(f, *fault),
+            CommandFault::Refused(fault) => fault.fmt(f),
+            CommandFault::Foreign { fault, protocol } => {
+                write!(
+                    f,
+                    "{fault}: the peer speaks {protocol}, and not Cap'n Proto"
+                )
+            }
+            CommandFault::OtherForm { fault, mode } => other_form(f, *fault, *mode),
+        }
+    }
+}
+
+/// What is wrong with the word of this number.
+fn wrong_name<W: fmt::Write>(
+    f: &mut fmt::Formatter<W>,
+    number: usize,
+    fault: &EncodeFault,
+) -> fmt::Result {
+    match fault {
+        EncodeFault::Text(
+            NotationFault {
+                line: 1,
+                column,
+                message,
+            },
+        ) => write!(f, "call {number}: column {column}: {message}"),
+        fault => write!(f, "call {number}: {fault}"),
+    }
+}
+
+/// What a device failed of.
+fn device<W: fmt::Write>(f: &mut fmt::Formatter<W>, what: &str, error: &io::Error) -> fmt::Result {
+    write!(f, "device: {what}: {error}")
+}
+
+/// What to do about frames that seem to have the other form.
+fn other_form<W: fmt::Write>(
+    f: &mut fmt::Formatter<W>,
+    fault: ClientFault,
+    mode: Mode,
+) -> fmt::Result {
+    let advice = match mode {
+        Mode::Plain => "seem to be packed: give --packed",
+        Mode::Packed => "don't seem to be packed: leave out --packed",
+    };
+    write!(f, "{fault}: the peer's frames {advice}")
+}
+
+/// What the connection refuses.
+fn refused<W: fmt::Write>(f: &mut fmt::Formatter<W>, fault: ConnectionFault) -> fmt::Result {
+    match fault {
+        ConnectionFault::Unreadable { .. } => fault.fmt(f),
+        fault => write!(f, "refused: {fault}"),
+    }
+}
+
+impl<'a> From<ClientFault> for CommandFault<'a> {
+    fn from(fault: ClientFault) -> CommandFault<'a> {
+        CommandFault::Refused(fault)
+    }
+}
+
+impl<'a> From<AllocError> for CommandFault<'a> {
+    fn from(fault: AllocError) -> CommandFault<'a> {
+        CommandFault::Refused(ClientFault::from(fault))
+    }
+}
+
+impl<'a, T: Drop> From<AllocFailed<T>> for CommandFault<'a> {
+    fn from(fault: AllocFailed<T>) -> CommandFault<'a> {
+        CommandFault::Refused(ClientFault::from(fault))
+    }
+}
+
+impl<'a> From<DecodeFault> for CommandFault<'a> {
+    fn from(_: DecodeFault) -> CommandFault<'a> {
+        // Results that aren't as the schema says are printed by numbers, so that only memory can lack.
+        CommandFault::from(AllocError)
+    }
+}
+
+impl<'a> From<io::Error> for CommandFault<'a> {
+    fn from(error: io::Error) -> CommandFault<'a> {
+        CommandFault::Printing(error)
+    }
+}

@@ -1,0 +1,156 @@
+//! Serving connections of an address or of a path, many at once.
+
+use crate::objects::samples;
+use cp_commands::{ACCEPTED, BROKEN, ListenAddress, REFUSED, Service};
+use cp_servants::Sample;
+use cp_session::SessionLimits;
+use cp_words::Limits;
+use net_host::{Crowd, End, Host, HostLimits, HostPlan, News};
+use net_sockets::{Listener, Peer};
+use std::alloc::{AllocGlobal, Global};
+use std::fs::Files;
+use std::io::{self, Write};
+use std::net::Net;
+use std::time::Clock;
+
+/// Serves connections, each with a Desk and a Cell of its own, as many at once as the service says. When it listens, a line of
+/// `err` says where: `listening on ADDRESS:PORT`, or `listening on PATH`.
+///
+/// Of each connection that isn't served to its end, or that meets a limit, a line of `err` says why, and names its peer. The
+/// status is that of the first of these: 1 where something was refused, 2 where a stream failed. An Abort, of either side, ends a
+/// connection with status 0. A place that can't be listened on is a device that failed.
+pub(crate) fn serve_hosted<N, E: Write>(
+    rt: &N,
+    place: &ListenAddress,
+    service: &Service,
+    err: &mut E,
+) -> u8
+where
+    N: Net + Files + Clock + AllocGlobal,
+{
+    match serve_all(rt, place, service, err) {
+        Ok(status) => status,
+        Err(error) => {
+            let _ = writeln!(err, "device: {place}: {error}");
+            BROKEN
+        }
+    }
+}
+
+/// The plan of a service's host.
+fn host_plan(service: &Service) -> HostPlan {
+    let standard = SessionLimits::standard();
+    let idle = match service.idle {
+        Some(seconds) => seconds as u64 * 1_000,
+        None => standard.idle,
+    };
+    HostPlan {
+        mode: service.mode,
+        messages: Limits::standard(),
+        limits: HostLimits {
+            connections: service.at_once as usize,
+            // Further connections wait, as they do at `serve`.
+            crowd: Crowd::Wait,
+            session: SessionLimits { idle, ..standard },
+            ..HostLimits::standard()
+        },
+        count: service.count.map(|count| count as u64),
+    }
+}
+
+/// Serves all connections, and gives the status.
+fn serve_all<N, E: Write>(
+    rt: &N,
+    place: &ListenAddress,
+    service: &Service,
+    err: &mut E,
+) -> io::Result<u8>
+where
+    N: Net + Files + Clock + AllocGlobal,
+{
+    let listener = listener_at(rt, place, err)?;
+    let mut host = Host::new(rt, host_plan(service), listener)?;
+    run(rt, &mut host, err)
+}
+
+/// Serves the connections of a host until the last has ended, and gives the status.
+fn run<N, E: Write>(rt: &N, host: &mut Host<Vec<Sample>>, err: &mut E) -> io::Result<u8>
+where
+    N: Net + Clock + AllocGlobal,
+{
+    let mut first = ACCEPTED;
+    for _ in 0..u64::MAX {
+        let Some(news) = host.next(rt)? else {
+            break;
+        };
+        let status = hear(rt.alloc(), host, &news, err);
+        drop(news);
+        if first == ACCEPTED {
+            first = status;
+        }
+    }
+    Ok(first)
+}
+
+/// Does what news of a connection asks, and gives the status that it leads to. One that can't be served has ended by that; the
+/// others go on.
+fn hear<E: Write>(alloc: Global, host: &mut Host<Vec<Sample>>, news: &News, err: &mut E) -> u8 {
+    match news {
+        News::Came { peer, .. } => match admit(alloc, host) {
+            Ok(()) => ACCEPTED,
+            Err(error) => report(&End::Failed(error), *peer, err),
+        },
+        News::Refused { .. } | News::Woken => ACCEPTED,
+        News::Ended { peer, end, .. } => report(end, *peer, err),
+    }
+}
+
+/// Serves the connection that came last with a Desk and a Cell.
+fn admit(alloc: Global, host: &mut Host<Vec<Sample>>) -> io::Result<()> {
+    host.admit(samples(alloc)?)
+}
+
+/// Listens, and says where.
+fn listener_at<N: Net + Files, E: Write>(
+    rt: &N,
+    place: &ListenAddress,
+    err: &mut E,
+) -> io::Result<Listener> {
+    let listener = match place {
+        ListenAddress::Address(address) => Listener::bind(rt, *address)?,
+        ListenAddress::Path(path) => Listener::bind_path(rt, path)?,
+    };
+    match tell_place(&listener, place, err) {
+        Ok(()) => Ok(listener),
+        Err(error) => {
+            drop(listener);
+            Err(error)
+        }
+    }
+}
+
+/// Says where it is listened.
+fn tell_place<E: Write>(listener: &Listener, place: &ListenAddress, err: &mut E) -> io::Result<()> {
+    match listener.address()? {
+        Some(address) => writeln!(err, "listening on {address}"),
+        None => writeln!(err, "listening on {place}"),
+    }
+}
+
+/// Says how a connection ended, where it wasn't served to its end, and gives its status.
+fn report<E: Write>(end: &End, peer: Peer, err: &mut E) -> u8 {
+    let status = status_of(end);
+    if status != ACCEPTED {
+        let _ = writeln!(err, "{end} (peer {peer})");
+    }
+    status
+}
+
+/// The status that an end leads to.
+fn status_of(end: &End) -> u8 {
+    match end {
+        End::Ended | End::Closed(_) => ACCEPTED,
+        End::Fault(_) | End::Limit(_) => REFUSED,
+        End::Failed(_) => BROKEN,
+    }
+}

@@ -1,0 +1,20 @@
+//! What `capnp_cli` does with connections: `loop` and `serve` serve the Desk and the Cell to one after another, to a pair of
+//! streams, or to many at once; `call` calls the objects of a peer, and prints what the calls came to, or the types of a schema.
+#![tactic(auto)]
+
+mod address;
+mod asking;
+mod duplex;
+mod fault;
+mod hosted;
+mod log;
+mod loops;
+mod objects;
+mod serving;
+mod types;
+mod words;
+
+pub use address::call;
+pub use loops::{LONGEST_LOOP, loop_bytes, loop_file};
+pub use serving::{serve, serve_connections, serve_port};
+pub use types::print_types;

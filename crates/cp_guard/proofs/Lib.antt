@@ -1,4 +1,0 @@
-pub mod One
-pub mod Filtering
-pub mod Allowed
-pub mod Once

@@ -1,8 +1,0 @@
-pub mod Rules
-pub mod Answer
-pub mod State
-pub mod Judged
-pub mod Guard
-pub mod Filter
-pub mod Allowed
-pub mod Once

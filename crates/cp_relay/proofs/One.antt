@@ -1,0 +1,47 @@
+-- A piece up to the end of a frame has one message, which the guard judged and the relay let go.
+use Rattle.std.proofs.Common.{◌≡◌, ◌<◌, ℕ, List, [], ◌∷◌, ◌++◌, length, Some, None, true, refl, sym, ap, ◌∙◌, subst, arith, length-append, append-nil}
+use Rattle.std.proofs.lemmas.Option.{none-some}
+use Rattle.cp_words.specs.Limits.{Bounds}
+use Rattle.cp_frame.specs.declared.mode.Mode.{Mode}
+use Rattle.cp_messages.specs.declared.message.Message.{Message}
+use Rattle.cp_stream.specs.Stream.{IsFrameOf}
+use Rattle.cp_relay.specs.declared.output.Output.{Output}
+use Rattle.cp_relay.specs.Relay.{IsSentFor, Passes, Lets}
+use Rattle.cp_relay.specs.declared.guard.Guard.{Guard}
+use Rattle.cp_relay.specs.declared.ruling.Ruling.{Ruling}
+use Rattle.cp_relay.specs.Guard.{GoesOn, Judges}
+
+-- One message is read, and judged, and sent.
+pub record One (before after : Guard) (mode : Mode) (output : Output) (limits : Bounds) (frame sent : List ℕ) : Type 0 where
+  pub message : Message
+  pub is_frame : IsFrameOf mode limits frame message
+  pub sent_for : IsSentFor output limits frame message sent
+  pub goes_on : GoesOn before message after
+
+some_is_none : (v : Ruling) → Some v ≡ None → ⊥
+some_is_none v e = none-some v (sym e)
+
+-- a guard that has judged a message lets no other one go
+pub no_second : (before mid after : Guard) (m n : Message) → GoesOn before m mid → GoesOn mid n after → ⊥
+no_second before mid after m n one other = some_is_none one.ruling (sym one.says_so ∙ other.waited)
+
+-- what passes is one message's
+pub one_of : (before after : Guard) (mode : Mode) (output : Output) (limits : Bounds) (frame sent : List ℕ) (ms : List Message) → (frame ≡ [] → ⊥)
+    → Passes mode output limits frame ms sent [] → Lets Judges before ms after → One before after mode output limits frame sent
+one_of before after mode output limits frame sent [] some passes lets = absurd (some passes.0)
+one_of before after mode output limits frame sent (m ∷ []) some passes lets =
+    let front = passes.0 in
+    let back = passes.1 in
+    let first = passes.2 in
+    let later = passes.3 in
+    let rest = passes.8 in
+    let is_all : front ≡ frame = rw (passes.4, rest.0, append-nil front) refl in
+    let is_sent : first ≡ sent = rw (passes.5, rest.1, append-nil first) refl in
+    record {
+      message = m;
+      is_frame = subst (λ b. IsFrameOf mode limits b m) is_all passes.6;
+      sent_for = rw (← is_sent, ← is_all) passes.7;
+      goes_on = rw lets.2 (lets.1 refl);
+    }
+one_of before after mode output limits frame sent (m ∷ n ∷ ms) some passes lets =
+    absurd (no_second before lets.0 lets.2.0 m n (lets.1 refl) (lets.2.1 refl))

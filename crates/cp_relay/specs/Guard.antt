@@ -1,0 +1,73 @@
+-- A guard, before and after a message.
+use Rattle.std.specs.Prelude.{◌≡◌, Bool, true, false, Option, Some, None}
+use Rattle.std.specs.FinMap as map
+use Rattle.cp_messages.specs.declared.message.Message.{Message}
+use Rattle.cp_messages.specs.declared.message.Message.TheVariants as messages
+use Rattle.cp_relay.specs.declared.rules.Rules.{Rules}
+use Rattle.cp_relay.specs.declared.guard.Guard.{Guard}
+use Rattle.cp_relay.specs.declared.guard.JudgedCall.{JudgedCall}
+use Rattle.cp_relay.specs.declared.ruling.Ruling.{Ruling}
+use Rattle.cp_relay.specs.declared.ruling.Ruling.TheVariants as rulings
+use Rattle.cp_relay.specs.declared.ruling.Breach.{Breach}
+use Rattle.cp_relay.specs.State.{Refused}
+use Rattle.cp_relay.specs.Judged.{judged_from}
+
+-- why a ruling closes the connection
+abbrev pub breach_in : Ruling → Option Breach
+breach_in (rulings.Closes breach) = Some breach
+breach_in rulings.Passes = None
+breach_in (rulings.Changes m) = None
+breach_in (rulings.Answers m) = None
+breach_in rulings.Drops = None
+
+-- why the last one does, if there is one
+abbrev pub breach_of : Option Ruling → Option Breach
+breach_of (Some ruling) = breach_in ruling
+breach_of None = None
+
+-- the call that a message of the caller is, and why it was refused, if it was
+abbrev pub call_in : Bool → Refused → Message → Option JudgedCall
+call_in false refused (messages.Call call) =
+    Some (record { question = call.question_id; method = record { interface = call.interface_id; method = call.method_id }; cause = map.get refused call.question_id })
+call_in false refused other = None
+call_in true refused m = None
+
+-- A guard by these rules, on whose connection nothing was sent.
+pub record IsFresh (given : Rules) (g : Guard) : Type 0 where
+  pub rules : g.rules.now ≡ given
+  pub refused : g.state.refused ≡ map.empty
+  pub unfinished : g.state.unfinished ≡ 0
+  pub under_way : g.state.under_way ≡ 0
+  pub opened : g.state.opened ≡ 0
+
+-- The guard knows the same, its ruling aside.
+pub record IsSame (old new : Guard) : Type 0 where
+  pub rules : new.rules.now ≡ old.rules.now
+  pub state : new.state ≡ old.state
+  pub comes_back : new.comes_back ≡ old.comes_back
+  pub call : new.call ≡ old.call
+
+-- The guard waits for the next message, of this direction.
+pub record Begins (side : Bool) (old new : Guard) : Type 0 where
+  pub rules : new.rules.now ≡ old.rules.now
+  pub state : new.state ≡ old.state
+  pub comes_back : new.comes_back ≡ side
+  pub waits : new.ruling ≡ None
+
+-- This became of a message, by what the guard knew before it.
+abbrev pub IsJudged : Guard → Message → Ruling → Guard → Type 0
+IsJudged old m ruling new = record { ruling = ruling; state = new.state } ≡ judged_from old.comes_back old.rules.now old.state m
+
+-- The guard judged a message, where it had judged none, and it goes on.
+pub record GoesOn (old : Guard) (m : Message) (new : Guard) : Type 0 where
+  pub waited : old.ruling ≡ None
+  pub ruling : Ruling
+  pub says_so : new.ruling ≡ Some ruling
+  pub judged : IsJudged old m ruling new
+  pub rules : new.rules.now ≡ old.rules.now
+  pub comes_back : new.comes_back ≡ old.comes_back
+  pub called : new.call ≡ call_in old.comes_back new.state.refused m
+
+-- what a guard that goes on did
+abbrev pub Judges : Guard → Message → Bool → Guard → Type 0
+Judges old m may new = may ≡ true → GoesOn old m new

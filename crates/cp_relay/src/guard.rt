@@ -1,0 +1,170 @@
+//! A guard of a connection.
+
+ghost use Rattle.std.specs.Prelude.{◌≡◌, IfOk, Some};
+ghost use Rattle.cp_rpc.specs.Viewed.{viewed};
+ghost use Rattle.cp_relay.specs.declared.ruling.Ruling.{Ruling};
+ghost use Rattle.cp_relay.specs.Guard.{breach_of, call_in, IsFresh, IsSame, IsJudged, Begins};
+
+use crate::rules::{MethodId, Rules};
+use crate::ruling::{Breach, Cause, Ruling};
+use crate::state::GuardState;
+use crate::visitor::Visitor;
+use cp_rpc::{MessageIn, MessageView};
+use cp_tables::Entries;
+use std::alloc::{AllocError, Global};
+use std::mem;
+
+/// A call, and why it was refused, if it was.
+#[derive(Clone, Copy)]
+pub struct JudgedCall {
+    pub question: u32,
+    pub method: MethodId,
+    pub cause: Option<Cause>,
+}
+
+/// A guard of a connection. It stands between a caller, whose questions it judges by rules, and a callee. The filters of both
+/// directions share it. It keeps the numbers of the questions that it refused, and no message.
+pub struct Guard<'r> {
+    pub(crate) alloc: Global,
+    pub(crate) rules: &'r Rules,
+    pub(crate) state: GuardState,
+    /// Whether the next message is one of the callee.
+    pub(crate) comes_back: bool,
+    /// What becomes of the last message.
+    pub(crate) ruling: Option<Ruling>,
+    /// The last message's call, if it is one.
+    pub(crate) call: Option<JudgedCall>,
+}
+
+impl<'r> Drop for Guard<'r> {
+    fn drop(self) {
+        let Guard {
+            alloc: _,
+            rules: _,
+            state: _,
+            comes_back: _,
+            ruling,
+            call: _,
+        } = self;
+        drop(ruling);
+    }
+}
+
+impl<'r> Guard<'r> {
+    /// A guard of a connection on which nothing was sent.
+    pub fn new(alloc: Global, rules: &'r Rules) -> Guard<'r>
+        ensures { IsFresh rules.now result }
+    {
+        Guard {
+            alloc,
+            rules,
+            state: GuardState {
+                refused: Entries::new(alloc),
+                unfinished: 0,
+                under_way: 0,
+                opened: 0,
+            },
+            comes_back: false,
+            ruling: None,
+            call: None,
+        }
+    }
+
+    /// A second has passed, so its questions count no more.
+    pub fn pass_second(&mut self)
+        ensures opened { self.new.state.opened ≡ 0 }
+        ensures refused { self.new.state.refused ≡ self.old.state.refused }
+        ensures unfinished { self.new.state.unfinished ≡ self.old.state.unfinished }
+        ensures under_way { self.new.state.under_way ≡ self.old.state.under_way }
+        ensures rules { self.new.rules.now ≡ self.old.rules.now }
+    {
+        self.state.opened = 0;
+    }
+
+    /// Why the connection is closed, if the last message closed it.
+    pub fn breach(&self) -> Option<Breach>
+        ensures { result ≡ breach_of self.now.ruling }
+    {
+        match &self.ruling {
+            Some(ruling) => ruling.breach(),
+            None => None,
+        }
+    }
+
+    /// What the last message calls, if it is a call of the caller.
+    pub fn last_call(&self) -> Option<JudgedCall>
+        ensures { result ≡ self.now.call }
+    {
+        self.call
+    }
+
+    /// Forgets the last message. The next is one of the callee, or of the caller.
+    pub(crate) fn begin(&mut self, comes_back: bool)
+        ensures { Begins comes_back self.old self.new }
+    {
+        self.comes_back = comes_back;
+        self.call = None;
+        drop(self.ruling.take());
+    }
+
+    /// What became of the last message. What wasn't judged doesn't go.
+    pub(crate) fn take_ruling(&mut self) -> Ruling
+        ensures ruling { (v : Ruling) → self.old.ruling ≡ Some v → result ≡ v }
+        ensures same { IsSame self.old self.new }
+    {
+        match self.ruling.take() {
+            Some(ruling) => ruling,
+            None => Ruling::Drops,
+        }
+    }
+
+    /// What becomes of a message.
+    fn judge(&mut self, message: &MessageView) -> Result<Ruling, AllocError>
+        ensures judged { IfOk result (λ ruling. IsJudged self.old (viewed message.now) ruling self.new) }
+        ensures rules { self.new.rules.now ≡ self.old.rules.now }
+        ensures comes_back { self.new.comes_back ≡ self.old.comes_back }
+    {
+        if self.comes_back {
+            return Ok(self.state.judge_back(message));
+        }
+        self.state.judge(self.alloc, self.rules, message)
+    }
+
+    /// The call that a message of the caller is.
+    fn call_in(&self, message: &MessageView) -> Option<JudgedCall>
+        ensures { result ≡ call_in self.now.comes_back self.now.state.refused (viewed message.now) }
+    {
+        let MessageIn::Call(call) = message else {
+            return None;
+        };
+        if self.comes_back {
+            return None;
+        }
+        Some(JudgedCall {
+            question: call.question_id,
+            method: MethodId {
+                interface: call.interface_id,
+                method: call.method_id,
+            },
+            cause: self.state.refused.get(call.question_id).copied(),
+        })
+    }
+}
+
+impl<'r> Visitor for Guard<'r> {
+    ghost use Rattle.cp_relay.specs.Guard.{Judges};
+
+    ghost says = { Judges };
+
+    fn visit(&mut self, message: &MessageView) -> Result<bool, AllocError> {
+        // One message at a time: what became of the one before is taken first.
+        if self.ruling.is_some() {
+            return Ok(false);
+        }
+        let ruling = self.judge(message)?;
+        let goes_on = !matches!(ruling, Ruling::Closes(_));
+        drop(mem::replace(&mut self.ruling, Some(ruling)));
+        self.call = self.call_in(message);
+        Ok(goes_on)
+    }
+}

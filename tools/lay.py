@@ -1,0 +1,43 @@
+#!/usr/bin/env python3
+"""tools/lay.py FOLDER SOURCES NAME LIBRARIES    puts a crate that lies outside crates/ into FOLDER/crates, and its line into FOLDER/crates.txt.
+
+rt refuses a .rt or .antt file that is in no crate of crates.txt. So the sources of tests/, nightly/ and bench/ have other endings: .rs for .rt,
+and .antt.in for .antt. SOURCES has the crate's src/, specs/ and proofs/.
+"""
+import os
+import shutil
+import sys
+
+ENDINGS = {".rs": ".rt", ".antt.in": ".antt"}
+PARTS = ("src", "specs", "proofs")
+
+
+def laid(name):
+    """A file's name as rt has it."""
+    return next((name[: -len(it)] + ENDINGS[it] for it in ENDINGS if name.endswith(it)), name)
+
+
+def files_of(sources):
+    """The files of a crate, below its folder, in order."""
+    for part in PARTS:
+        for at, folders, names in os.walk(f"{sources}/{part}"):
+            folders.sort()
+            for name in sorted(names):
+                yield os.path.relpath(f"{at}/{name}", sources)
+
+
+def lay(sources, to):
+    """Puts the crate into the folder."""
+    for name in files_of(sources):
+        os.makedirs(os.path.dirname(f"{to}/{name}"), exist_ok=True)
+        shutil.copy2(f"{sources}/{name}", f"{to}/{laid(name)}")
+
+
+def main(folder, sources, name, libraries):
+    lay(sources, f"{folder}/crates/{name}")
+    with open(f"{folder}/crates.txt", "a") as lines:
+        lines.write(f"{name}: {libraries}\n")
+
+
+if __name__ == "__main__":
+    main(*sys.argv[1:])
