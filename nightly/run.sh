@@ -82,7 +82,7 @@ prove() { # FOLDER CRATE    one of tests/, laid out there: its tests, or what it
     cd "$1/crates/$2" || return 1
     if [ -e src/main.rt ]; then
         rt run -- none || true # (which builds it)
-        (cd "$root/tests/$2/data" && "$1/crates/$2/out/$2") | diff - "$root/tests/$2/stdout"
+        (cd data && ../out/"$2") | diff - "$root/tests/$2/stdout"
     else
         rt check && rt test
     fi || return 1

@@ -2,13 +2,10 @@
 #![tactic(auto)]
 
 mod book;
-mod connection;
 mod count;
 mod draft;
 mod notebook_client;
 mod notebook_server;
-mod notebook_test;
-mod vat;
 mod view;
 mod write;
 
@@ -33,13 +30,7 @@ fn run_all(rt: &HostRuntime) -> anyhow::Result<()> {
     heading(rt, "book")?;
     book::run(rt)?;
     heading(rt, "draft")?;
-    draft::run(rt)?;
-    heading(rt, "connection")?;
-    connection::run(rt)?;
-    heading(rt, "vat")?;
-    vat::run(rt)?;
-    heading(rt, "notebook_test")?;
-    notebook_test::run(rt)
+    draft::run(rt)
 }
 
 /// Prints an example's name on a line of its own.

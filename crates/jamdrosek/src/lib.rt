@@ -287,7 +287,7 @@
 //! An object may be a `Servant` itself, which takes requests as they come. A `Content` is the struct of its results, or of a call's params.
 //! Each builder method adds one data word or one pointer (text, data, capability, ..):
 //!
-//! ```rust crates/examples/src/connection.rt
+//! ```rust tests/more_examples/src/connection.rs
 //! impl Servant for Total {
 //!     fn call(&mut self, _ticket: u64, request: Request) -> Result<Reply, AllocError> {
 //!         self.number = self.number.saturating_add(word_in(&request.content, 0));
@@ -317,7 +317,7 @@
 //! A `Connection` is one end with its frames, and no socket. `receive` takes bytes, `outgoing` has those to write, and `next` returns what
 //! happened:
 //!
-//! ```rust crates/examples/src/connection.rt
+//! ```rust tests/more_examples/src/connection.rs
 //! let total = Cap::Pipelined(client.bootstrap()?, Path::new(Vec::new(alloc)));
 //! let params = Content::new(alloc).word(41)?;
 //! let asked = client.call(total, params.request(0xe5a1_0000_0000_0003, 0))?;
@@ -329,7 +329,7 @@
 //!
 //! A `Vat` is the same without frames. Messages and calls go in, and effects come out, in order:
 //!
-//! ```rust crates/examples/src/vat.rt
+//! ```rust tests/more_examples/src/vat.rs
 //! let asked = client.bootstrap()?;
 //! let object = Cap::Pipelined(asked.value, Path::new(Vec::new(alloc)));
 //! let params = Content::new(alloc).word(41)?;

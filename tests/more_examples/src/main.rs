@@ -1,22 +1,51 @@
-//! Runs each example on its file of `data/`, under a heading. With the word `chat` it serves a chat room.
+//! Runs each example on its file of `data/`, under a heading. With the word `chat` it serves a chat room. Those of
+//! `crates/examples` are laid out beside them, as the file `also` says.
 #![tactic(auto)]
 
+mod book;
 mod call;
 mod chat_server;
 mod chat_test;
+mod connection;
+mod count;
+mod draft;
+mod notebook_client;
+mod notebook_server;
+mod notebook_test;
 mod serve;
+mod vat;
+mod view;
+mod write;
 
 use std::env;
 
 fn main(rt: HostRuntime) -> anyhow::Result<()> {
     match env::args(&rt)?.nth(1) {
         Some(word) if word.as_str() == "chat" => chat_server::run(&rt),
+        Some(word) if word.as_str() == "server" => notebook_server::run(&rt),
+        Some(word) if word.as_str() == "client" => notebook_client::run(&rt),
         _ => run_all(&rt),
     }
 }
 
 /// Runs all examples that need no other program.
 fn run_all(rt: &HostRuntime) -> anyhow::Result<()> {
+    heading(rt, "count")?;
+    count::run(rt)?;
+    heading(rt, "view")?;
+    view::run(rt)?;
+    heading(rt, "write")?;
+    write::run(rt)?;
+    heading(rt, "book")?;
+    book::run(rt)?;
+    heading(rt, "draft")?;
+    draft::run(rt)?;
+    heading(rt, "connection")?;
+    connection::run(rt)?;
+    heading(rt, "vat")?;
+    vat::run(rt)?;
+    heading(rt, "notebook_test")?;
+    notebook_test::run(rt)?;
     heading(rt, "serve")?;
     serve::run(rt)?;
     heading(rt, "call")?;
