@@ -41,7 +41,7 @@
 #             SEED=N others of them
 #   moves, served, pieces, starved, fuzz and night first take the proof of the library of probes/, once for a FOLDER
 #   edits     the edits of each must-fail-more/                                a proof of each of these crates, and hours
-#   planted   21 wrong lines of the product, which ./test must see     twice the compiling of all tests, ten minutes
+#   planted   21 wrong lines of the product, which ./test must see             three compilings of the tests, 21 minutes of a processor
 #   plants    wrong bodies that rt makes up, in ten crates                     hours; wants a quiet machine, and its lines want reading
 #
 # Debian packages: g++ clang libclang-rt-14-dev make libcapnp-dev capnproto cargo librust-capnp-rpc-dev librust-async-io-dev. Rattle's rt is in PATH.
