@@ -23,19 +23,16 @@ compare() { # CRATE FOLDER    once what the plugin wrote of it is laid out, with
 
 generate "$root/crates/capnpc_rattle/stdin" --crate=cp_schema_capnp --only="$(paste -sd, "$root/crates/cp_schema_capnp/only.txt")"
 compare cp_schema_capnp "$root/crates"
-regenerate() { # CRATE OPTION
+regenerate() { # CRATE
     local kept=$root/crates at=$root/crates
     [ ! -d "$root/tests/$1" ] || { at=$root/tests kept=$room/kept/crates && lay_crate "$room/kept" "$at/$1" "$1" ''; }
     (cd "$at/$1" && capnp compile -o- "$1.capnp") >"$room/request"
-    generate "$room/request" "$2"
+    generate "$room/request"
     compare "$1" "$kept"
 }
 
 if command -v capnp >/dev/null; then
-    regenerate addressbook --drafts
-    regenerate notebook --services
-    regenerate chat --services
-    regenerate store --interfaces
+    for crate in addressbook notebook chat store; do regenerate "$crate"; done
 fi
 [ "$differ" -eq 0 ] || fail "the plugin writes otherwise than what is kept, as shown above"
 say "the plugin writes again what is kept"

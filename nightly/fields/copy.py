@@ -1,11 +1,12 @@
 #!/usr/bin/env python3
-"""copy.py REQUEST STRUCT    writes a program that reads each message of standard input by the views that capnpc_rattle makes of the
-same request, builds it again by its drafts, and writes it to standard output. What a draft takes as a tree is copied as it is."""
+"""copy.py REQUEST STRUCT    writes a program that reads each message of standard input by the readers that capnpc_rattle makes of the
+same request, builds it again by its builders, and writes it to standard output. Capabilities and lists of lists are copied as they are."""
 import sys
 
 from print import FLOATS, INTEGERS, Printer, method, variant, words
 
-VECTORS = {1, 6, 7, 8, 9}
+VECTORS = {1, 6, 7, 8, 9}  # lists that are set to a Vec
+SLICES = {2, 3, 4, 5, 10, 11, 15}  # lists that are set to a slice
 
 
 class Copier(Printer):
@@ -20,17 +21,24 @@ class Copier(Printer):
             copied = f"{to}.{setter}({read}.to_vec(alloc)?)?;"
         elif code == 16:
             copied = f"{to}.{setter}({self.struct(self.nodes[kind['id']])}(alloc, &{read})?);"
-        elif code == 17:
-            copied = f"if let Some(cap) = {read} {{ {to}.{setter}(cap); }}"
         elif code == 14 and kind["elem"]["kind"] == 16:
             node = self.nodes[kind["elem"]["id"]]
-            self.cite(node, "ListDraft")
-            copied = (f"let mut items = {self.name(node)}ListDraft::new(alloc); "
+            self.cite(node, "ListBuilder")
+            copied = (f"let mut items = {self.name(node)}ListBuilder::new(alloc); "
                       f"for item in {read} {{ items.push({self.struct(node)}(alloc, &item)?)?; }} {to}.{setter}(items);")
         elif code == 14 and kind["elem"]["kind"] in VECTORS:
             copied = f"let mut items = Vec::new(alloc); for item in {read} {{ items.push(item)?; }} {to}.{setter}(items)?;"
+        elif code == 14 and kind["elem"]["kind"] in SLICES:
+            copied = f"let mut items = Vec::new(alloc); for item in {read} {{ items.push(item)?; }} {to}.{setter}(alloc, items.as_slice())?;"
+        elif code == 14 and kind["elem"]["kind"] == 12:
+            self.types.add(("cp_services", "TextListBuilder"))
+            copied = (f"let mut items = TextListBuilder::new(alloc); for item in {read} {{ items.push(item?.text(alloc)?.as_str())?; }} "
+                      f"{to}.{setter}(items)?;")
+        elif code == 14 and kind["elem"]["kind"] == 13:
+            self.types.add(("cp_services", "DataListBuilder"))
+            copied = f"let mut items = DataListBuilder::new(alloc); for item in {read} {{ items.push(item?.to_vec(alloc)?)?; }} {to}.{setter}(items)?;"
         else:
-            copied = f"{to}.{setter}(whole_at(alloc, &{at}.body, {place})?);"
+            copied = f"{to}.body.set_pointer({place}, whole_at(alloc, &{at}.body, {place})?);"
         return f"if !{at}.body.pointer({place}).is_null() {{ {copied} }}"
 
     def field(self, field, at, to, prefix):
@@ -77,11 +85,11 @@ class Copier(Printer):
         function = "copy_" + words(name)
         if name not in self.done:
             self.done.add(name)
-            self.cite(node, "View")
-            self.cite(node, "Draft")
+            self.cite(node, "Reader")
+            self.cite(node, "Builder")
             body = self.fields(node, "at", "to", "")
-            self.functions.append(f"fn {function}(alloc: Global, at: &{name}View<'_>) -> anyhow::Result<{name}Draft> {{\n"
-                                  f"let mut to = {name}Draft::new(alloc)?;\n{body}Ok(to)\n}}\n")
+            self.functions.append(f"fn {function}(alloc: Global, at: &{name}Reader<'_>) -> anyhow::Result<{name}Builder> {{\n"
+                                  f"let mut to = {name}Builder::new(alloc)?;\n{body}Ok(to)\n}}\n")
         return function
 
     def program(self, root):
@@ -111,8 +119,8 @@ fn whole_at(alloc: Global, body: &StructView<'_>, place: u32) -> anyhow::Result<
     let mut out = Tap::new(io::writer(&rt));
     for (_, segments) in &reader.feed(&bytes)? {{
         let view = View::root(segments, Limits::standard()).map_err(|fault| anyhow!("{{fault}}"))?;
-        let draft = {function}(rt.alloc(), &{root}View::of(Pointee::of_view(view))?)?;
-        write_struct(rt.alloc(), &mut out, &draft.body.into_object(), Mode::Plain, Limits::standard())?;
+        let built = {function}(rt.alloc(), &{root}Reader::of(Pointee::of_view(view))?)?;
+        write_struct(rt.alloc(), &mut out, &built.body.into_object(), Mode::Plain, Limits::standard())?;
     }}
     Ok(reader.finish()?)
 }}

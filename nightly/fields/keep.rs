@@ -8,15 +8,15 @@ use cp_frame::{FrameReader, Mode};
 use cp_reading::View;
 use cp_stream::{Tap, write_struct};
 use cp_words::{Limits, Segments};
-use older::{ThingDraft, ThingView};
+use older::{ThingBuilder, ThingReader};
 use std::alloc::Global;
 use std::io::{self, Read};
 
 /// The draft of a message, with a field that the older schema knows set again.
-fn kept(alloc: Global, segments: &Segments) -> anyhow::Result<ThingDraft> {
+fn kept(alloc: Global, segments: &Segments) -> anyhow::Result<ThingBuilder> {
     let view = View::root(segments, Limits::standard()).map_err(|fault| anyhow!("{fault}"))?;
-    let thing = ThingView::of(Pointee::of_view(view))?;
-    let mut draft = ThingDraft {
+    let thing = ThingReader::of(Pointee::of_view(view))?;
+    let mut draft = ThingBuilder {
         body: StructDraft::of_view(alloc, &thing.body)?,
     };
     draft.set_id(thing.id());

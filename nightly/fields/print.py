@@ -141,13 +141,13 @@ class Printer:
         if name in self.done:
             return
         self.done.add(name)
-        self.cite(node, "View")
+        self.cite(node, "Reader")
         body = ""
         chosen = [f for f in node["fields"] if f["name"] in self.chosen]
         for field in chosen or node["fields"]:
             statements = self.field(field, "at") if field["disc"] == 0xFFFF else self.member(node, field)
             body += "    " + statements + "\n"
-        self.functions.append(f"fn {words(name)}_line(line: &mut Line, at: &{name}View<'_>) -> anyhow::Result<()> {{\n"
+        self.functions.append(f"fn {words(name)}_line(line: &mut Line, at: &{name}Reader<'_>) -> anyhow::Result<()> {{\n"
                               f"    line.open('(')?;\n{body}    line.close(')')?;\n    Ok(())\n}}\n")
 
     def program(self, root):
@@ -174,7 +174,7 @@ use std::io::Read;
     for (_, segments) in &reader.feed(&bytes)? {{
         let view = View::root(segments, Limits::standard()).map_err(|fault| anyhow!("{{fault}}"))?;
         let mut line = Line::new(rt.alloc());
-        {name}_line(&mut line, &{root}View::of(Pointee::of_view(view))?)?;
+        {name}_line(&mut line, &{root}Reader::of(Pointee::of_view(view))?)?;
         println!(rt; "{{}}", line.text.as_str())?;
     }}
     Ok(reader.finish()?)

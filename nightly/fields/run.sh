@@ -3,8 +3,8 @@
 #                                   the schemas here, and by `COMMAND show --schema` (capnp_cli, built), and are compared line by line
 #                                   with what `capnp decode --short` prints: every kind of field, floats of each size, a struct of 300
 #                                   fields, and two editions of a schema, each read by the other's code. FOLDER gets the crates.
-#                                   Then the same messages, and random ones, are built again by the drafts that PLUGIN makes; and those of the
-#                                   newer edition are written again by the older one's drafts, which keep what they don't know. With - for
+#                                   Then the same messages, and random ones, are built again by the builders that PLUGIN makes; and those of the
+#                                   newer edition are written again by the older one's builders, which keep what they don't know. With - for
 #                                   PLUGIN no code is made, and COMMAND alone is tried, in a minute.
 #
 # The programs that print are made by print.py, those that build by copy.py, of the request alone; keep.rs is one by hand. `rt try` runs them,
@@ -34,7 +34,7 @@ make_printer() { # SCHEMA STRUCT: the schema's crate, and the program that print
     [ "$plugin" != - ] || return 0
     name=$(basename "$1" .capnp)
     capnp compile --src-prefix="$(dirname "$1")" -o- "$1" >"$room/$name.request"
-    (cd "$room/crates" && "$plugin" --drafts <"../$name.request") >>"$room/crates.txt"
+    (cd "$room/crates" && "$plugin" <"../$name.request") >>"$room/crates.txt"
     make_program "print_$name" "$name" "$2"
 }
 
@@ -42,7 +42,7 @@ make_copier() { # NAME STRUCT: the program that builds the messages of a schema 
     [ "$plugin" != - ] || return 0
     mkdir -p "$room/crates/copy_$1/src"
     "$here/copy.py" "$room/$1.request" "$2" >"$room/crates/copy_$1/src/main.rt"
-    printf 'copy_%s: cp_words cp_tree cp_reading cp_frame cp_fields cp_builder cp_stream %s anyhow\n' "$1" "$1" >>"$room/crates.txt"
+    printf 'copy_%s: cp_words cp_tree cp_reading cp_frame cp_fields cp_builder cp_services cp_stream %s anyhow\n' "$1" "$1" >>"$room/crates.txt"
 }
 
 same() { # TEXTS READER: whether what was found is what is wanted
@@ -93,7 +93,7 @@ compare() { # TEXTS WRITER READER STRUCT: texts that WRITER's schema encodes, re
     same "$1" "the code of $(basename "$3")"
 }
 
-make_keeper() { # the program that writes messages of a newer schema again, by the drafts of an older one
+make_keeper() { # the program that writes messages of a newer schema again, by the builders of an older one
     [ "$plugin" != - ] || return 0
     mkdir -p "$room/crates/keep_older/src"
     cp "$here/keep.rs" "$room/crates/keep_older/src/main.rt"

@@ -1,5 +1,5 @@
 @0xb9e1f2b3c4d5e6a7;
-# Each kind of list, of params and of results of which the plugin writes code with --services.
+# Each kind of list, of params and of results of which the plugin writes code.
 
 enum Colour {
   red @0;

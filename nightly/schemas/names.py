@@ -29,7 +29,7 @@ def declared(text):
             block = ""
         elif begins := BLOCK.match(line):
             block = line
-        if name := re.match(r"(?:pub )?(?:struct|enum|trait|static|const|fn) (\w+)", line):
+        if name := re.match(r"(?:pub )?(?:struct|enum|trait|type|static|const|fn) (\w+)", line):
             yield "value" if "fn " in line or "static " in line or "const " in line else "use", name.group(1)
         elif name := re.match(r"    (?:pub )?(?:fn|const) (\w+)", line):
             yield block, name.group(1)

@@ -2,7 +2,7 @@
 # run.sh PLUGIN FOLDER COMMAND [SEEDS [TRIED]]    random schemas (300), each in two editions, with random messages of both: by each edition `COMMAND show
 #                                   --schema` (capnp_cli, built) prints what `capnp decode --short` does. PLUGIN (capnpc_rattle, built) writes code of each
 #                                   that names nothing twice, or says in a line what it can't write; and it says which names get an underscore. Then the code of the first ones (12) reads
-#                                   messages, builds them again by its drafts, and reads what was written, by `rt try`; FOLDER gets the crates.
+#                                   messages, builds them again by its builders, and reads what was written, by `rt try`; FOLDER gets the crates.
 #
 # Schemas that the reference tool doesn't take, and messages that it refuses to show by another edition, are counted. What goes wrong is
 # printed with its seed; random_schema.py makes the same schema of it again.
@@ -49,30 +49,27 @@ show() { # WRITER READER    both editions
     fi
 }
 
-write() { # NAME    the code of this schema, with each of the plugin's options
-    local option
-    for option in '' --drafts --interfaces --services; do
-        rm -rf "$room/written"
-        mkdir "$room/written"
-        if (cd "$room/written" && "$plugin" ${option:+"$option"} <"../$1.request" >../printed 2>../said); then
-            written=$((written + 1))
-            "$here/names.py" "$room/written" || wrong "the code of $1, $option, names something twice"
-        else
-            unwritten=$((unwritten + 1))
-            [ "$(wc -l <"$room/said")" = 1 ] || wrong "$1, $option: $(cat "$room/said")"
-        fi
-    done
+write() { # NAME    the code of this schema
+    rm -rf "$room/written"
+    mkdir "$room/written"
+    if (cd "$room/written" && "$plugin" <"../$1.request" >../printed 2>../said); then
+        written=$((written + 1))
+        "$here/names.py" "$room/written" || wrong "the code of $1 names something twice"
+    else
+        unwritten=$((unwritten + 1))
+        [ "$(wc -l <"$room/said")" = 1 ] || wrong "$1: $(cat "$room/said")"
+    fi
 }
 
-refuse() { # each line of refused.txt: an option, a schema, and what the plugin says of it
-    local option schema line tried=0
+refuse() { # each line of refused.txt: a schema, and what the plugin says of it
+    local schema line tried=0
     printf '@0xc0ffee0000020001;\nstruct Foo { number @0 :UInt8; }\n' >"$room/refused_other.capnp"
     rm -rf "$room/written"
     mkdir "$room/written"
-    while IFS='|' read -r option schema line; do
+    while IFS='|' read -r schema line; do
         printf '@0xc0ffee0000020002;\n%s\n' "$schema" >"$room/refused.capnp"
         (cd "$room" && capnp compile -o- refused.capnp) >"$room/refused.request"
-        (cd "$room/written" && "$plugin" ${option:+"$option"} <../refused.request >../printed 2>../said) && wrong "written: $schema" ||
+        (cd "$room/written" && "$plugin" <../refused.request >../printed 2>../said) && wrong "written: $schema" ||
             [ "$(cat "$room/said")" = "Error: $line" ] || wrong "$schema: $(cat "$room/said")"
         tried=$((tried + 1))
     done <"$here/refused.txt"
@@ -105,7 +102,7 @@ one_seed() { # SEED
 }
 
 tried_code() { # SEED    its crates, where they can be written
-    make_schema "$1" plain && (cd "$room/crates" && "$plugin" --drafts <"../s$1.request" && "$plugin" --drafts <"../s$1_other.request") >"$room/printed" 2>"$room/said" &&
+    make_schema "$1" plain && (cd "$room/crates" && "$plugin" <"../s$1.request" && "$plugin" <"../s$1_other.request") >"$room/printed" 2>"$room/said" &&
         cat "$room/printed" >>"$room/crates.txt"
 }
 

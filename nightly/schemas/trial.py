@@ -1,6 +1,6 @@
 #!/usr/bin/env python3
 """trial.py FOLDER SEED..    writes into FOLDER, the program's sources, what reads messages of Root of each sSEED.request two folders above: by
-the views that capnpc_rattle makes of it, and again after its drafts have built and written them, a line each time. Standard input has for
+the readers that capnpc_rattle makes of it, and again after its builders have built and written them, a line each time. Standard input has for
 each seed a frame of struct Turn, whose numbers are the seed's place and how many messages follow, and these."""
 import os
 import runpy
@@ -30,7 +30,7 @@ fn whole_at(alloc: Global, body: &StructView<'_>, place: u32) -> anyhow::Result<
 }}
 
 {functions}
-fn print(rt: &HostRuntime, root: &RootView<'_>) -> anyhow::Result<()> {{
+fn print(rt: &HostRuntime, root: &RootReader<'_>) -> anyhow::Result<()> {{
     let mut line = Line::new(rt.alloc());
     root_line(&mut line, root)?;
     println!(rt; "{{}}", line.text.as_str())?;
@@ -38,21 +38,21 @@ fn print(rt: &HostRuntime, root: &RootView<'_>) -> anyhow::Result<()> {{
 }}
 
 /// The bytes of a message that is built again.
-fn built(alloc: Global, root: &RootView<'_>) -> anyhow::Result<Vec<u8>> {{
-    let draft = copy_root(alloc, root)?;
+fn built(alloc: Global, root: &RootReader<'_>) -> anyhow::Result<Vec<u8>> {{
+    let root = copy_root(alloc, root)?;
     let mut to = Tap::new(Vec::new(alloc));
-    write_struct(alloc, &mut to, &draft.body.into_object(), Mode::Plain, Limits::standard())?;
+    write_struct(alloc, &mut to, &root.body.into_object(), Mode::Plain, Limits::standard())?;
     Ok(to.into_inner())
 }}
 
 pub fn show(rt: &HostRuntime, segments: &Segments) -> anyhow::Result<()> {{
     let view = View::root(segments, Limits::standard()).map_err(|fault| anyhow!("{{fault}}"))?;
-    let root = RootView::of(Pointee::of_view(view))?;
+    let root = RootReader::of(Pointee::of_view(view))?;
     print(rt, &root)?;
     let bytes = built(rt.alloc(), &root)?;
     let mut from = Tap::new(bytes.as_slice());
     match read_struct(rt.alloc(), &mut from, Mode::Plain, Limits::standard())? {{
-        Some(whole) => print(rt, &RootView::of(Pointee::of_whole(&whole))?),
+        Some(whole) => print(rt, &RootReader::of(Pointee::of_whole(&whole))?),
         None => bail!("nothing was written"),
     }}
 }}

@@ -1,28 +1,31 @@
-//! `address_book` of addressbook.capnp.
+//! `address_book` of addressbook.capnp, made by capnpc_rattle.
 
-ghost use Rattle.std.specs.Prelude.{◌≡◌, IfOk, OnOk, OnErr, Err, ◌+◌};
+ghost use Rattle.std.specs.Prelude.{◌≡◌, IfOk, OnOk, OnErr, Err, ◌≤◌, ◌^◌, length, ◌+◌, []};
 ghost use Rattle.cp_words.specs.declared.pointer.ElementSize.TheVariants as sizes;
 ghost use Rattle.cp_tree.specs.Seen.{pointee_of};
 ghost use Rattle.cp_fields.specs.Constants.{constant_of};
 ghost use Rattle.cp_fields.specs.Pointers.{Reads, list_field, or_default, struct_field};
 ghost use Rattle.cp_builder.specs.declared.fault.DraftFault.TheVariants.{TooLong};
 ghost use Rattle.cp_builder.specs.Drafts.{HoldsOneMore, blank, blank_list, with_last, with_pointer};
+ghost use Rattle.cp_stubs.specs.Promises.{along};
+ghost use Rattle.cp_services.specs.Lists.{pointers_tree};
 ghost use Rattle.addressbook.specs.AddressBook.{address_book_owner_default, address_book_circles_default};
 
-use crate::person::{PersonDraft, PersonListDraft, PersonView};
+use crate::person::{PersonBuilder, PersonListBuilder, PersonPromise, PersonReader};
 use cp_builder::{DraftFault, StructDraft, StructsDraft};
 use cp_fields::{Constant, ConstantBody, Item, List, Pointee, StructView, TextView, WrongKind};
+use cp_stubs::{Promised, ResultPayload, Results, Table};
 use cp_tree::{ListRef, Whole};
 use std::alloc::{AllocError, Global};
 
 /// `struct AddressBook`.
 #[derive(Drop)]
-pub struct AddressBookView<'a> {
+pub struct AddressBookReader<'a> {
     /// The struct, by the places of its fields.
     pub body: StructView<'a>,
 }
 
-impl<'a> Item<'a> for AddressBookView<'a> {
+impl<'a> Item<'a> for AddressBookReader<'a> {
     ghost SIZE = { sizes.Composite };
 
     ghost read = { λ t. record { body = t } };
@@ -33,34 +36,34 @@ impl<'a> Item<'a> for AddressBookView<'a> {
         cp_words::ElementSize::Composite
     }
 
-    fn of_item(item: StructView<'a>) -> AddressBookView<'a> {
-        AddressBookView { body: item }
+    fn of_item(item: StructView<'a>) -> AddressBookReader<'a> {
+        AddressBookReader { body: item }
     }
 }
 
-impl<'a> AddressBookView<'a> {
+impl<'a> AddressBookReader<'a> {
     /// The struct that a pointer stands for; null is the struct whose fields are all as by default.
-    pub fn of(at: Pointee<'a>) -> Result<AddressBookView<'a>, WrongKind>
+    pub fn of(at: Pointee<'a>) -> Result<AddressBookReader<'a>, WrongKind>
         ensures { Reads result (λ x. x.body) (struct_field at.entry) }
     {
-        Ok(AddressBookView {
+        Ok(AddressBookReader {
             body: StructView::of(at)?,
         })
     }
 
     /// `people @0`.
-    pub fn people(&self) -> Result<List<'a, PersonView<'a>>, WrongKind>
+    pub fn people(&self) -> Result<List<'a, PersonReader<'a>>, WrongKind>
         ensures { result ≡ list_field sizes.Composite (pointee_of self.now.body 0) }
     {
         self.body.list(0)
     }
 
     /// Whose book it is.
-    pub fn owner(&self) -> Result<PersonView<'a>, WrongKind>
+    pub fn owner(&self) -> Result<PersonReader<'a>, WrongKind>
         ensures { Reads result (λ x. x.body) (struct_field (or_default (pointee_of self.now.body 1) address_book_owner_default)) }
     {
         let default = address_book_owner_default();
-        Ok(PersonView {
+        Ok(PersonReader {
             body: self.body.structure_or(1, default)?,
         })
     }
@@ -76,67 +79,130 @@ impl<'a> AddressBookView<'a> {
 
 /// `struct AddressBook`, to be written.
 #[derive(Drop)]
-pub struct AddressBookDraft {
+pub struct AddressBookBuilder {
     /// The struct, by the places of its fields.
     pub body: StructDraft<0, 3>,
 }
 
-impl AddressBookDraft {
+impl AddressBookBuilder {
     /// A struct whose fields are all as by default.
-    pub fn new(alloc: Global) -> Result<AddressBookDraft, AllocError>
+    pub fn new(alloc: Global) -> Result<AddressBookBuilder, AllocError>
         ensures { IfOk result (λ d. d.body ≡ blank 0 3) }
     {
-        Ok(AddressBookDraft {
+        Ok(AddressBookBuilder {
             body: StructDraft::new(alloc)?,
         })
     }
 
     /// Sets `people`.
-    pub fn set_people(&mut self, value: PersonListDraft)
+    pub fn set_people(&mut self, value: PersonListBuilder)
         ensures { self.new.body ≡ with_pointer self.old.body 0 value.items }
     {
         self.body.set_pointer(0, value.items.into_whole());
     }
 
     /// Whose book it is.
-    pub fn set_owner(&mut self, value: PersonDraft)
+    pub fn set_owner(&mut self, value: PersonBuilder)
         ensures { self.new.body ≡ with_pointer self.old.body 1 value.body }
     {
         self.body.set_pointer(1, value.body.into_whole());
     }
 
     /// What people are sorted into.
-    pub fn set_circles(&mut self, value: Whole)
-        ensures { self.new.body ≡ with_pointer self.old.body 2 value }
+    pub fn set_circles(&mut self, value: cp_services::TextListBuilder) -> Result<(), DraftFault>
+        ensures set { OnOk result (self.new.body ≡ with_pointer self.old.body 2 (pointers_tree value.items.items)) }
+        ensures left { OnErr result (self.new ≡ self.old) }
+        ensures long { result ≡ Err TooLong → 2 ^ 29 ≤ length value.items.items }
     {
-        self.body.set_pointer(2, value);
+        self.body.set_pointer(2, value.into_whole()?);
+        Ok(())
     }
 }
 
 /// A list of `struct AddressBook`, to be written.
 #[derive(Drop)]
-pub struct AddressBookListDraft {
+pub struct AddressBookListBuilder {
     /// The list.
     pub items: StructsDraft<0, 3>,
 }
 
-impl AddressBookListDraft {
+impl AddressBookListBuilder {
     /// No struct yet.
-    pub fn new(alloc: Global) -> AddressBookListDraft
+    pub fn new(alloc: Global) -> AddressBookListBuilder
         ensures { result.items ≡ blank_list 0 3 }
     {
-        AddressBookListDraft {
+        AddressBookListBuilder {
             items: StructsDraft::new(alloc),
         }
     }
 
     /// Adds a struct at the end.
-    pub fn push(&mut self, item: AddressBookDraft) -> Result<(), DraftFault>
+    pub fn push(&mut self, item: AddressBookBuilder) -> Result<(), DraftFault>
         ensures pushed { OnOk result (self.new.items ≡ with_last self.old.items item.body) }
         ensures left { OnErr result (self.new ≡ self.old) }
         ensures long { result ≡ Err TooLong → ¬ (HoldsOneMore self.old.items (0 + 3)) }
     {
         self.items.push(item.body)
+    }
+}
+
+impl cp_services::ListValue for AddressBookListBuilder {
+    ghost tree = { λ l. l.items };
+
+    ghost is_long = { λ l. ¬ (Unit {0}) };
+
+    fn into_list(self, alloc: Global) -> Result<Whole, DraftFault> {
+        let _ = alloc;
+        Ok(self.items.into_whole())
+    }
+}
+
+impl Results for AddressBookBuilder {
+    ghost content = { λ d. d.body };
+
+    ghost names = { λ d. [] };
+
+    fn into_parts(self, alloc: Global) -> (Whole, Table) {
+        (self.body.into_whole(), Table::new(alloc))
+    }
+}
+
+/// `struct AddressBook`, as a question will give it.
+#[derive(Drop)]
+pub struct AddressBookPromise {
+    /// The question, and the path to the struct.
+    pub at: Promised,
+}
+
+impl AddressBookPromise {
+    /// What is promised there.
+    pub fn of(at: Promised) -> AddressBookPromise
+        ensures { result.at ≡ at }
+    {
+        AddressBookPromise { at }
+    }
+
+    /// The number of the question, whose outcome can be waited for.
+    pub fn question(&self) -> u32
+        ensures { result ≡ self.now.at.question }
+    {
+        self.at.question()
+    }
+
+    /// The results that came.
+    pub fn results<'a>(&self, came: &'a ResultPayload) -> Result<AddressBookReader<'a>, WrongKind>
+        ensures { Reads result (λ x. x.body) (struct_field came.now.content) }
+    {
+        Ok(AddressBookReader {
+            body: came.results()?,
+        })
+    }
+
+    /// `owner @1`.
+    pub fn owner(&self) -> Result<PersonPromise, AllocError>
+        ensures { IfOk result (λ p. p.at ≡ along self.now.at 1) }
+    {
+        Ok(PersonPromise::of(self.at.field(1)?))
     }
 }
 

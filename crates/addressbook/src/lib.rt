@@ -7,13 +7,16 @@ mod person;
 mod person_phone_number;
 mod person_phone_number_type;
 
-pub use address_book::{AddressBookDraft, AddressBookListDraft, AddressBookView};
+pub use address_book::{
+    AddressBookBuilder, AddressBookListBuilder, AddressBookPromise, AddressBookReader,
+};
 pub use constants::LARGEST;
 pub use person::{
-    PersonDraft, PersonEmploymentMember, PersonEmploymentView, PersonEmploymentWhich,
-    PersonListDraft, PersonView,
+    PersonBuilder, PersonEmploymentMember, PersonEmploymentReader, PersonEmploymentWhich,
+    PersonListBuilder, PersonPromise, PersonReader,
 };
 pub use person_phone_number::{
-    PersonPhoneNumberDraft, PersonPhoneNumberListDraft, PersonPhoneNumberView,
+    PersonPhoneNumberBuilder, PersonPhoneNumberListBuilder, PersonPhoneNumberPromise,
+    PersonPhoneNumberReader,
 };
 pub use person_phone_number_type::PersonPhoneNumberType;

@@ -1,4 +1,4 @@
-//! `person` of addressbook.capnp.
+//! `person` of addressbook.capnp, made by capnpc_rattle.
 
 ghost use Rattle.std.specs.Prelude.{◌≡◌, not, from_bits, to_bits, bit_xor, IfOk, OnOk, OnErr, IfErr, Err, ◌≤◌, ◌^◌, length, ◌+◌, []};
 ghost use Rattle.cp_words.specs.declared.pointer.ElementSize.TheVariants as sizes;
@@ -10,22 +10,25 @@ ghost use Rattle.cp_fields.specs.Pointers.{Reads, data_field, list_field, struct
 ghost use Rattle.cp_builder.specs.Numbers.{flag_bit};
 ghost use Rattle.cp_builder.specs.declared.fault.DraftFault.TheVariants.{TooLong};
 ghost use Rattle.cp_builder.specs.Drafts.{HoldsOneMore, blank, blank_list, bytes_tree, quads_tree, text_tree, with_last, with_pointer, with_uint};
+ghost use Rattle.cp_stubs.specs.Promises.{along};
 ghost use Rattle.addressbook.specs.Person.{person_employment_which_of, person_employment_member};
 
-use crate::person_phone_number::{PersonPhoneNumberListDraft, PersonPhoneNumberView};
+use crate::person_phone_number::{PersonPhoneNumberListBuilder, PersonPhoneNumberReader};
 use cp_builder::{DraftFault, StructDraft, StructsDraft};
 use cp_fields::{DataView, Item, List, Past, Pointee, StructView, TextView, WrongKind};
+use cp_stubs::{Promised, ResultPayload, Results, Table};
+use cp_tree::Whole;
 use std::alloc::{AllocError, Global};
 use std::num::f64_to_bits_with_nan;
 
 /// `struct Person`.
 #[derive(Drop)]
-pub struct PersonView<'a> {
+pub struct PersonReader<'a> {
     /// The struct, by the places of its fields.
     pub body: StructView<'a>,
 }
 
-impl<'a> Item<'a> for PersonView<'a> {
+impl<'a> Item<'a> for PersonReader<'a> {
     ghost SIZE = { sizes.Composite };
 
     ghost read = { λ t. record { body = t } };
@@ -36,17 +39,17 @@ impl<'a> Item<'a> for PersonView<'a> {
         cp_words::ElementSize::Composite
     }
 
-    fn of_item(item: StructView<'a>) -> PersonView<'a> {
-        PersonView { body: item }
+    fn of_item(item: StructView<'a>) -> PersonReader<'a> {
+        PersonReader { body: item }
     }
 }
 
-impl<'a> PersonView<'a> {
+impl<'a> PersonReader<'a> {
     /// The struct that a pointer stands for; null is the struct whose fields are all as by default.
-    pub fn of(at: Pointee<'a>) -> Result<PersonView<'a>, WrongKind>
+    pub fn of(at: Pointee<'a>) -> Result<PersonReader<'a>, WrongKind>
         ensures { Reads result (λ x. x.body) (struct_field at.entry) }
     {
-        Ok(PersonView {
+        Ok(PersonReader {
             body: StructView::of(at)?,
         })
     }
@@ -73,17 +76,17 @@ impl<'a> PersonView<'a> {
     }
 
     /// `phones @3`.
-    pub fn phones(&self) -> Result<List<'a, PersonPhoneNumberView<'a>>, WrongKind>
+    pub fn phones(&self) -> Result<List<'a, PersonPhoneNumberReader<'a>>, WrongKind>
         ensures { result ≡ list_field sizes.Composite (pointee_of self.now.body 2) }
     {
         self.body.list(2)
     }
 
     /// Group `employment`.
-    pub fn employment(&self) -> PersonEmploymentView<'a>
+    pub fn employment(&self) -> PersonEmploymentReader<'a>
         ensures { result.body ≡ self.now.body }
     {
-        PersonEmploymentView {
+        PersonEmploymentReader {
             body: self.body.again(),
         }
     }
@@ -110,10 +113,10 @@ impl<'a> PersonView<'a> {
     }
 
     /// `spouse @11`.
-    pub fn spouse(&self) -> Result<PersonView<'a>, WrongKind>
+    pub fn spouse(&self) -> Result<PersonReader<'a>, WrongKind>
         ensures { Reads result (λ x. x.body) (struct_field (pointee_of self.now.body 4)) }
     {
-        Ok(PersonView {
+        Ok(PersonReader {
             body: self.body.structure(4)?,
         })
     }
@@ -142,17 +145,17 @@ impl<'a> PersonView<'a> {
 
 /// `struct Person`, to be written.
 #[derive(Drop)]
-pub struct PersonDraft {
+pub struct PersonBuilder {
     /// The struct, by the places of its fields.
     pub body: StructDraft<3, 7>,
 }
 
-impl PersonDraft {
+impl PersonBuilder {
     /// A struct whose fields are all as by default.
-    pub fn new(alloc: Global) -> Result<PersonDraft, AllocError>
+    pub fn new(alloc: Global) -> Result<PersonBuilder, AllocError>
         ensures { IfOk result (λ d. d.body ≡ blank 3 7) }
     {
-        Ok(PersonDraft {
+        Ok(PersonBuilder {
             body: StructDraft::new(alloc)?,
         })
     }
@@ -185,7 +188,7 @@ impl PersonDraft {
     }
 
     /// Sets `phones`.
-    pub fn set_phones(&mut self, value: PersonPhoneNumberListDraft)
+    pub fn set_phones(&mut self, value: PersonPhoneNumberListBuilder)
         ensures { self.new.body ≡ with_pointer self.old.body 2 value.items }
     {
         self.body.set_pointer(2, value.items.into_whole());
@@ -251,7 +254,7 @@ impl PersonDraft {
     }
 
     /// Sets `spouse`.
-    pub fn set_spouse(&mut self, value: PersonDraft)
+    pub fn set_spouse(&mut self, value: PersonBuilder)
         ensures { self.new.body ≡ with_pointer self.old.body 4 value.body }
     {
         self.body.set_pointer(4, value.body.into_whole());
@@ -288,23 +291,23 @@ impl PersonDraft {
 
 /// A list of `struct Person`, to be written.
 #[derive(Drop)]
-pub struct PersonListDraft {
+pub struct PersonListBuilder {
     /// The list.
     pub items: StructsDraft<3, 7>,
 }
 
-impl PersonListDraft {
+impl PersonListBuilder {
     /// No struct yet.
-    pub fn new(alloc: Global) -> PersonListDraft
+    pub fn new(alloc: Global) -> PersonListBuilder
         ensures { result.items ≡ blank_list 3 7 }
     {
-        PersonListDraft {
+        PersonListBuilder {
             items: StructsDraft::new(alloc),
         }
     }
 
     /// Adds a struct at the end.
-    pub fn push(&mut self, item: PersonDraft) -> Result<(), DraftFault>
+    pub fn push(&mut self, item: PersonBuilder) -> Result<(), DraftFault>
         ensures pushed { OnOk result (self.new.items ≡ with_last self.old.items item.body) }
         ensures left { OnErr result (self.new ≡ self.old) }
         ensures long { result ≡ Err TooLong → ¬ (HoldsOneMore self.old.items (3 + 7)) }
@@ -313,14 +316,74 @@ impl PersonListDraft {
     }
 }
 
+impl cp_services::ListValue for PersonListBuilder {
+    ghost tree = { λ l. l.items };
+
+    ghost is_long = { λ l. ¬ (Unit {0}) };
+
+    fn into_list(self, alloc: Global) -> Result<Whole, DraftFault> {
+        let _ = alloc;
+        Ok(self.items.into_whole())
+    }
+}
+
+impl Results for PersonBuilder {
+    ghost content = { λ d. d.body };
+
+    ghost names = { λ d. [] };
+
+    fn into_parts(self, alloc: Global) -> (Whole, Table) {
+        (self.body.into_whole(), Table::new(alloc))
+    }
+}
+
+/// `struct Person`, as a question will give it.
+#[derive(Drop)]
+pub struct PersonPromise {
+    /// The question, and the path to the struct.
+    pub at: Promised,
+}
+
+impl PersonPromise {
+    /// What is promised there.
+    pub fn of(at: Promised) -> PersonPromise
+        ensures { result.at ≡ at }
+    {
+        PersonPromise { at }
+    }
+
+    /// The number of the question, whose outcome can be waited for.
+    pub fn question(&self) -> u32
+        ensures { result ≡ self.now.at.question }
+    {
+        self.at.question()
+    }
+
+    /// The results that came.
+    pub fn results<'a>(&self, came: &'a ResultPayload) -> Result<PersonReader<'a>, WrongKind>
+        ensures { Reads result (λ x. x.body) (struct_field came.now.content) }
+    {
+        Ok(PersonReader {
+            body: came.results()?,
+        })
+    }
+
+    /// `spouse @11`.
+    pub fn spouse(&self) -> Result<PersonPromise, AllocError>
+        ensures { IfOk result (λ p. p.at ≡ along self.now.at 4) }
+    {
+        Ok(PersonPromise::of(self.at.field(4)?))
+    }
+}
+
 /// `group Person.employment`.
 #[derive(Drop)]
-pub struct PersonEmploymentView<'a> {
+pub struct PersonEmploymentReader<'a> {
     /// The struct, by the places of its fields.
     pub body: StructView<'a>,
 }
 
-impl<'a> PersonEmploymentView<'a> {
+impl<'a> PersonEmploymentReader<'a> {
     /// Which member of the union is set.
     pub fn which(&self) -> PersonEmploymentWhich
         ensures { result ≡ person_employment_which_of (plain self.now.body 16 2) }

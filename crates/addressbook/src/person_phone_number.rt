@@ -1,4 +1,4 @@
-//! `person_phone_number` of addressbook.capnp.
+//! `person_phone_number` of addressbook.capnp, made by capnpc_rattle.
 
 ghost use Rattle.std.specs.Prelude.{◌≡◌, IfOk, OnOk, OnErr, Err, ◌≤◌, ◌^◌, length, ◌+◌, []};
 ghost use Rattle.cp_words.specs.declared.pointer.ElementSize.TheVariants as sizes;
@@ -13,16 +13,18 @@ ghost use Rattle.addressbook.specs.PersonPhoneNumberType.{person_phone_number_ty
 use crate::person_phone_number_type::PersonPhoneNumberType;
 use cp_builder::{DraftFault, StructDraft, StructsDraft};
 use cp_fields::{Item, Pointee, StructView, TextView, WrongKind};
+use cp_stubs::{Lends, Promise, Results, Table};
+use cp_tree::Whole;
 use std::alloc::{AllocError, Global};
 
 /// `struct Person.PhoneNumber`.
 #[derive(Drop)]
-pub struct PersonPhoneNumberView<'a> {
+pub struct PersonPhoneNumberReader<'a> {
     /// The struct, by the places of its fields.
     pub body: StructView<'a>,
 }
 
-impl<'a> Item<'a> for PersonPhoneNumberView<'a> {
+impl<'a> Item<'a> for PersonPhoneNumberReader<'a> {
     ghost SIZE = { sizes.Composite };
 
     ghost read = { λ t. record { body = t } };
@@ -33,17 +35,17 @@ impl<'a> Item<'a> for PersonPhoneNumberView<'a> {
         cp_words::ElementSize::Composite
     }
 
-    fn of_item(item: StructView<'a>) -> PersonPhoneNumberView<'a> {
-        PersonPhoneNumberView { body: item }
+    fn of_item(item: StructView<'a>) -> PersonPhoneNumberReader<'a> {
+        PersonPhoneNumberReader { body: item }
     }
 }
 
-impl<'a> PersonPhoneNumberView<'a> {
+impl<'a> PersonPhoneNumberReader<'a> {
     /// The struct that a pointer stands for; null is the struct whose fields are all as by default.
-    pub fn of(at: Pointee<'a>) -> Result<PersonPhoneNumberView<'a>, WrongKind>
+    pub fn of(at: Pointee<'a>) -> Result<PersonPhoneNumberReader<'a>, WrongKind>
         ensures { Reads result (λ x. x.body) (struct_field at.entry) }
     {
-        Ok(PersonPhoneNumberView {
+        Ok(PersonPhoneNumberReader {
             body: StructView::of(at)?,
         })
     }
@@ -65,17 +67,17 @@ impl<'a> PersonPhoneNumberView<'a> {
 
 /// `struct Person.PhoneNumber`, to be written.
 #[derive(Drop)]
-pub struct PersonPhoneNumberDraft {
+pub struct PersonPhoneNumberBuilder {
     /// The struct, by the places of its fields.
     pub body: StructDraft<1, 1>,
 }
 
-impl PersonPhoneNumberDraft {
+impl PersonPhoneNumberBuilder {
     /// A struct whose fields are all as by default.
-    pub fn new(alloc: Global) -> Result<PersonPhoneNumberDraft, AllocError>
+    pub fn new(alloc: Global) -> Result<PersonPhoneNumberBuilder, AllocError>
         ensures { IfOk result (λ d. d.body ≡ blank 1 1) }
     {
-        Ok(PersonPhoneNumberDraft {
+        Ok(PersonPhoneNumberBuilder {
             body: StructDraft::new(alloc)?,
         })
     }
@@ -100,27 +102,61 @@ impl PersonPhoneNumberDraft {
 
 /// A list of `struct Person.PhoneNumber`, to be written.
 #[derive(Drop)]
-pub struct PersonPhoneNumberListDraft {
+pub struct PersonPhoneNumberListBuilder {
     /// The list.
     pub items: StructsDraft<1, 1>,
 }
 
-impl PersonPhoneNumberListDraft {
+impl PersonPhoneNumberListBuilder {
     /// No struct yet.
-    pub fn new(alloc: Global) -> PersonPhoneNumberListDraft
+    pub fn new(alloc: Global) -> PersonPhoneNumberListBuilder
         ensures { result.items ≡ blank_list 1 1 }
     {
-        PersonPhoneNumberListDraft {
+        PersonPhoneNumberListBuilder {
             items: StructsDraft::new(alloc),
         }
     }
 
     /// Adds a struct at the end.
-    pub fn push(&mut self, item: PersonPhoneNumberDraft) -> Result<(), DraftFault>
+    pub fn push(&mut self, item: PersonPhoneNumberBuilder) -> Result<(), DraftFault>
         ensures pushed { OnOk result (self.new.items ≡ with_last self.old.items item.body) }
         ensures left { OnErr result (self.new ≡ self.old) }
         ensures long { result ≡ Err TooLong → ¬ (HoldsOneMore self.old.items (1 + 1)) }
     {
         self.items.push(item.body)
+    }
+}
+
+impl cp_services::ListValue for PersonPhoneNumberListBuilder {
+    ghost tree = { λ l. l.items };
+
+    ghost is_long = { λ l. ¬ (Unit {0}) };
+
+    fn into_list(self, alloc: Global) -> Result<Whole, DraftFault> {
+        let _ = alloc;
+        Ok(self.items.into_whole())
+    }
+}
+
+impl Results for PersonPhoneNumberBuilder {
+    ghost content = { λ d. d.body };
+
+    ghost names = { λ d. [] };
+
+    fn into_parts(self, alloc: Global) -> (Whole, Table) {
+        (self.body.into_whole(), Table::new(alloc))
+    }
+}
+
+/// `struct Person.PhoneNumber`, as a question will give it.
+pub type PersonPhoneNumberPromise = Promise<PersonPhoneNumberBuilder>;
+
+impl<'a> Lends<'a> for PersonPhoneNumberBuilder {
+    type Reader = PersonPhoneNumberReader<'a>;
+
+    ghost read = { λ x. x.body };
+
+    fn reader(body: StructView<'a>) -> PersonPhoneNumberReader<'a> {
+        PersonPhoneNumberReader { body }
     }
 }

@@ -1,4 +1,4 @@
-//! `person_phone_number_type` of addressbook.capnp.
+//! `person_phone_number_type` of addressbook.capnp, made by capnpc_rattle.
 
 ghost use Rattle.std.specs.Prelude.{◌≡◌};
 ghost use Rattle.cp_words.specs.declared.pointer.ElementSize.TheVariants as sizes;
@@ -57,5 +57,13 @@ impl<'a> Item<'a> for PersonPhoneNumberType {
 
     fn of_item(item: StructView<'a>) -> PersonPhoneNumberType {
         PersonPhoneNumberType::of(item.u16(0))
+    }
+}
+
+impl cp_services::Enumerant for PersonPhoneNumberType {
+    ghost number = { person_phone_number_type_number };
+
+    fn as_number(&self) -> u16 {
+        self.number()
     }
 }

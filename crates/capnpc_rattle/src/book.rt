@@ -17,11 +17,11 @@ pub struct Named {
     pub name: Out,
     /// Its name in definitions.
     pub word: Out,
-    /// The module that it is in: that of the struct which a group is in.
+    /// The module that it is in: that of the struct which a group is in, or of the interface whose params or results it is.
     pub module: Out,
     /// The name of its file's crate.
     pub krate: Out,
-    /// Whether it is written: a struct, an enum or a constant, and an interface where interfaces are.
+    /// Whether it is written: a struct, an enum, a constant or an interface.
     pub is_written: bool,
 }
 
@@ -39,25 +39,13 @@ impl Drop for Named {
     }
 }
 
-/// What is written of a request.
-#[derive(Clone, Copy)]
-pub struct Scope<'s> {
-    /// The methods of views that are written; empty where all are.
-    pub only: &'s str,
-    /// Whether drafts are written beside the views.
-    pub drafts: bool,
-    /// Whether interfaces are written.
-    pub interfaces: bool,
-    /// Whether objects of interfaces may make others.
-    pub services: bool,
-}
-
 /// All types and constants of a request.
 pub struct Book<'s> {
     pub alloc: Global,
     pub schema: &'s Schema,
     pub names: Vec<Named>,
-    pub scope: Scope<'s>,
+    /// The methods of readers that are written, and nothing else; empty where all is.
+    pub only: &'s str,
     /// The interfaces with all that they extend.
     pub lines: Vec<Line>,
     /// The structs and groups that can name a capability.
@@ -71,7 +59,7 @@ impl Drop for Book<'_> {
             alloc: _,
             schema: _,
             names: _,
-            scope: _,
+            only: _,
             lines: _,
             naming: _,
         } = self;
@@ -84,13 +72,13 @@ impl<'s> Book<'s> {
         alloc: Global,
         schema: &'s Schema,
         (path, krate): (&str, &str),
-        scope: Scope<'s>,
+        only: &'s str,
     ) -> Result<Book<'s>, AllocError> {
         let mut book = Book {
             alloc,
             schema,
             names: Vec::new(alloc),
-            scope,
+            only,
             lines: Vec::new(alloc),
             naming: Vec::new(alloc),
         };
@@ -110,7 +98,7 @@ impl<'s> Book<'s> {
             // `--crate` names the crate of this file alone.
             let krate = if node.path() == path { krate } else { "" };
             self.names
-                .push(names_of(self.alloc, schema, node, krate, self.scope))?;
+                .push(names_of(self.alloc, schema, node, krate, self.only))?;
         }
         push_lines(self.alloc, schema, &mut self.lines)?;
         push_naming(schema, &mut self.naming)
@@ -126,9 +114,14 @@ impl<'s> Book<'s> {
         None
     }
 
-    /// Whether the view of a struct or of a group has the method of this name.
+    /// Whether the reader of a struct or of a group has the method of this name.
     pub fn has_method(&self, node: &Node, name: &str) -> bool {
-        has_method(self.scope.only, node.name(), name)
+        has_method(self.only, node.name(), name)
+    }
+
+    /// Whether all is written, and not readers alone.
+    pub fn is_whole(&self) -> bool {
+        self.only.is_empty()
     }
 
     /// By which table the struct of this number names capabilities.
@@ -138,7 +131,7 @@ impl<'s> Book<'s> {
         }
         match self.schema.find(id) {
             // No other struct has these as a part.
-            Some(node) if self.scope.services && !has_name(node) => Naming::Own,
+            Some(node) if !has_name(node) => Naming::Own,
             _ => Naming::Shared,
         }
     }
@@ -178,12 +171,12 @@ impl<'s> Book<'s> {
 }
 
 /// Whether a node is written.
-fn is_written(node: &Node, scope: Scope<'_>) -> bool {
+fn is_written(node: &Node, only: &str) -> bool {
     match node.kind {
         NodeKind::Struct(_) | NodeKind::Enum(_) | NodeKind::Const(_) => {
-            has_type(scope.only, node.name())
+            has_type(only, node.name())
         }
-        NodeKind::Interface(_) => scope.interfaces,
+        NodeKind::Interface(_) => only.is_empty(),
         _ => false,
     }
 }
@@ -194,7 +187,7 @@ fn names_of<'s>(
     schema: &'s Schema,
     node: &'s Node,
     krate: &str,
-    scope: Scope<'_>,
+    only: &str,
 ) -> Named {
     let name = type_name(alloc, node);
     let word = Out::spelled(alloc, name.as_str(), "snake");
@@ -204,7 +197,7 @@ fn names_of<'s>(
         word,
         module: module_of(alloc, schema, node),
         krate: crate_name(alloc, node.path(), krate),
-        is_written: is_written(node, scope),
+        is_written: is_written(node, only),
     }
 }
 
@@ -219,12 +212,13 @@ fn type_name(alloc: Global, node: &Node) -> Out {
     name
 }
 
-/// The module that a node is in: that of the struct which a group is in.
+/// The module that a node is in: that of the struct which a group is in, or of the interface whose params or results it is.
 fn module_of<'s>(alloc: Global, schema: &'s Schema, node: &'s Node) -> Out {
     if matches!(node.kind, NodeKind::Const(_)) {
         return Out::spelled(alloc, "constants", "");
     }
-    let name = Out::spelled(alloc, owner_of(schema, node).name(), "camel");
+    let owner = owner_of(schema, node);
+    let name = Out::spelled(alloc, interface_of(owner).unwrap_or(owner.name()), "camel");
     let module = Out::spelled(alloc, name.as_str(), "method");
     drop(name);
     module
@@ -262,6 +256,14 @@ pub fn crate_name(alloc: Global, path: &str, krate: &str) -> Out {
         });
     }
     name
+}
+
+/// The name of the interface whose params or results a struct is, if it is that.
+fn interface_of(node: &Node) -> Option<&str> {
+    if has_name(node) {
+        return None;
+    }
+    Some(node.name().rsplit_once('.')?.0)
 }
 
 /// Whether a struct has a name in its schema, so that a list of it can be a field's type: not the params or results of a

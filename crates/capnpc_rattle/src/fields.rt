@@ -16,7 +16,7 @@ pub const DEEPEST: u32 = 64;
 const MOST: usize = 4;
 
 /// What the code around arguments calls its own.
-const OURS: &str = "alloc ask caller d made mark params request table";
+const OURS: &str = "alloc ask caller mark params r request table";
 
 /// Adds a node's names, and where a module finds it.
 pub fn named<'m>(model: &mut Model<'m>, book: &'m Book<'_>, key: &'static str, of: &'m Named) {
@@ -162,14 +162,14 @@ fn default<'m>(model: &mut Model<'m>, part: &Part<'m>, field: &'m StructField, s
 /// The interface of a field that is a capability, where interfaces are written.
 pub fn client_of<'b>(book: &'b Book<'_>, slot: &Slot) -> Option<&'b Named> {
     match slot.of.of {
-        Base::Interface(id) if book.scope.interfaces && slot.of.lists == 0 => book.find(id),
+        Base::Interface(id) if book.is_whole() && slot.of.lists == 0 => book.find(id),
         _ => None,
     }
 }
 
 /// Adds how a field is set.
-fn setting<'m>(model: &mut Model<'m>, book: &'m Book<'_>, slot: &'m Slot, is_member: bool) {
-    let of = setting_of(slot, book.scope.services);
+fn setting(model: &mut Model<'_>, slot: &Slot, is_member: bool) {
+    let of = setting_of(slot);
     let (base, width) = base_of(slot.of.of);
     let (elements, maker) = elements_of(width);
     let has_default = !of.points && slot.default != 0;
@@ -180,8 +180,6 @@ fn setting<'m>(model: &mut Model<'m>, book: &'m Book<'_>, slot: &'m Slot, is_mem
         ("elements", elements),
         ("maker", maker),
     ]);
-    // Builders name a capability by its client alone.
-    let is_set = client_of(book, slot).is_none() || !book.scope.services;
     model.numbers(&[
         ("width", width as u64),
         ("place", slot.place as u64),
@@ -191,11 +189,10 @@ fn setting<'m>(model: &mut Model<'m>, book: &'m Book<'_>, slot: &'m Slot, is_mem
         ("fails", of.fails as u64),
         ("copied", (of.kind == "copied") as u64),
         ("first", (of.fails && is_member) as u64),
-        ("set", is_set as u64),
     ]);
 }
 
-/// Adds the fields of a struct with those of its groups, as they are set and promised.
+/// Adds the fields of a struct with those of its groups, as they are set and promised, and says whether one is promised.
 #[cycle(parts)]
 pub fn parts<'m>(
     model: &mut Model<'m>,
@@ -203,19 +200,21 @@ pub fn parts<'m>(
     part: &Part<'m>,
     prefix: &str,
     depth: u32,
-) {
+) -> bool {
+    let mut is_piped = false;
     for (i, of) in part.of.fields.iter().enumerate() {
         let name = Out::spelled(model.alloc, of.name.as_str(), "snake");
         model.record("");
         model.own("joined", &[prefix, name.as_str()]);
         field(model, book, part, i, of);
-        setter(model, book, part, of);
+        is_piped = setter(model, book, part, of) || is_piped;
         model.close();
         if let FieldKind::Group(id) = &of.kind {
-            group(model, book, (*id, name.as_str()), prefix, depth);
+            is_piped = group(model, book, (*id, name.as_str()), prefix, depth) || is_piped;
         }
         drop(name);
     }
+    is_piped
 }
 
 /// Adds the fields of a group. It has no builder of its own, since its fields lie in the struct.
@@ -226,53 +225,65 @@ fn group<'m>(
     (id, name): (u64, &str),
     prefix: &str,
     depth: u32,
-) {
+) -> bool {
     let Some(node) = book.schema.find(id) else {
-        return;
+        return false;
     };
     let NodeKind::Struct(of) = &node.kind else {
-        return;
+        return false;
     };
     // In a wrong request a group could lie in itself.
     if depth == 0 {
         model.refuse(node.name(), "", "its groups are too deep");
-        return;
+        return false;
     }
     let mut inner = Out::new(model.alloc);
     inner.all(&[prefix, name, "_"]);
     let part = Part { node, of, word: "" };
-    parts(model, book, &part, inner.as_str(), depth - 1);
+    let is_piped = parts(model, book, &part, inner.as_str(), depth - 1);
     drop(inner);
+    is_piped
 }
 
-/// Adds how a field is set and what it is promised as. A group is set if it is a member of a union, and so is a field without bits.
-fn setter<'m>(model: &mut Model<'m>, book: &'m Book<'_>, part: &Part<'m>, of: &'m StructField) {
+/// Adds how a field is set and what it is promised as, and says whether it is. A group is set if it is a member of a union, and so is a
+/// field without bits.
+fn setter<'m>(
+    model: &mut Model<'m>,
+    book: &'m Book<'_>,
+    part: &Part<'m>,
+    of: &'m StructField,
+) -> bool {
     match &of.kind {
         FieldKind::Slot(at) if !is_void(&of.kind) => {
             model.text("setter", "field");
-            setting(model, book, at, of.is_member());
+            setting(model, at, of.is_member());
             type_of(model, book, part, of, at);
-            promised(model, book, at);
+            return promised(model, book, at);
         }
         FieldKind::Slot(_) | FieldKind::Group(_) if of.is_member() => model.text(
             "setter", "member",
         ),
         _ => model.text("setter", ""),
     }
+    false
 }
 
-/// Adds what a field will be, if it is a struct or a capability.
-fn promised<'m>(model: &mut Model<'m>, book: &'m Book<'_>, slot: &'m Slot) {
+/// Adds what a field will be, if it is a struct or a capability, and says whether it is.
+fn promised<'m>(model: &mut Model<'m>, book: &'m Book<'_>, slot: &'m Slot) -> bool {
     let (id, ending) = match slot.of.of {
         Base::Struct(id) => (id, "Promise"),
         Base::Interface(id) => (id, "Client"),
-        _ => return,
+        _ => return false,
     };
-    if let (0, Some(of)) = (slot.of.lists, book.find(id)) {
-        model.record("promised");
-        names(model, book, of);
-        model.text("ending", ending);
-        model.close();
+    match book.find(id) {
+        Some(of) if slot.of.lists == 0 => {
+            model.record("promised");
+            names(model, book, of);
+            model.text("ending", ending);
+            model.close();
+            true
+        }
+        _ => false,
     }
 }
 
@@ -284,18 +295,18 @@ pub fn is_void(kind: &FieldKind) -> bool {
     }
 }
 
-/// Adds the params that are numbers, texts and capabilities, if objects may make others: methods are called with these, in place of
-/// a builder.
+/// Adds the params that are numbers, texts and capabilities: methods are called with these, in place of a builder.
 pub fn plain<'m>(model: &mut Model<'m>, book: &'m Book<'_>, id: u64) {
     let Some(node) = book.schema.find(id) else {
         return;
     };
     match &node.kind {
-        NodeKind::Struct(of) if book.scope.services && !has_name(node) && is_plain(book, of) => {
+        NodeKind::Struct(of) if is_plain(book, node, of) => {
             let part = Part { node, of, word: "" };
             model.record("plain");
             model.numbers(&[("words", of.words as u64), ("pointers", of.pointers as u64)]);
             wraps(model, of);
+            model.text("alloc", "self.target.alloc()");
             arguments(model, book, &part);
             clients(model, book, &part, ("clients", of.fields.len()));
             model.close();
@@ -310,7 +321,7 @@ fn wraps(model: &mut Model<'_>, of: &Structure) {
     for field in of.fields.iter().rev() {
         if let FieldKind::Slot(slot) = &field.kind {
             model.record("");
-            model.number("points", setting_of(slot, true).points as u64);
+            model.number("points", setting_of(slot).points as u64);
             model.close();
         }
     }
@@ -324,8 +335,9 @@ fn arguments<'m>(model: &mut Model<'m>, book: &'m Book<'_>, part: &Part<'m>) {
         if let FieldKind::Slot(at) = &of.kind {
             model.record("");
             model.text("name", of.name.as_str());
+            model.number("more", (i > 0) as u64);
             value(model, of.name.as_str());
-            setting(model, book, at, false);
+            setting(model, at, false);
             type_of(model, book, part, of, at);
             clients(model, book, part, ("before", i));
             model.close();
@@ -362,8 +374,11 @@ fn value(model: &mut Model<'_>, name: &str) {
     drop(word);
 }
 
-/// Whether all fields of a struct are numbers, texts and capabilities, and few.
-fn is_plain(book: &Book<'_>, of: &Structure) -> bool {
+/// Whether a struct has no name in its schema, and all its fields are numbers, texts and capabilities, and few.
+pub fn is_plain(book: &Book<'_>, node: &Node, of: &Structure) -> bool {
+    if has_name(node) {
+        return false;
+    }
     for field in &of.fields {
         let is_argument = match &field.kind {
             FieldKind::Slot(slot) => is_value(slot) || client_of(book, slot).is_some(),

@@ -12,6 +12,7 @@ const STREAM_RESULT: u64 = 0x995f_9a33_77c0_b16e;
 pub fn interface<'m>(model: &mut Model<'m>, book: &'m Book<'_>, node: &'m Node, of: &'m Interface) {
     model.text("kind", "interface");
     model.number("count", of.methods.len() as u64);
+    model.number("last", of.methods.len().saturating_sub(1) as u64);
     model.list("methods");
     for (number, it) in of.methods.iter().enumerate() {
         model.record("");
@@ -56,8 +57,7 @@ fn method<'m>(
 /// Adds the names of results, if there are such.
 fn results<'m>(model: &mut Model<'m>, book: &'m Book<'_>, id: u64) -> bool {
     if id == STREAM_RESULT {
-        model.texts(&[("Type", "StreamResult"), ("from", "cp_stubs::")]);
-        model.number("stream", 1);
+        model.texts(&[("Type", "NoFields"), ("from", "cp_stubs::")]);
         return true;
     }
     match book.find(id) {

@@ -1,13 +1,12 @@
 //! The plugin of `capnp compile` that writes Rattle: it reads a CodeGeneratorRequest from standard input, and
-//! writes a crate of views for each requested file into the current folder.
+//! writes a crate for each requested file into the current folder: readers and builders of its structs, and clients and servers of its
+//! interfaces.
 //!
 //!     capnp compile -oFOLDER/capnpc_rattle:OUT X.capnp
-//!     capnp compile -o- X.capnp | capnpc_rattle [--crate=NAME] [--only=LIST] [--drafts] [--interfaces] [--services] [--print]
+//!     capnp compile -o- X.capnp | capnpc_rattle [--crate=NAME] [--only=LIST] [--print]
 //!
-//! With `--crate=NAME` the crate has this name, and not the file's; with `--only=LIST` views have the methods that are listed, and
-//! no others; with `--drafts` it has drafts too, by which structs are written; with `--interfaces` it has typed clients and objects
-//! of its interfaces besides; with `--services` these objects may make others, views are called readers, and drafts builders; with
-//! `--print` its files go to standard output.
+//! With `--crate=NAME` the crate has this name, and not the file's; with `--only=LIST` it has readers alone, whose methods are those that
+//! are listed; with `--print` its files go to standard output.
 #![tactic(auto)]
 
 mod book;
@@ -29,7 +28,7 @@ mod types;
 mod uses;
 
 use anyhow::{anyhow, bail};
-use book::{Book, Scope, crate_name};
+use book::{Book, crate_name};
 use cp_schema::{Node, Schema};
 use filler::Templates;
 use out::{Out, file_name};
@@ -43,126 +42,56 @@ use twice::found_twice;
 /// What `--help` prints.
 const USAGE: &str = "\
 usage: capnp compile -oFOLDER/capnpc_rattle:OUT X.capnp
-       capnp compile -o- X.capnp | capnpc_rattle [--crate=NAME] [--only=LIST] [--drafts] [--interfaces]
-                           [--services] [--print]
+       capnp compile -o- X.capnp | capnpc_rattle [--crate=NAME] [--only=LIST] [--print]
 
-Writes a crate of views for each schema file into the current folder.
+Writes a crate for each schema file into the current folder: readers and builders
+of its structs, and clients and servers of its interfaces.
 
   --crate=NAME  The crate's name, in place of the file's
-  --only=LIST   Of views only these methods, STRUCT.FIELD and STRUCT.of with commas
-                between; no types without one, and no members of unions
-  --drafts      Drafts too, by which structs are written
-  --interfaces  Typed clients and objects of interfaces, and drafts
-  --services    The same, where objects may make others in their calls; views
-                are called readers here, and drafts builders
+  --only=LIST   Readers alone, called views, with these methods: STRUCT.FIELD and
+                STRUCT.of with commas between; no types without one, and no members
+                of unions
   --print       Print the files, and write none
 ";
 
 /// What the plugin is asked to do with what it makes.
-struct Task {
-    /// Whether it only prints how it is used.
-    helps: bool,
+#[derive(Clone, Copy)]
+struct Task<'a> {
     /// The crate's name; empty where it is the file's.
-    krate: String,
-    /// The methods of views that are written; empty where all are.
-    only: String,
-    /// Whether drafts are asked for.
-    drafts: bool,
-    /// Whether interfaces are, and so drafts too.
-    interfaces: bool,
-    /// Whether interfaces are, of objects that may make others.
-    services: bool,
+    krate: &'a str,
+    /// The methods of readers that are written, and nothing else; empty where all is.
+    only: &'a str,
     /// Whether the files are printed, and not written.
     prints: bool,
 }
 
-// Not derived: who lets one go calls this function, and need not prove the drop of its texts.
-impl Drop for Task {
-    fn drop(self) {
-        let Task {
-            helps: _,
-            krate: _,
-            only: _,
-            drafts: _,
-            interfaces: _,
-            services: _,
-            prints: _,
-        } = self;
-    }
-}
-
-impl Task {
-    /// What the arguments say.
-    fn new(rt: &HostRuntime) -> anyhow::Result<Task> {
+impl<'a> Task<'a> {
+    /// What the arguments say; `None` if they ask for help.
+    fn of(words: &'a [String]) -> anyhow::Result<Option<Task<'a>>> {
         let mut task = Task {
-            helps: false,
-            krate: String::new(rt.alloc()),
-            only: String::new(rt.alloc()),
-            drafts: false,
-            interfaces: false,
-            services: false,
+            krate: "",
+            only: "",
             prints: false,
         };
-        match task.take_all(rt) {
-            Ok(()) => Ok(task),
-            Err(error) => {
-                drop(task);
-                Err(error)
+        for word in words.iter().skip(1) {
+            let word = word.as_str();
+            if let Some(name) = word.strip_prefix("--crate=") {
+                task.krate = name;
+            } else if let Some(names) = word.strip_prefix("--only=") {
+                task.only = names;
+            } else if word == "--print" {
+                task.prints = true;
+            } else if word == "--help" {
+                return Ok(None);
+            } else {
+                bail!("{word}: neither --crate=NAME nor --only=LIST nor --print");
             }
         }
-    }
-
-    /// Takes in what the arguments say.
-    fn take_all(&mut self, rt: &HostRuntime) -> anyhow::Result<()> {
-        for word in env::args(rt)?.skip(1) {
-            let taken = self.take(word.as_str());
-            drop(word);
-            taken?;
-        }
-        Ok(())
-    }
-
-    /// Takes in what an argument says.
-    fn take(&mut self, word: &str) -> anyhow::Result<()> {
-        if let Some(name) = word.strip_prefix("--crate=") {
-            self.krate.push_str(name)?;
-        } else if let Some(names) = word.strip_prefix("--only=") {
-            self.only.push_str(names)?;
-        } else if !self.take_flag(word) {
-            bail!(
-                "{word}: neither --crate=NAME nor --only=LIST nor --drafts nor --interfaces nor --services nor --print"
-            );
-        }
-        Ok(())
-    }
-
-    /// Takes in an argument that is one word, if it is known.
-    fn take_flag(&mut self, word: &str) -> bool {
-        match word {
-            "--help" => self.helps = true,
-            "--drafts" => self.drafts = true,
-            "--interfaces" => self.interfaces = true,
-            "--services" => self.services = true,
-            "--print" => self.prints = true,
-            _ => return false,
-        }
-        true
-    }
-
-    /// What is written of a request.
-    fn scope(&self) -> Scope<'_> {
-        let interfaces = self.interfaces || self.services;
-        Scope {
-            only: self.only.as_str(),
-            // Typed clients take drafts.
-            drafts: self.drafts || interfaces,
-            interfaces,
-            services: self.services,
-        }
+        Ok(Some(task))
     }
 
     /// Writes or prints a file of a crate, by its path in the crate's folder.
-    fn put(&self, rt: &HostRuntime, krate: &str, path: &[&str], text: &Out) -> anyhow::Result<()> {
+    fn put(self, rt: &HostRuntime, krate: &str, path: &[&str], text: &Out) -> anyhow::Result<()> {
         let mut name = Out::new(rt.alloc());
         name.all(&[krate, "/"]);
         name.all(path);
@@ -176,7 +105,7 @@ impl Task {
     }
 
     /// Writes or prints this text.
-    fn put_text(&self, rt: &HostRuntime, path: &str, text: &str) -> anyhow::Result<()> {
+    fn put_text(self, rt: &HostRuntime, path: &str, text: &str) -> anyhow::Result<()> {
         if self.prints {
             print!(rt; "==> {path}\n{text}")?;
         } else {
@@ -186,7 +115,7 @@ impl Task {
     }
 
     /// Makes a folder of the crate, unless its files are printed.
-    fn make_folder(&self, rt: &HostRuntime, krate: &str, name: &str) -> anyhow::Result<()> {
+    fn make_folder(self, rt: &HostRuntime, krate: &str, name: &str) -> anyhow::Result<()> {
         if self.prints {
             return Ok(());
         }
@@ -197,7 +126,7 @@ impl Task {
     }
 
     /// Writes or prints the files of a crate's modules.
-    fn put_pages(&self, rt: &HostRuntime, krate: &str, pages: &[Page<'_>]) -> anyhow::Result<()> {
+    fn put_pages(self, rt: &HostRuntime, krate: &str, pages: &[Page<'_>]) -> anyhow::Result<()> {
         self.make_folder(rt, krate, "src")?;
         self.make_folder(rt, krate, "specs")?;
         for page in pages {
@@ -219,7 +148,7 @@ impl Task {
 
     /// Writes or prints the roots of a crate, and prints its line where they are written.
     fn put_roots(
-        &self,
+        self,
         rt: &HostRuntime,
         book: &Book<'_>,
         pages: &[Page<'_>],
@@ -244,8 +173,13 @@ impl Task {
 }
 
 /// Makes the crate of a file.
-fn make_crate(rt: &HostRuntime, task: &Task, schema: &Schema, file: &Node) -> anyhow::Result<()> {
-    let name = crate_name(rt.alloc(), file.path(), task.krate.as_str());
+fn make_crate(
+    rt: &HostRuntime,
+    task: Task<'_>,
+    schema: &Schema,
+    file: &Node,
+) -> anyhow::Result<()> {
+    let name = crate_name(rt.alloc(), file.path(), task.krate);
     let put = put_crate(rt, task, schema, file.path(), name.as_str());
     drop(name);
     put
@@ -254,12 +188,12 @@ fn make_crate(rt: &HostRuntime, task: &Task, schema: &Schema, file: &Node) -> an
 /// Writes or prints the crate of the file of this path.
 fn put_crate<'n>(
     rt: &HostRuntime,
-    task: &Task,
+    task: Task<'_>,
     schema: &Schema,
     path: &'n str,
     krate: &'n str,
 ) -> anyhow::Result<()> {
-    let book = Book::of(rt.alloc(), schema, (path, krate), task.scope())?;
+    let book = Book::of(rt.alloc(), schema, (path, krate), task.only)?;
     let target = Target {
         krate,
         schema: file_name(path),
@@ -270,7 +204,12 @@ fn put_crate<'n>(
 }
 
 /// Writes or prints a crate of these types and constants.
-fn put_book(rt: &HostRuntime, task: &Task, book: &Book<'_>, of: Target<'_>) -> anyhow::Result<()> {
+fn put_book(
+    rt: &HostRuntime,
+    task: Task<'_>,
+    book: &Book<'_>,
+    of: Target<'_>,
+) -> anyhow::Result<()> {
     let templates = Templates::new(rt.alloc(), &TEMPLATES);
     let pages = pages(book, &templates, of);
     drop(templates);
@@ -283,7 +222,7 @@ fn put_book(rt: &HostRuntime, task: &Task, book: &Book<'_>, of: Target<'_>) -> a
 /// Writes or prints a crate of these modules.
 fn put_all(
     rt: &HostRuntime,
-    task: &Task,
+    task: Task<'_>,
     book: &Book<'_>,
     of: Target<'_>,
     pages: &[Page<'_>],
@@ -317,12 +256,12 @@ fn check(pages: &[Page<'_>]) -> anyhow::Result<()> {
 }
 
 /// Makes the crates of a request.
-fn answer(rt: &HostRuntime, task: &Task, schema: &Schema) -> anyhow::Result<()> {
+fn answer(rt: &HostRuntime, task: Task<'_>, schema: &Schema) -> anyhow::Result<()> {
     for file in &schema.files {
         match schema.find(file.id) {
             Some(node) => {
                 make_crate(rt, task, schema, node)?;
-                tell_names(rt, schema, node.path(), task.scope())?;
+                tell_names(rt, schema, node.path(), task.only)?;
             }
             None => bail!("the request has no file {}", file.id),
         }
@@ -344,11 +283,11 @@ fn read_request(rt: &HostRuntime, bytes: &mut Vec<u8>) -> anyhow::Result<Schema>
 }
 
 /// Does what the arguments say.
-fn act(rt: &HostRuntime, task: &Task) -> anyhow::Result<()> {
-    if task.helps {
+fn act(rt: &HostRuntime, words: &[String]) -> anyhow::Result<()> {
+    let Some(task) = Task::of(words)? else {
         print!(rt; "{USAGE}")?;
         return Ok(());
-    }
+    };
     let schema = request(rt)?;
     let answered = answer(rt, task, &schema);
     drop(schema);
@@ -356,8 +295,8 @@ fn act(rt: &HostRuntime, task: &Task) -> anyhow::Result<()> {
 }
 
 fn main(rt: HostRuntime) -> anyhow::Result<()> {
-    let task = Task::new(&rt)?;
-    let done = act(&rt, &task);
-    drop(task);
+    let words: Vec<String> = env::args(&rt)?.collect(rt.alloc())?;
+    let done = act(&rt, &words);
+    drop(words);
     done
 }

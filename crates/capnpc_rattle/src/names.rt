@@ -5,11 +5,13 @@ const AMBIGUOUS: &str = "Data Struct Structs Text";
 
 /// Types that generated code or definitions have from elsewhere.
 const TYPES: &str = "\
-    AllocError Anything Bool Box CallTarget CapFault Caps Constant ConstantBody DataView \
-    DraftFault Drop Err Finds Gives Global HoldsOneMore IsElsewhere Item List ListRef Makes \
-    Method None Ok Option Passes Past Pointee Promised Reads Refuses Request Result \
-    ResultPayload Results Self Some String StructDraft StructView StructsDraft Table TextView \
-    TooLong Tree Type Unit Vec Whole WrongKind";
+    AllocError Anything Ask Bool Box CallTarget Caller Cap CapFault Caps Constant \
+    ConstantBody DataView Dispatch DraftFault Drop Err Finds Global Here HoldsOneMore \
+    IsElsewhere Item Lends List ListRef Makes MakesOf Method MethodCall MethodFault \
+    MethodResult NamedResults None Ok Option Passes Past Pointee Promise Promised Reads \
+    Refuses Reply Request Result ResultPayload Results Self ServedObject ServiceCall \
+    ServiceObject Some String StructDraft StructView StructsDraft Table TextView TooLong \
+    Tree Type TypedClient TypedResolver Unit Vec Whole WrongKind";
 
 /// Words of Rattle.
 const OF_RATTLE: &str = "\

@@ -1,10 +1,9 @@
 //! The types and constants of a module, as templates have them.
 
 use crate::book::{Book, Named, has_name, is_params};
-use crate::fields::{DEEPEST, Part, field, is_void, named, names, naming, parts, plain, slot};
+use crate::fields::{DEEPEST, Part, field, is_plain, is_void, named, names, naming, parts, slot};
 use crate::interfaces::interface;
 use crate::model::Model;
-use crate::reach::Naming;
 use crate::trees::tree;
 use crate::types::{base_of, is_lent};
 use cp_schema::{Base, ConstNode, FieldKind, Node, NodeKind, SchemaValue, StructField, Structure};
@@ -35,7 +34,7 @@ pub fn node<'m>(model: &mut Model<'m>, book: &'m Book<'_>, of: &'m Node, with: &
             enumeration(model, book, of.id, items.as_slice());
         }
         NodeKind::Const(it) => constant(model, book, of, it),
-        NodeKind::Interface(it) if book.scope.interfaces => interface(model, book, of, it),
+        NodeKind::Interface(it) => interface(model, book, of, it),
         _ => {}
     }
     model.close();
@@ -64,40 +63,36 @@ fn value<'m>(model: &mut Model<'m>, number: usize, name: &'m str, about: &'m str
 fn structure<'m>(model: &mut Model<'m>, book: &'m Book<'_>, part: &Part<'m>, with: &'m Named) {
     let (of, own) = (part.of, part.node);
     let is_struct = !of.is_group;
-    let builds = book.scope.drafts && is_struct;
-    let naming_of = book.naming_of(own.id);
-    let is_nameless = book.scope.services && matches!(naming_of, Naming::Never);
-    // No question gives params.
-    let is_promised = book.scope.interfaces && is_struct && !is_params(own);
-    model.text("kind", "struct");
+    // What params are plain are arguments, and no question gives params.
+    let is_whole = book.is_whole() && is_struct;
+    let builds = is_whole && !(is_params(own) && is_plain(book, own, of));
+    let is_empty = is_whole && !has_name(own) && of.fields.is_empty();
+    model.text("kind", if is_empty { "empty" } else { "struct" });
     model.numbers(&[
         ("group", of.is_group as u64),
         ("items", (is_struct && has_name(own)) as u64),
         ("methods", (is_struct || of.tags > 0 || has_bits(of)) as u64),
         (
             "constructor",
-            (is_struct && book.has_method(own, "of")) as u64,
+            (is_struct && has_name(own) && book.has_method(own, "of")) as u64,
         ),
         ("tag_place", of.tag_place as u64),
         ("words", of.words as u64),
         ("pointers", of.pointers as u64),
         ("builder", builds as u64),
         ("list", (builds && has_name(own)) as u64),
-        ("nameless", is_nameless as u64),
-        ("promise", is_promised as u64),
+        ("results", (is_whole && !is_params(own)) as u64),
     ]);
-    naming(model, naming_of);
+    naming(model, book.naming_of(own.id));
     getters(model, book, part);
     if of.tags > 0 {
         union(model, book, part, with);
     }
     if builds {
-        if is_params(own) {
-            plain(model, book, own.id);
-        }
         model.list("parts");
-        parts(model, book, part, "", DEEPEST);
+        let is_piped = parts(model, book, part, "", DEEPEST);
         model.close();
+        model.number("piped", is_piped as u64);
     }
 }
 
@@ -158,7 +153,7 @@ fn union<'m>(model: &mut Model<'m>, book: &'m Book<'_>, part: &Part<'m>, with: &
     model.own("word", &[with.word.as_str(), "_which"]);
     members(model, book, part, "values");
     model.close();
-    if book.scope.only.is_empty() {
+    if book.is_whole() {
         model.record("member");
         model.text("body", "t");
         members(model, book, part, "members");

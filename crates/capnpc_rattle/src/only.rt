@@ -1,6 +1,6 @@
 //! What is written where not all is: a list of names, `STRUCT.FIELD`, `STRUCT.of` and types, with commas between.
 
-/// Whether a list has this method of a type's view. One that is empty has all.
+/// Whether a list has this method of a type's reader. One that is empty has all.
 pub fn has_method(only: &str, of: &str, method: &str) -> bool {
     for name in only.split(',') {
         if is_method(name, of, method) {
@@ -10,7 +10,7 @@ pub fn has_method(only: &str, of: &str, method: &str) -> bool {
     only.is_empty()
 }
 
-/// Whether a list has a type, or a method of its view.
+/// Whether a list has a type, or a method of its reader.
 pub fn has_type(only: &str, of: &str) -> bool {
     has_method(only, of, "")
 }

@@ -1,29 +1,26 @@
 //! The pages of a crate: its modules, with what they import, and its roots.
 
-use crate::book::Book;
+use crate::book::{Book, has_name};
 use crate::filler::Templates;
 use crate::model::{Model, Refusal};
 use crate::names::has_word;
 use crate::nodes::node;
 use crate::out::{Out, before, name_of};
 use crate::uses::{is_between, list, of_clauses, of_definitions, paths};
-use cp_schema::NodeKind;
+use cp_schema::{Node, NodeKind};
 use std::alloc::{AllocError, Global};
 
-/// The libraries that the code of interfaces stands on, besides those of builders.
-const STUBS: &str = "\
-cp_vat_machine
+/// The libraries that builders, clients and servers stand on.
+const LIBRARIES: &str = "\
+cp_builder
+cp_makers
 cp_refs
 cp_rpc
 cp_servants
+cp_services
 cp_stubs
 cp_tables
-";
-
-/// What the code of objects that may make others stands on besides.
-const SERVICES: &str = "\
-cp_makers
-cp_services
+cp_vat_machine
 ";
 
 /// The libraries that all generated code stands on.
@@ -140,39 +137,65 @@ fn model_of<'b>(book: &'b Book<'_>, target: Target<'b>, module: &'b str) -> Mode
     model.text("schema", target.schema);
     model.text("krate", target.krate);
     model.text("module", module);
-    endings(&mut model, book.scope.services);
-    model.texts(&[("body", "self.now.body"), ("value", "value")]);
-    model.number("services", book.scope.services as u64);
+    let ending = if book.is_whole() { "Reader" } else { "View" };
+    model.text("Reader", ending);
+    model.texts(&[
+        ("body", "self.now.body"),
+        ("value", "value"),
+        ("alloc", "alloc"),
+    ]);
+    model.number("whole", book.is_whole() as u64);
     let calls = nodes(&mut model, book, target, module);
     model.number("calls", calls as u64);
     model.close();
     model
 }
 
-/// Adds what the names of types end with.
-fn endings(model: &mut Model<'_>, has_services: bool) {
-    if has_services {
-        model.texts(&[("Reader", "Reader"), ("Builder", "Builder")]);
-    } else {
-        model.texts(&[("Reader", "View"), ("Builder", "Draft")]);
-    }
-}
-
-/// Adds the types and constants of a module, and says whether it has an interface.
+/// Adds the types and constants of a module, and says whether it has an interface. Params and results come after their interface.
 fn nodes<'b>(model: &mut Model<'b>, book: &'b Book<'_>, target: Target<'b>, module: &str) -> bool {
     let mut calls = false;
     model.list("nodes");
     for of in &book.schema.nodes {
-        if let Some(named) = book.find(of.id) {
-            let is_here = named.krate.as_str() == target.krate && named.module.as_str() == module;
-            if is_here && named.is_written {
-                node(model, book, of, named);
-                calls = calls || matches!(of.kind, NodeKind::Interface(_));
+        if has_name(of) && is_here(book, of, target, module) {
+            add(model, book, of.id);
+            if let NodeKind::Interface(it) = &of.kind {
+                calls = true;
+                for method in &it.methods {
+                    add_nameless(model, book, method.params);
+                    add_nameless(model, book, method.results);
+                }
             }
         }
     }
     model.close();
     calls
+}
+
+/// Whether a node is written in a module.
+fn is_here(book: &Book<'_>, of: &Node, target: Target<'_>, module: &str) -> bool {
+    match book.find(of.id) {
+        Some(named) => {
+            named.is_written
+                && named.krate.as_str() == target.krate
+                && named.module.as_str() == module
+        }
+        None => false,
+    }
+}
+
+/// Adds the node of this number, if there is one.
+fn add<'b>(model: &mut Model<'b>, book: &'b Book<'_>, id: u64) {
+    if let (Some(of), Some(named)) = (book.schema.find(id), book.find(id)) {
+        node(model, book, of, named);
+    }
+}
+
+/// Adds params or results, unless they have a name of their own.
+fn add_nameless<'b>(model: &mut Model<'b>, book: &'b Book<'_>, id: u64) {
+    match book.schema.find(id) {
+        Some(of) if !has_name(of) => add(model, book, id),
+        _ => {}
+    }
 }
 
 impl<'b> Page<'b> {
@@ -243,8 +266,7 @@ impl<'b> Page<'b> {
     /// Puts the imports before the code.
     fn finish(&mut self, here: &str, code: &Out) {
         let text = code.as_str();
-        let has_stubs = self.has_stubs();
-        of_clauses(&mut self.code, text, has_stubs);
+        of_clauses(&mut self.code, text);
         self.code.put_sorted(self.cited.as_str(), ("", "\n"));
         if !self.words.is_empty() {
             self.code.all(&["ghost use ", here, ".{"]);
@@ -260,11 +282,6 @@ impl<'b> Page<'b> {
         drop(all);
     }
 
-    /// Whether the code stands on cp_stubs.
-    fn has_stubs(&self) -> bool {
-        self.libraries.as_str().contains("cp_stubs::")
-    }
-
     /// Fills the definitions in, if there are some.
     fn define(&mut self, templates: &Templates<'_>, model: &Model<'_>) {
         let mut text = Out::new(model.alloc);
@@ -278,9 +295,8 @@ impl<'b> Page<'b> {
             }
         }
         if !specs.is_empty() {
-            let has_stubs = self.has_stubs();
             templates.fill(model, ("definitions", "head"), 0, &mut self.specs);
-            of_definitions(&mut self.specs, specs.as_str(), has_stubs);
+            of_definitions(&mut self.specs, specs.as_str());
             self.specs.put_sorted(imports.as_str(), ("", "\n"));
             self.specs.put(specs.as_str());
         }
@@ -349,14 +365,8 @@ pub fn specs_root(book: &Book<'_>, pages: &[Page<'_>]) -> Out {
 /// The line that names the crate and the libraries that it stands on.
 pub fn line_of(book: &Book<'_>, pages: &[Page<'_>], krate: &str) -> Out {
     let (mut line, mut crates) = (Out::new(book.alloc), Out::new(book.alloc));
-    if book.scope.drafts {
-        crates.put("cp_builder\n");
-    }
-    if book.scope.interfaces {
-        crates.put(STUBS);
-    }
-    if book.scope.services {
-        crates.put(SERVICES);
+    if book.is_whole() {
+        crates.put(LIBRARIES);
     }
     for page in pages {
         for path in page.libraries.as_str().lines() {

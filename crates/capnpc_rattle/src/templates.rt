@@ -25,14 +25,14 @@ $for nodes$
 $insert specs kind$
 $end$
 $block module head$
-//! `$module$` of $schema$$if services$, made by capnpc_rattle$end$.
+//! `$module$` of $schema$$if whole$, made by capnpc_rattle$end$.
 
 $block definitions head$
 -- $if calls$What calls of `$module$` of $schema$ lead to$else$The enums and unions of `$module$` of $schema$$end$.
 ";
 
 /// All templates.
-pub const TEMPLATES: [&str; 12] = [
+pub const TEMPLATES: [&str; 11] = [
     PAGES,
     readers::READERS,
     readers::FIELDS,
@@ -44,5 +44,4 @@ pub const TEMPLATES: [&str; 12] = [
     clients::CLIENTS,
     clients::KINDS,
     servers::SERVERS,
-    servers::SERVICES,
 ];

@@ -78,9 +78,8 @@ pub struct Setting {
     pub fails: bool,
 }
 
-/// How a field is set, where lists are given as numbers or by their builders, or aren't. A pointer's default isn't looked at: null
-/// stands for it, and setting replaces all of it.
-pub fn setting_of(slot: &Slot, builds: bool) -> Setting {
+/// How a field is set. A pointer's default isn't looked at: null stands for it, and setting replaces all of it.
+pub fn setting_of(slot: &Slot) -> Setting {
     let (form, kind) = match (slot.of.lists, slot.of.of) {
         (_, Base::Void | Base::AnyPointer) => ("whole", "pointer"),
         (0, Base::Text) => ("text", "copied"),
@@ -90,12 +89,11 @@ pub fn setting_of(slot: &Slot, builds: bool) -> Setting {
         (0, of) => (base_of(of).0, "number"),
         (1, Base::Struct(_)) => ("structs", "pointer"),
         (1, Base::Bool | Base::Unsigned(_)) => ("numbers", "long"),
-        (1, Base::Enum(_)) if builds => ("enum_list", "slice"),
-        (1, Base::Signed(_)) if builds => ("signed_list", "slice"),
-        (1, Base::Float(_)) if builds => ("float_list", "slice"),
+        (1, Base::Enum(_)) => ("enum_list", "slice"),
+        (1, Base::Signed(_)) => ("signed_list", "slice"),
+        (1, Base::Float(_)) => ("float_list", "slice"),
         (_, Base::Enum(_)) => ("whole", "pointer"),
-        _ if builds => ("built", "built"),
-        _ => ("whole", "pointer"),
+        _ => ("built", "built"),
     };
     Setting {
         form,

@@ -15,8 +15,7 @@ cp_builder.specs.Numbers flag_bit
 cp_builder.specs.declared.fault.DraftFault.TheVariants TooLong
 cp_builder.specs.Drafts HoldsOneMore bits_tree blank blank_list bytes_tree cap_tree halves_tree quads_tree text_tree with_last with_pointer with_uint words_tree
 cp_servants.specs.Naming pointer_naming with_named
-cp_stubs.specs.Calls Makes ask_of request_of
-cp_stubs.specs.Dispatch Anything Gives IsElsewhere Method Passes Refuses
+cp_stubs.specs.Calls ask_of request_of
 cp_stubs.specs.Promises Finds along promised_cap
 ";
 
@@ -35,8 +34,8 @@ const FIELDS: [(&str, &[&str]); 8] = [
     ("WrongKind", &["WrongKind>", "WrongKind<", "WrongKind::"]),
 ];
 
-/// The paths of the types of other libraries that the code of drafts cites.
-const DRAFTS: [&str; 8] = [
+/// The paths of the types of other libraries that the code of builders cites.
+const BUILDERS: [&str; 8] = [
     "cp_builder::DraftFault",
     "cp_builder::StructDraft",
     "cp_builder::StructsDraft",
@@ -92,10 +91,6 @@ const SIZES: &str = "Rattle.cp_words.specs.declared.pointer.ElementSize.TheVaria
 
 /// Whether a text has a word, comments aside.
 fn has_word(text: &str, word: &str) -> bool {
-    // Objects that may make others have a type of this name.
-    if word == "Makes" {
-        return has_part(text, &["{ Makes ("]);
-    }
     for line in text.lines() {
         if !is_comment(line) && line.contains(word) && has_between(line, word) {
             return true;
@@ -160,9 +155,8 @@ fn import(out: &mut Out, module: &str, words: Out, (before, after): (&str, &str)
     drop(words);
 }
 
-/// Adds what a text imports of the libraries, but for one module, between these texts. What doesn't stand on cp_stubs imports nothing
-/// of it.
-fn libraries(out: &mut Out, text: &str, around: (&str, &str), skipped: &str, has_stubs: bool) {
+/// Adds what a text imports of the libraries, but for one module, between these texts.
+fn libraries(out: &mut Out, text: &str, around: (&str, &str), skipped: &str) {
     let mut found = Out::new(out.alloc);
     for (word, parts) in &PRELUDE {
         if has_part(text, parts) {
@@ -177,7 +171,7 @@ fn libraries(out: &mut Out, text: &str, around: (&str, &str), skipped: &str, has
     }
     for line in LIBRARY.lines() {
         let (module, words) = line.split_once(' ').unwrap_or((line, ""));
-        if module != skipped && (has_stubs || !module.starts_with("cp_stubs.")) {
+        if module != skipped {
             import(out, module, words_in(out, text, words), around);
         }
     }
@@ -195,16 +189,24 @@ fn words_in(out: &Out, text: &str, words: &str) -> Out {
 }
 
 /// Adds what definitions import of the libraries.
-pub fn of_definitions(out: &mut Out, text: &str, has_stubs: bool) {
-    libraries(out, text, ("use ", "\n"), "", has_stubs);
+pub fn of_definitions(out: &mut Out, text: &str) {
+    libraries(out, text, ("use ", "\n"), "");
     if has_word(text, "Tree") {
         out.put("use Rattle.cp_tree.specs.Node.{Node as Tree}\n");
     }
 }
 
-/// Adds what clauses import of the libraries.
-pub fn of_clauses(out: &mut Out, text: &str, has_stubs: bool) {
-    libraries(out, text, ("ghost use ", ";\n"), WRONG_KIND, has_stubs);
+/// Adds what the clauses of code import of the libraries.
+pub fn of_clauses(out: &mut Out, code: &str) {
+    let mut clauses = Out::new(out.alloc);
+    for line in code.lines() {
+        let line = line.trim_start();
+        if line.starts_with("ensures ") || line.starts_with("ghost ") {
+            clauses.all(&[line, "\n"]);
+        }
+    }
+    libraries(out, clauses.as_str(), ("ghost use ", ";\n"), WRONG_KIND);
+    drop(clauses);
 }
 
 /// Adds the paths of the types of libraries that code has, a line each.
@@ -217,7 +219,7 @@ pub fn paths(out: &mut Out, text: &str) {
     if text.contains("Constant<'static>") {
         used(out, text, &CONSTANTS);
     }
-    used(out, text, &DRAFTS);
+    used(out, text, &BUILDERS);
 }
 
 /// Adds those of the paths whose names a text has, a line each.

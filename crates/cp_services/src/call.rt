@@ -7,11 +7,10 @@ ghost use Rattle.cp_stubs.specs.Replies.{given_up, with_import};
 ghost use Rattle.cp_services.specs.Calls.{reply_for};
 
 use crate::later::LaterCall;
-use crate::results::{Content, ServiceResults};
 use cp_makers::Here;
 use cp_refs::{Cap, Caps};
 use cp_servants::Reply;
-use cp_stubs::{Answer, CallTarget, MethodCall, MethodFault, given_up, refuse};
+use cp_stubs::{CallTarget, MethodCall, MethodFault, Results, given_up, refuse, reply};
 use cp_vat_machine::Ids;
 use std::alloc::{AllocError, Global};
 
@@ -118,7 +117,7 @@ impl<'c, P, R> ServiceCall<'c, P, R> {
     }
 }
 
-impl<P: Drop, R: ServiceResults> ServiceCall<'_, P, R> {
+impl<P: Drop, R: Results> ServiceCall<'_, P, R> {
     /// What goes to the peer for this call, where its method returned this. `Err`: memory ran out.
     pub fn reply(self, call: &MethodCall, done: MethodResult) -> Result<Reply, AllocError>
         ensures { IfOk result (λ reply. reply_for R.content R.names call.now.request.caps self.entry done ≡ Some reply) }
@@ -132,20 +131,14 @@ impl<P: Drop, R: ServiceResults> ServiceCall<'_, P, R> {
             is_later,
         } = self;
         drop(params);
-        let (content, table) = results.into_parts(alloc);
-        let answer = Answer::Now {
-            results: Content(content),
-            caps: table.into_caps(),
-            keeps: Ids::new(keeps),
-        };
         match done {
             Ok(()) if is_later => {
-                drop(answer);
+                drop(results);
                 Ok(Reply::Later)
             }
-            Ok(()) => answer.reply(alloc, call.caps()),
+            Ok(()) => reply(alloc, call, results.into_outcome(alloc), &Ids::new(keeps)),
             Err(fault) => {
-                drop(answer);
+                drop(results);
                 refuse(alloc, call, fault)
             }
         }

@@ -4,10 +4,9 @@ ghost use Rattle.std.specs.Prelude.{◌≡◌, Some, IfOk};
 ghost use Rattle.cp_refs.specs.declared.outcome.Outcome.TheVariants as outcomes;
 ghost use Rattle.cp_services.specs.Calls.{failure_of};
 
-use crate::results::{Content, ServiceResults};
 use cp_refs::Outcome;
 use cp_servants::Settled;
-use cp_stubs::{MethodFault, results as outcome_of};
+use cp_stubs::{MethodFault, Results};
 use cp_vat_machine::Ids;
 use std::alloc::{AllocError, Global};
 
@@ -22,15 +21,13 @@ pub struct LaterCall {
 
 impl LaterCall {
     /// It comes to these results.
-    pub fn answer<R: ServiceResults>(self, alloc: Global, results: R) -> Settled
+    pub fn answer<R: Results>(self, alloc: Global, results: R) -> Settled
         ensures { result ≡ record { ticket = self.ticket; outcome = outcomes.Results (R.content results) (R.names results); gives_up = self.gives_up } }
     {
         let LaterCall { ticket, gives_up } = self;
-        let (content, table) = results.into_parts(alloc);
-        let outcome = outcome_of(Content(content), table);
         Settled {
             ticket,
-            outcome,
+            outcome: results.into_outcome(alloc),
             gives_up,
         }
     }

@@ -8,6 +8,7 @@ mod numbers;
 mod object;
 mod resolving;
 mod results;
+mod served;
 
 pub use call::{MethodResult, ServiceCall};
 pub use later::LaterCall;
@@ -17,5 +18,6 @@ pub use numbers::{
     signed64_of,
 };
 pub use object::ServiceObject;
-pub use resolving::fail;
-pub use results::{NamedResults, ServiceResults};
+pub use resolving::{TypedResolver, fail};
+pub use results::NamedResults;
+pub use served::{Dispatch, ServedObject};

@@ -1,14 +1,13 @@
 -- What a method does for a call, and what a call comes to that no method takes.
-use Rattle.std.specs.Prelude.{◌≡◌, ◌≢◌, ℕ, List, [], ◌∷◌, Some, Result, Ok, Err, IfSome}
+use Rattle.std.specs.Prelude.{◌≡◌, ◌≢◌, ℕ, List, [], ◌∷◌, Some, Result, Ok, Err}
 use Rattle.cp_tree.specs.Node.{Node}
 use Rattle.cp_fields.specs.Pointers.{struct_field}
 use Rattle.cp_fields.specs.declared.kind.WrongKind.{WrongKind}
 use Rattle.cp_servants.specs.declared.servant.Reply.{Reply}
-use Rattle.cp_stubs.specs.declared.answer.Answer.{Answer}
 use Rattle.cp_stubs.specs.declared.call.MethodCall.{MethodCall}
 use Rattle.cp_stubs.specs.declared.fault.MethodFault.{MethodFault}
 use Rattle.cp_stubs.specs.declared.fault.MethodFault.TheVariants as faults
-use Rattle.cp_stubs.specs.Replies.{reply_to, refusal_of}
+use Rattle.cp_stubs.specs.Replies.{refusal_of}
 
 -- What a method makes of an object, a call, its params, the reply that goes to the peer, and the object then.
 abbrev pub Method : Type 0 → Type 1
@@ -17,10 +16,6 @@ Method S = S → MethodCall → Node → Reply → S → Type 0
 -- what a method may do of which the object says nothing
 abbrev pub Anything : {S : Type 0} → Method S
 Anything old call params reply new = Unit {0}
-
--- A method was called with these params, and answered this: its relation holds of what goes to the peer for that. Nothing is said where memory ran out.
-abbrev pub Gives : {S A : Type 0} → (A → Node) → Method S → S → MethodCall → Node → Result (Answer A) MethodFault → S → Type 0
-Gives content method old call params answered new = IfSome (reply_to content call.request.caps answered) (λ reply. method old call params reply new)
 
 -- a call of none of these interfaces
 abbrev pub IsElsewhere : List ℕ → MethodCall → Type 0

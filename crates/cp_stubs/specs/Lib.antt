@@ -1,6 +1,5 @@
 pub mod Replies
 pub mod Dispatch
-pub mod Objects
 pub mod Promises
 pub mod Calls
 pub mod Payloads

@@ -1,7 +1,6 @@
 -- What goes to a peer for what a method answered.
-use Rattle.std.specs.Prelude.{ℕ, ◌==◌, if◌then◌else◌, List, [], ◌∷◌, ◌++◌, Option, Some, None, Result, Ok, Err, codes}
+use Rattle.std.specs.Prelude.{ℕ, ◌==◌, if◌then◌else◌, List, [], ◌∷◌, ◌++◌, Option, Some, None, codes}
 use Rattle.std.specs.List.{list_any}
-use Rattle.cp_tree.specs.Node.{Node}
 use Rattle.cp_messages.specs.declared.exception.Exception.{Exception}
 use Rattle.cp_messages.specs.declared.exception.ExceptionKind.TheVariants as kinds
 use Rattle.cp_refs.specs.declared.cap.Cap.{Cap}
@@ -14,8 +13,6 @@ use Rattle.cp_builder.specs.declared.fault.DraftFault.TheVariants as drafts
 use Rattle.cp_servants.specs.declared.servant.Reply.{Reply}
 use Rattle.cp_servants.specs.declared.servant.Reply.TheVariants as replies
 use Rattle.cp_servants.specs.Outcomes.{exception_of, noted_with}
-use Rattle.cp_stubs.specs.declared.answer.Answer.{Answer}
-use Rattle.cp_stubs.specs.declared.answer.Answer.TheVariants as answers
 use Rattle.cp_stubs.specs.declared.fault.MethodFault.{MethodFault}
 use Rattle.cp_stubs.specs.declared.fault.MethodFault.TheVariants as faults
 use Rattle.cp_stubs.specs.declared.fault.CapFault.{CapFault}
@@ -50,11 +47,6 @@ abbrev pub with_import : Option ℕ → List ℕ → List ℕ
 with_import None imports = imports
 with_import (Some i) imports = imports ++ i ∷ []
 
--- an answer, where the object keeps one more import of the params, if there is one
-abbrev pub keeping : {A : Type 0} → Option ℕ → Answer A → Answer A
-keeping import (answers.Now results caps keeps) = answers.Now results caps (with_import import keeps)
-keeping import answers.Later = answers.Later
-
 -- one more capability was looked at: an import that isn't kept and wasn't noted before is
 abbrev pub noted_but : List ℕ → List ℕ → Cap → List ℕ
 noted_but keeps found (caps.Import i) = if list_any (λ other. other == i) keeps then found else noted_with found (caps.Import i)
@@ -75,13 +67,3 @@ failing named (Some exception) = Some (replies.Now (outcomes.Failed exception) (
 
 abbrev pub refusal_of : List Cap → MethodFault → Option Reply
 refusal_of named fault = failing named (exception_for fault)
-
--- What goes to the peer for an answer to a call whose params name these capabilities.
-abbrev pub answer_to : {A : Type 0} → (A → Node) → List Cap → Answer A → Reply
-answer_to content named (answers.Now results caps keeps) = replies.Now (outcomes.Results (content results) caps) (given_up keeps named)
-answer_to content named answers.Later = replies.Later
-
--- what goes to the peer for what a method answered; nothing where memory ran out
-abbrev pub reply_to : {A : Type 0} → (A → Node) → List Cap → Result (Answer A) MethodFault → Option Reply
-reply_to content named (Ok answer) = Some (answer_to content named answer)
-reply_to content named (Err fault) = refusal_of named fault

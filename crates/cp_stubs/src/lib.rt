@@ -1,26 +1,28 @@
-//! What generated code of interfaces stands on: the answers of an object's methods, and the calls of a typed client.
+//! What generated code of interfaces stands on: the answers of objects, and the calls of typed clients.
 #![tactic(auto)]
 
-mod answer;
 mod call;
 mod caller;
+mod client;
 mod fault;
-mod object;
+mod no_fields;
 mod payload;
+mod promise;
 mod promised;
 mod replies;
-mod stream;
+mod results;
 mod table;
 mod target;
 
-pub use answer::{Answer, Results};
 pub use call::MethodCall;
 pub use caller::Caller;
+pub use client::TypedClient;
 pub use fault::{CapFault, MethodFault, NoResults};
-pub use object::ServerObject;
+pub use no_fields::{NoFieldsBuilder, NoFieldsPromise, NoFieldsReader};
 pub use payload::{ResultPayload, payload_of};
+pub use promise::{Lends, Promise};
 pub use promised::Promised;
-pub use replies::{given_up, refuse, reply, results};
-pub use stream::{StreamResultDraft, StreamResultPromise};
+pub use replies::{given_up, refuse, reply};
+pub use results::Results;
 pub use table::Table;
 pub use target::CallTarget;

@@ -1,8 +1,8 @@
 //! Reads an address book in place, by the names of crates/addressbook/addressbook.capnp, of which capnpc_rattle made the crate.
 
 use addressbook::{
-    AddressBookView, PersonEmploymentMember as Work, PersonPhoneNumberType as Phone,
-    PersonPhoneNumberView, PersonView,
+    AddressBookReader, PersonEmploymentMember as Work, PersonPhoneNumberReader,
+    PersonPhoneNumberType as Phone, PersonReader,
 };
 use anyhow::anyhow;
 use jamdrosek::fields::Pointee;
@@ -27,7 +27,7 @@ pub fn print_books(rt: &HostRuntime, bytes: &[u8]) -> anyhow::Result<()> {
 /// Prints whose book it is, what people are sorted into, and the people. What a book doesn't say is as by default.
 fn print_book(rt: &HostRuntime, segments: &Segments) -> anyhow::Result<()> {
     let view = View::root(segments, Limits::standard()).map_err(|fault| anyhow!("{fault}"))?;
-    let book = AddressBookView::of(Pointee::of_view(view))?;
+    let book = AddressBookReader::of(Pointee::of_view(view))?;
     print_head(rt, &book)?;
     for person in book.people()? {
         print_person(rt, &person)?;
@@ -36,7 +36,7 @@ fn print_book(rt: &HostRuntime, segments: &Segments) -> anyhow::Result<()> {
 }
 
 /// Prints whose book it is, and what people are sorted into.
-fn print_head(rt: &HostRuntime, book: &AddressBookView<'_>) -> anyhow::Result<()> {
+fn print_head(rt: &HostRuntime, book: &AddressBookReader<'_>) -> anyhow::Result<()> {
     print!(rt; "of {}:", book.owner()?.name()?.text(rt.alloc())?.as_str())?;
     for circle in book.circles()? {
         print!(rt; " {}", circle?.text(rt.alloc())?.as_str())?;
@@ -46,7 +46,7 @@ fn print_head(rt: &HostRuntime, book: &AddressBookView<'_>) -> anyhow::Result<()
 }
 
 /// Prints a person's line, and one for each phone.
-fn print_person(rt: &HostRuntime, person: &PersonView<'_>) -> anyhow::Result<()> {
+fn print_person(rt: &HostRuntime, person: &PersonReader<'_>) -> anyhow::Result<()> {
     println!(rt; "{}", line_of(rt.alloc(), person)?.as_str())?;
     for phone in person.phones()? {
         print_phone(rt, &phone)?;
@@ -55,7 +55,7 @@ fn print_person(rt: &HostRuntime, person: &PersonView<'_>) -> anyhow::Result<()>
 }
 
 /// A person's number and name, age and work.
-fn line_of(alloc: Global, person: &PersonView<'_>) -> anyhow::Result<String> {
+fn line_of(alloc: Global, person: &PersonReader<'_>) -> anyhow::Result<String> {
     let name = person.name()?.text(alloc)?;
     let work = work_of(alloc, person)?;
     let (number, age) = (person.id(), person.age());
@@ -63,14 +63,14 @@ fn line_of(alloc: Global, person: &PersonView<'_>) -> anyhow::Result<String> {
 }
 
 /// Prints a phone's number, and what it is for.
-fn print_phone(rt: &HostRuntime, phone: &PersonPhoneNumberView<'_>) -> anyhow::Result<()> {
+fn print_phone(rt: &HostRuntime, phone: &PersonPhoneNumberReader<'_>) -> anyhow::Result<()> {
     let number = phone.number()?.text(rt.alloc())?;
     println!(rt; "    {} ({})", number.as_str(), use_of(phone.type_()))?;
     Ok(())
 }
 
 /// What a person does.
-fn work_of(alloc: Global, person: &PersonView<'_>) -> anyhow::Result<String> {
+fn work_of(alloc: Global, person: &PersonReader<'_>) -> anyhow::Result<String> {
     Ok(match person.employment().member()? {
         Work::Unemployed => String::from_str(alloc, "unemployed")?,
         Work::SelfEmployed => String::from_str(alloc, "self-employed")?,

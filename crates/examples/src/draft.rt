@@ -2,8 +2,8 @@
 
 use crate::book::print_books;
 use addressbook::{
-    AddressBookDraft, PersonDraft, PersonListDraft, PersonPhoneNumberDraft,
-    PersonPhoneNumberListDraft, PersonPhoneNumberType,
+    AddressBookBuilder, PersonBuilder, PersonListBuilder, PersonPhoneNumberBuilder,
+    PersonPhoneNumberListBuilder, PersonPhoneNumberType,
 };
 use jamdrosek::{Limits, Mode, Tap, write_struct};
 use std::alloc::Global;
@@ -14,9 +14,9 @@ pub fn run(rt: &HostRuntime) -> anyhow::Result<()> {
 
 /// The bytes of a book of one person.
 fn written(alloc: Global) -> anyhow::Result<Vec<u8>> {
-    let mut people = PersonListDraft::new(alloc);
+    let mut people = PersonListBuilder::new(alloc);
     people.push(carol(alloc)?)?;
-    let mut book = AddressBookDraft::new(alloc)?;
+    let mut book = AddressBookBuilder::new(alloc)?;
     book.set_people(people);
     let mut to = Tap::new(Vec::new(alloc));
     let limits = Limits::standard();
@@ -31,9 +31,9 @@ fn written(alloc: Global) -> anyhow::Result<Vec<u8>> {
 }
 
 /// A person with a phone, and with what they do.
-fn carol(alloc: Global) -> anyhow::Result<PersonDraft> {
+fn carol(alloc: Global) -> anyhow::Result<PersonBuilder> {
     let phones = phones(alloc)?;
-    let mut carol = PersonDraft::new(alloc)?;
+    let mut carol = PersonBuilder::new(alloc)?;
     carol.set_phones(phones);
     carol.set_id(789);
     carol.set_name(alloc, "Carol")?;
@@ -42,11 +42,11 @@ fn carol(alloc: Global) -> anyhow::Result<PersonDraft> {
 }
 
 /// A list of one phone.
-fn phones(alloc: Global) -> anyhow::Result<PersonPhoneNumberListDraft> {
-    let mut phone = PersonPhoneNumberDraft::new(alloc)?;
+fn phones(alloc: Global) -> anyhow::Result<PersonPhoneNumberListBuilder> {
+    let mut phone = PersonPhoneNumberBuilder::new(alloc)?;
     phone.set_number(alloc, "555-1414")?;
     phone.set_type(PersonPhoneNumberType::Work);
-    let mut phones = PersonPhoneNumberListDraft::new(alloc);
+    let mut phones = PersonPhoneNumberListBuilder::new(alloc);
     phones.push(phone)?;
     Ok(phones)
 }

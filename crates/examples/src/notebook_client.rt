@@ -32,7 +32,7 @@ pub fn talk<R: Read + Drop, W: Write + Drop>(
         heard: heard.clone()?,
     };
     let mut objects = Family::new(alloc);
-    let watcher = WatcherClient::new(alloc, objects.add(WatcherServant { object })?);
+    let watcher = WatcherClient::new(alloc, objects.add(WatcherServant::new(object))?);
     let limits = Limits::standard();
     let mut client = Client::with_family(alloc, from, to, Mode::Plain, limits, objects);
     let said = add_and_read(alloc, &mut client, watcher, &heard);

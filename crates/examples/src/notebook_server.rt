@@ -65,7 +65,7 @@ pub fn new_objects(alloc: Global, shelf: &Shared, number: u64) -> anyhow::Result
         told: shelf.try_borrow()?.notes.len(),
     };
     let mut objects = Family::new(alloc);
-    objects.add(Served::First(NotebookServant { object }))?;
+    objects.add(Served::First(NotebookServant::new(object)))?;
     Ok(objects)
 }
 
@@ -150,7 +150,7 @@ fn new_page(shelf: &Shared, id: usize, here: &mut Here<Served>) -> Result<PageCl
         shelf: shelf.clone()?,
         id,
     };
-    let page = here.make(Served::Second(PageServant { object }))?;
+    let page = here.make(Served::Second(PageServant::new(object)))?;
     Ok(PageClient::new(here.alloc(), page))
 }
 

@@ -5,7 +5,7 @@
 //!
 //! # Serve objects
 //!
-//! `./capnpc_rattle X.capnp --services` generates a trait for each interface. Your object implements it (module `interfaces`). A method
+//! `./capnpc_rattle X.capnp` generates a trait for each interface. Your object implements it (module `interfaces`). A method
 //! gets its call, with the params to read and the results to fill in:
 //!
 //! ```rust crates/examples/src/notebook_server.rt
@@ -54,7 +54,7 @@
 //! ```
 //!
 //! A method takes its params as arguments if they are at most four, and numbers, texts or capabilities. Else it takes a builder of them:
-//! `NotebookAddParamsBuilder::new(alloc)?`, and `set_text` on that.
+//! `StoreFillParamsBuilder::new(alloc)?`, and setters such as `set_rows` on that.
 //!
 //! # Objects made in calls
 //!
@@ -62,7 +62,7 @@
 //!
 //! ```rust crates/examples/src/notebook_server.rt
 //! let mut objects = Family::new(alloc);
-//! objects.add(Served::First(NotebookServant { object }))?;
+//! objects.add(Served::First(NotebookServant::new(object)))?;
 //! ..
 //! fn open_(&mut self, call: &mut NotebookOpenCall<'_>, here: &mut Here<Served>) -> MethodResult {
 //!     let page = new_page(&self.shelf, call.params.id() as usize, here)?;
@@ -84,7 +84,7 @@
 //!
 //! ```rust crates/examples/src/notebook_client.rt
 //! let mut objects = Family::new(alloc);
-//! let watcher = WatcherClient::new(alloc, objects.add(WatcherServant { object })?);
+//! let watcher = WatcherClient::new(alloc, objects.add(WatcherServant::new(object))?);
 //! ..
 //! let mut client = Client::with_family(alloc, from, to, Mode::Plain, limits, objects);
 //! ..
@@ -161,11 +161,11 @@
 //!
 //! # Read and write structs by the names of a schema
 //!
-//! `./capnpc_rattle X.capnp --drafts` generates a reader (`View`) and a builder (`Draft`) for each struct. A field of the wrong kind is an
-//! `Err`, and a value that only a newer schema knows is `Unknown`:
+//! `./capnpc_rattle X.capnp` generates a reader and a builder for each struct. A field of the wrong kind is an `Err`, and a value that only
+//! a newer schema knows is `Unknown`:
 //!
 //! ```rust crates/examples/src/book.rt
-//! let book = AddressBookView::of(Pointee::of_view(view))?;
+//! let book = AddressBookReader::of(Pointee::of_view(view))?;
 //! ..
 //! for person in book.people()? {
 //!     print_person(rt, &person)?;
@@ -175,7 +175,7 @@
 //! A value that you set is proved to read back unchanged:
 //!
 //! ```rust crates/examples/src/draft.rt
-//! let mut carol = PersonDraft::new(alloc)?;
+//! let mut carol = PersonBuilder::new(alloc)?;
 //! carol.set_phones(phones);
 //! carol.set_id(789);
 //! carol.set_name(alloc, "Carol")?;
@@ -200,33 +200,35 @@
 //!
 //! ## Serve one connection
 //!
-//! `serve` takes one connection's reader and writer, and the objects that its peer may call. Their list is fixed, so `--interfaces` in place
-//! of `--services` generates their traits:
+//! `serve` takes one connection's reader and writer, and the objects that its peer may call. Their list is fixed, and each is a `Servant`,
+//! which takes requests as they come:
 //!
 //! ```rust tests/more_examples/src/serve.rs
 //! let texts = BTreeMap::new(alloc);
-//! let object = Shelf { alloc, texts };
 //! let mut objects: Vec<Box<dyn Servant>> = Vec::new(alloc);
-//! objects.push(Box::new(alloc, StoreServant { alloc, object })?)?;
+//! objects.push(Box::new(alloc, Shelf { alloc, texts })?)?;
 //! let mut from = Tap::new(File::open(rt, "serve.bin")?);
 //! let mut to = Tap::new(io::writer(rt));
 //! serve(alloc, &mut from, &mut to, &mut objects, Mode::Plain)?;
 //! ..
-//! fn get(
-//!     &mut self,
-//!     _call: &MethodCall,
-//!     params: &StoreGetParamsView<'_>,
-//! ) -> Result<Answer<StoreGetResultsDraft>, MethodFault> {
-//!     let key = params.key()?.text(self.alloc)?;
-//!     let mut results = StoreGetResultsDraft::new(self.alloc)?;
-//!     if let Some(value) = self.texts.get(&key) {
-//!         results.set_value(self.alloc, value.as_str())?;
+//! impl Servant for Shelf {
+//!     fn call(&mut self, _ticket: u64, request: Request) -> Result<Reply, AllocError> {
+//!         let key = String::from_str(self.alloc, text_in(&request.content, 0).unwrap_or(""))?;
+//!         let mut results = Ok(Content::new(self.alloc));
+//!         if request.method == 0 {
+//!             let value = text_in(&request.content, 1).unwrap_or("");
+//!             self.texts.insert(key, String::from_str(self.alloc, value)?)?;
+//!         } else if let Some(value) = self.texts.get(&key) {
+//!             results = Content::new(self.alloc).text(value.as_str());
+//!         }
+//!         Ok(Reply::Now {
+//!             outcome: outcome_of(self.alloc, results)?,
+//!             gives_up: Ids::new(Vec::new(self.alloc)),
+//!         })
 //!     }
-//!     Ok(Answer::of(self.alloc, results))
-//! }
 //! ```
 //!
-//! A client over that code puts a text into the store and gets it back, in one round trip:
+//! A typed client puts a text into the store and gets it back, in one round trip:
 //!
 //! ```rust tests/more_examples/src/call.rs whole
 //! #![tactic(auto)]
@@ -236,7 +238,7 @@
 //! use std::alloc::Global;
 //! use std::fs::File;
 //! use std::io::{self, Read, Write};
-//! use store::{StoreClient, StoreGetParamsDraft, StorePutParamsDraft};
+//! use store::StoreClient;
 //!
 //! fn main(rt: HostRuntime) -> anyhow::Result<()> {
 //!     let alloc = rt.alloc();
@@ -256,31 +258,16 @@
 //!     client: &mut Client<R, W>,
 //! ) -> anyhow::Result<String> {
 //!     let store = StoreClient::new(alloc, client.bootstrap()?.cap(alloc));
-//!     store.put(client, blue(alloc)?)?;
-//!     let got = store.get(client, colour(alloc)?)?;
+//!     store.put(client, "colour", "blue")?;
+//!     let got = store.get(client, "colour")?;
 //!     let came = client.results(got.question())?;
 //!     Ok(got.results(&came)?.value()?.text(alloc)?)
-//! }
-//!
-//! /// What is put.
-//! fn blue(alloc: Global) -> anyhow::Result<StorePutParamsDraft> {
-//!     let mut params = StorePutParamsDraft::new(alloc)?;
-//!     params.set_key(alloc, "colour")?;
-//!     params.set_value(alloc, "blue")?;
-//!     Ok(params)
-//! }
-//!
-//! /// What is asked for.
-//! fn colour(alloc: Global) -> anyhow::Result<StoreGetParamsDraft> {
-//!     let mut params = StoreGetParamsDraft::new(alloc)?;
-//!     params.set_key(alloc, "colour")?;
-//!     Ok(params)
 //! }
 //! ```
 //!
 
 //!
-//! With objects that make none (`--interfaces`, or `Box<dyn Servant>`) a client is made by `Client::with_objects`, and `export` adds one.
+//! With objects that make none (`Box<dyn Servant>`) a client is made by `Client::with_objects`, and `export` adds one.
 //!
 //! ## Without a schema
 //!

@@ -1,7 +1,7 @@
 -- What calls of `page` of notebook.capnp lead to.
 use Rattle.std.specs.Prelude.{◌≡◌, ◌≤◌, ◌∷◌, []}
-use Rattle.cp_stubs.specs.Dispatch.{Anything, IsElsewhere, Method, Passes, Refuses}
 use Rattle.cp_servants.specs.declared.servant.Reply.{Reply}
+use Rattle.cp_stubs.specs.Dispatch.{Anything, IsElsewhere, Method, Passes, Refuses}
 use Rattle.cp_stubs.specs.declared.call.MethodCall.{MethodCall}
 
 -- What a call of each method leads to.

@@ -1,32 +1,34 @@
 //! `notebook` of notebook.capnp, made by capnpc_rattle.
 
-ghost use Rattle.std.specs.Prelude.{◌≡◌, IfOk, OnOk, OnErr, []};
+ghost use Rattle.std.specs.Prelude.{◌≡◌, IfOk, OnOk, OnErr, Err, ◌↔◌, ◌≤◌, ◌^◌, length, ◌+◌, []};
+ghost use Rattle.cp_tree.specs.Seen.{pointee_of};
+ghost use Rattle.cp_fields.specs.Numbers.{plain};
+ghost use Rattle.cp_fields.specs.Pointers.{Reads, cap_field, struct_field, text_field};
+ghost use Rattle.cp_builder.specs.declared.fault.DraftFault.TheVariants.{TooLong};
 ghost use Rattle.cp_builder.specs.Drafts.{blank, text_tree, with_pointer, with_uint};
 ghost use Rattle.cp_servants.specs.Naming.{pointer_naming, with_named};
 ghost use Rattle.cp_stubs.specs.Calls.{ask_of, request_of};
-ghost use Rattle.cp_stubs.specs.Dispatch.{Passes};
-ghost use Rattle.cp_makers.specs.Here.{place_of};
+ghost use Rattle.cp_stubs.specs.Promises.{Finds, promised_cap};
 ghost use Rattle.cp_services.specs.Calls.{Answers};
 ghost use Rattle.cp_services.specs.Calls.{MakesOf};
-ghost use Rattle.cp_services.specs.Promises.{Fails, Promises, promised_by, resolved};
-ghost use Rattle.cp_services.specs.Services.{At, at, seen_as, taking};
-ghost use Rattle.notebook.specs.Notebook.{NotebookKind, NotebookMethodTakes, NotebookTakes, any_notebook};
+ghost use Rattle.cp_services.specs.Services.{At, at};
+ghost use Rattle.notebook.specs.Notebook.{NotebookKind, NotebookTakes, any_notebook};
 
-use crate::notebook_add_params::{NotebookAddParamsBuilder, NotebookAddParamsReader};
-use crate::notebook_add_results::{NotebookAddResultsBuilder, NotebookAddResultsPromise};
-use crate::notebook_next_params::{NotebookNextParamsBuilder, NotebookNextParamsReader};
-use crate::notebook_next_results::{NotebookNextResultsBuilder, NotebookNextResultsPromise};
-use crate::notebook_open_params::{NotebookOpenParamsBuilder, NotebookOpenParamsReader};
-use crate::notebook_open_results::{NotebookOpenResultsBuilder, NotebookOpenResultsPromise};
-use crate::notebook_watch_params::{NotebookWatchParamsBuilder, NotebookWatchParamsReader};
-use crate::notebook_watch_results::{NotebookWatchResultsBuilder, NotebookWatchResultsPromise};
+use crate::page::PageClient;
 use crate::watcher::WatcherClient;
-use cp_builder::DraftFault;
-use cp_makers::{Here, Maker, Resolver};
-use cp_refs::{Cap, Outcome, Request};
-use cp_servants::{Ask, Reply, Settled};
-use cp_services::{MethodResult, ServiceCall, ServiceObject, fail};
-use cp_stubs::{CallTarget, Caller, MethodCall, MethodFault, refuse};
+use cp_builder::{DraftFault, StructDraft};
+use cp_fields::{StructView, TextView, WrongKind};
+use cp_makers::Here;
+use cp_refs::{Cap, Caps, Request};
+use cp_servants::{Ask, Reply};
+use cp_services::{
+    Dispatch, MethodResult, ServedObject, ServiceCall, ServiceObject, TypedResolver,
+};
+use cp_stubs::{
+    CallTarget, Caller, CapFault, Lends, MethodCall, MethodFault, NoFieldsBuilder, NoFieldsPromise,
+    NoFieldsReader, Promise, Promised, ResultPayload, Results, Table, TypedClient, refuse,
+};
+use cp_tree::Whole;
 use std::alloc::{AllocError, Global};
 
 /// `interface Notebook`.
@@ -50,11 +52,13 @@ impl NotebookClient {
     }
 
     /// A call of `add @0`.
-    pub fn add_request(&self, params: NotebookAddParamsBuilder) -> Request
-        ensures { result ≡ request_of 0x845bdbd96c36d051 0 params.body [] }
+    pub fn add_request(&self, text: &str) -> Result<Request, DraftFault>
+        ensures { IfOk result (λ r. r ≡ request_of 0x845bdbd96c36d051 0 (with_pointer (blank 0 1) 0 (text_tree text.now)) []) }
     {
-        let content = params.body.into_whole();
-        self.target.request(0x845bdbd96c36d051, 0, content)
+        let mut params: StructDraft<0, 1> = StructDraft::new(self.target.alloc())?;
+        params.set_pointer(0, cp_builder::text_of(self.target.alloc(), text)?);
+        let content = params.into_whole();
+        Ok(self.target.request(0x845bdbd96c36d051, 0, content))
     }
 
     /// Adds a note, and tells all watchers of it.
@@ -65,28 +69,25 @@ impl NotebookClient {
     ) -> Result<NotebookAddResultsPromise, C::Fault>
         ensures { MakesOf (λ p. p.at) C.asks caller.old self.now.target 0x845bdbd96c36d051 0 (with_pointer (blank 0 1) 0 (text_tree text.now)) [] result caller.new }
     {
-        let params = NotebookAddParamsBuilder::of(self.target.alloc(), text)?;
-        let request = self.add_request(params);
-        Ok(NotebookAddResultsPromise {
-            at: self.target.call(caller, request)?,
-        })
+        let request = self.add_request(text)?;
+        Ok(NotebookAddResultsPromise::of(self.target.call(caller, request)?))
     }
 
     /// A call of `add` that an object makes. With the mark the object is told what it came to.
     pub fn add_ask(&self, text: &str, mark: u64) -> Result<Ask, DraftFault>
         ensures { IfOk result (λ ask. ask ≡ ask_of self.now.target (request_of 0x845bdbd96c36d051 0 (with_pointer (blank 0 1) 0 (text_tree text.now)) []) mark) }
     {
-        let params = NotebookAddParamsBuilder::of(self.target.alloc(), text)?;
-        let request = self.add_request(params);
-        Ok(self.target.ask(request, mark)?)
+        Ok(self.target.ask(self.add_request(text)?, mark)?)
     }
 
     /// A call of `open @1`.
-    pub fn open_request(&self, params: NotebookOpenParamsBuilder) -> Request
-        ensures { result ≡ request_of 0x845bdbd96c36d051 1 params.body [] }
+    pub fn open_request(&self, id: u32) -> Result<Request, DraftFault>
+        ensures { IfOk result (λ r. r ≡ request_of 0x845bdbd96c36d051 1 (with_uint (blank 1 0) 32 0 id) []) }
     {
-        let content = params.body.into_whole();
-        self.target.request(0x845bdbd96c36d051, 1, content)
+        let mut params: StructDraft<1, 0> = StructDraft::new(self.target.alloc())?;
+        params.set_u32(0, id);
+        let content = params.into_whole();
+        Ok(self.target.request(0x845bdbd96c36d051, 1, content))
     }
 
     /// Makes an object for a note. It goes once its client drops it.
@@ -97,29 +98,29 @@ impl NotebookClient {
     ) -> Result<NotebookOpenResultsPromise, C::Fault>
         ensures { MakesOf (λ p. p.at) C.asks caller.old self.now.target 0x845bdbd96c36d051 1 (with_uint (blank 1 0) 32 0 id) [] result caller.new }
     {
-        let params = NotebookOpenParamsBuilder::of(self.target.alloc(), id)?;
-        let request = self.open_request(params);
-        Ok(NotebookOpenResultsPromise {
-            at: self.target.call(caller, request)?,
-        })
+        let request = self.open_request(id)?;
+        Ok(NotebookOpenResultsPromise::of(self.target.call(caller, request)?))
     }
 
     /// A call of `open` that an object makes. With the mark the object is told what it came to.
     pub fn open_ask(&self, id: u32, mark: u64) -> Result<Ask, DraftFault>
         ensures { IfOk result (λ ask. ask ≡ ask_of self.now.target (request_of 0x845bdbd96c36d051 1 (with_uint (blank 1 0) 32 0 id) []) mark) }
     {
-        let params = NotebookOpenParamsBuilder::of(self.target.alloc(), id)?;
-        let request = self.open_request(params);
-        Ok(self.target.ask(request, mark)?)
+        Ok(self.target.ask(self.open_request(id)?, mark)?)
     }
 
     /// A call of `watch @2`.
-    pub fn watch_request(&self, params: NotebookWatchParamsBuilder) -> Request
-        ensures { result ≡ request_of 0x845bdbd96c36d051 2 params.body params.table }
+    pub fn watch_request(&self, watcher: WatcherClient) -> Result<Request, DraftFault>
+        ensures { IfOk result (λ r. r ≡ request_of 0x845bdbd96c36d051 2 (with_pointer (blank 0 1) 0 (pointer_naming [] watcher.target)) (with_named [] watcher.target)) }
     {
-        let content = params.body.into_whole();
-        self.target
-            .request_naming(0x845bdbd96c36d051, 2, content, params.table)
+        let mut params: StructDraft<0, 1> = StructDraft::new(self.target.alloc())?;
+        let mut table = Table::new(self.target.alloc());
+        params.set_pointer(0, table.add(watcher.target.into_cap())?);
+        let content = params.into_whole();
+        Ok(
+            self.target
+                .request_naming(0x845bdbd96c36d051, 2, content, table),
+        )
     }
 
     /// Tells a watcher of each note that is added from now on.
@@ -130,48 +131,51 @@ impl NotebookClient {
     ) -> Result<NotebookWatchResultsPromise, C::Fault>
         ensures { MakesOf (λ p. p.at) C.asks caller.old self.now.target 0x845bdbd96c36d051 2 (with_pointer (blank 0 1) 0 (pointer_naming [] watcher.target)) (with_named [] watcher.target) result caller.new }
     {
-        let params = NotebookWatchParamsBuilder::of(self.target.alloc(), watcher)?;
-        let request = self.watch_request(params);
-        Ok(NotebookWatchResultsPromise {
-            at: self.target.call(caller, request)?,
-        })
+        let request = self.watch_request(watcher)?;
+        Ok(NotebookWatchResultsPromise::of(self.target.call(caller, request)?))
     }
 
     /// A call of `watch` that an object makes. With the mark the object is told what it came to.
     pub fn watch_ask(&self, watcher: WatcherClient, mark: u64) -> Result<Ask, DraftFault>
         ensures { IfOk result (λ ask. ask ≡ ask_of self.now.target (request_of 0x845bdbd96c36d051 2 (with_pointer (blank 0 1) 0 (pointer_naming [] watcher.target)) (with_named [] watcher.target)) mark) }
     {
-        let params = NotebookWatchParamsBuilder::of(self.target.alloc(), watcher)?;
-        let request = self.watch_request(params);
-        Ok(self.target.ask(request, mark)?)
+        Ok(self.target.ask(self.watch_request(watcher)?, mark)?)
     }
 
     /// A call of `next @3`.
-    pub fn next_request(&self, params: NotebookNextParamsBuilder) -> Request
-        ensures { result ≡ request_of 0x845bdbd96c36d051 3 params.body [] }
+    pub fn next_request(&self) -> Result<Request, DraftFault>
+        ensures { IfOk result (λ r. r ≡ request_of 0x845bdbd96c36d051 3 (blank 0 0) []) }
     {
-        let content = params.body.into_whole();
-        self.target.request(0x845bdbd96c36d051, 3, content)
+        let params: StructDraft<0, 0> = StructDraft::new(self.target.alloc())?;
+        let content = params.into_whole();
+        Ok(self.target.request(0x845bdbd96c36d051, 3, content))
     }
 
     /// The page of the note that is added next. Calls of it wait for that note.
     pub fn next<C: Caller>(&self, caller: &mut C) -> Result<NotebookNextResultsPromise, C::Fault>
         ensures { MakesOf (λ p. p.at) C.asks caller.old self.now.target 0x845bdbd96c36d051 3 (blank 0 0) [] result caller.new }
     {
-        let params = NotebookNextParamsBuilder::of(self.target.alloc())?;
-        let request = self.next_request(params);
-        Ok(NotebookNextResultsPromise {
-            at: self.target.call(caller, request)?,
-        })
+        let request = self.next_request()?;
+        Ok(NotebookNextResultsPromise::of(self.target.call(caller, request)?))
     }
 
     /// A call of `next` that an object makes. With the mark the object is told what it came to.
     pub fn next_ask(&self, mark: u64) -> Result<Ask, DraftFault>
         ensures { IfOk result (λ ask. ask ≡ ask_of self.now.target (request_of 0x845bdbd96c36d051 3 (blank 0 0) []) mark) }
     {
-        let params = NotebookNextParamsBuilder::of(self.target.alloc())?;
-        let request = self.next_request(params);
-        Ok(self.target.ask(request, mark)?)
+        Ok(self.target.ask(self.next_request()?, mark)?)
+    }
+}
+
+impl TypedClient for NotebookClient {
+    ghost called = { λ c. c.target };
+
+    fn of(target: CallTarget) -> NotebookClient {
+        NotebookClient { target }
+    }
+
+    fn into_target(self) -> CallTarget {
+        self.target
     }
 }
 
@@ -238,200 +242,416 @@ pub trait NotebookServer: ServiceObject {
 }
 
 /// An object of `interface Notebook`, as a connection serves it.
-#[derive(Drop)]
-pub struct NotebookServant<T> {
-    pub object: T,
-}
-
-impl<T: NotebookServer> Maker for NotebookServant<T> {
-    type Makes = T::Makes;
-
-    ghost makes = { seen_as (λ s. s.object) (taking (NotebookTakes T.notebook_kind) T.kind) };
-
-    fn call(
-        &mut self,
-        ticket: u64,
-        request: Request,
-        here: &mut Here<T::Makes>,
-    ) -> Result<Reply, AllocError> {
-        let call = MethodCall { ticket, request };
-        dispatch_notebook(&mut self.object, &call, here)
-    }
-
-    fn poll(&mut self, here: &mut Here<T::Makes>) -> Result<Option<Settled>, AllocError> {
-        Ok(ServiceObject::poll(&mut self.object, here)?)
-    }
-
-    fn again(&self) -> bool {
-        ServiceObject::again(&self.object)
-    }
-
-    fn ask(&mut self, here: &mut Here<T::Makes>) -> Result<Option<Ask>, AllocError> {
-        Ok(ServiceObject::ask(&mut self.object, here)?)
-    }
-
-    fn told(
-        &mut self,
-        mark: u64,
-        outcome: Outcome,
-        here: &mut Here<T::Makes>,
-    ) -> Result<(), AllocError> {
-        Ok(ServiceObject::told(&mut self.object, mark, outcome, here)?)
-    }
-}
+pub type NotebookServant<T> = ServedObject<T, NotebookClient>;
 
 /// Resolves a promise of an object of `interface Notebook`: one that is named before it is there.
-#[derive(Drop)]
-pub struct NotebookResolver {
-    pub resolver: Resolver,
+pub type NotebookResolver = TypedResolver<NotebookClient>;
+
+impl<T: NotebookServer> Dispatch<T> for NotebookClient {
+    ghost takes = { NotebookTakes T.notebook_kind };
+
+    fn dispatch(
+        object: &mut T,
+        call: &MethodCall,
+        here: &mut Here<T::Makes>,
+    ) -> Result<Reply, AllocError> {
+        match (call.request.interface, call.request.method, call.params()) {
+            (0x845bdbd96c36d051, 0, Ok(body)) => {
+                let results = NotebookAddResultsBuilder::new(here.alloc())?;
+                let params = NotebookAddParamsReader { body };
+                let mut passed = ServiceCall::new(here.alloc(), call, params, results);
+                let done = NotebookServer::add(object, &mut passed, here);
+                passed.reply(call, done)
+            }
+            (0x845bdbd96c36d051, 1, Ok(body)) => {
+                let results = NotebookOpenResultsBuilder::new(here.alloc())?;
+                let params = NotebookOpenParamsReader { body };
+                let mut passed = ServiceCall::new(here.alloc(), call, params, results);
+                let done = NotebookServer::open_(object, &mut passed, here);
+                passed.reply(call, done)
+            }
+            (0x845bdbd96c36d051, 2, Ok(body)) => {
+                let results = NotebookWatchResultsBuilder::new(here.alloc())?;
+                let params = NotebookWatchParamsReader { body };
+                let mut passed = ServiceCall::new(here.alloc(), call, params, results);
+                let done = NotebookServer::watch(object, &mut passed, here);
+                passed.reply(call, done)
+            }
+            (0x845bdbd96c36d051, 3, Ok(body)) => {
+                let results = NotebookNextResultsBuilder::new(here.alloc())?;
+                let params = NotebookNextParamsReader { body };
+                let mut passed = ServiceCall::new(here.alloc(), call, params, results);
+                let done = NotebookServer::next(object, &mut passed, here);
+                passed.reply(call, done)
+            }
+            (0x845bdbd96c36d051, 0..=3, Err(fault)) => {
+                refuse(here.alloc(), call, MethodFault::WrongKind(fault))
+            }
+            _ => refuse(here.alloc(), call, MethodFault::Unimplemented),
+        }
+    }
 }
 
-impl NotebookResolver {
-    /// Makes the promise.
-    pub fn new<M: Drop>(here: &mut Here<M>) -> Result<NotebookResolver, AllocError>
-        ensures promised { IfOk result (λ r. Promises r.resolver (place_of here.old) (place_of here.new)) }
-        ensures left { OnErr result (place_of here.new ≡ place_of here.old) }
+/// `struct Notebook.add$Params`.
+#[derive(Drop)]
+pub struct NotebookAddParamsReader<'a> {
+    /// The struct, by the places of its fields.
+    pub body: StructView<'a>,
+}
+
+impl<'a> NotebookAddParamsReader<'a> {
+    /// `text @0`.
+    pub fn text(&self) -> Result<TextView<'a>, WrongKind>
+        ensures { result ≡ text_field [] (pointee_of self.now.body 0) }
     {
-        Ok(NotebookResolver {
-            resolver: here.promise()?,
+        self.body.text(0)
+    }
+}
+
+/// `struct Notebook.add$Results`.
+#[derive(Drop)]
+pub struct NotebookAddResultsReader<'a> {
+    /// The struct, by the places of its fields.
+    pub body: StructView<'a>,
+}
+
+impl<'a> NotebookAddResultsReader<'a> {
+    /// `id @0`.
+    pub fn id(&self) -> u32
+        ensures { result ≡ plain self.now.body 32 0 }
+    {
+        self.body.u32(0)
+    }
+}
+
+/// `struct Notebook.add$Results`, to be written.
+#[derive(Drop)]
+pub struct NotebookAddResultsBuilder {
+    /// The struct, by the places of its fields.
+    pub body: StructDraft<1, 0>,
+}
+
+impl NotebookAddResultsBuilder {
+    /// A struct whose fields are all as by default.
+    pub fn new(alloc: Global) -> Result<NotebookAddResultsBuilder, AllocError>
+        ensures { IfOk result (λ d. d.body ≡ blank 1 0) }
+    {
+        Ok(NotebookAddResultsBuilder {
+            body: StructDraft::new(alloc)?,
         })
     }
 
-    /// What is promised, to be named at once. Calls of it wait.
-    pub fn client(&self, alloc: Global) -> NotebookClient
-        ensures { result.target ≡ promised_by self.now.resolver }
+    /// Sets `id`.
+    pub fn set_id(&mut self, value: u32)
+        ensures { self.new.body ≡ with_uint self.old.body 32 0 value }
     {
-        NotebookClient::new(alloc, self.resolver.cap())
+        self.body.set_u32(0, value);
     }
+}
 
-    /// What was promised comes to this object.
-    pub fn resolve<M: Drop>(
-        self,
-        here: &mut Here<M>,
-        client: NotebookClient,
-    ) -> Result<(), AllocError>
-        ensures resolved { OnOk result (place_of here.new ≡ resolved self.resolver client.target (place_of here.old)) }
-        ensures left { OnErr result (place_of here.new ≡ place_of here.old) }
+impl Results for NotebookAddResultsBuilder {
+    ghost content = { λ d. d.body };
+
+    ghost names = { λ d. [] };
+
+    fn into_parts(self, alloc: Global) -> (Whole, Table) {
+        (self.body.into_whole(), Table::new(alloc))
+    }
+}
+
+/// `struct Notebook.add$Results`, as a question will give it.
+pub type NotebookAddResultsPromise = Promise<NotebookAddResultsBuilder>;
+
+impl<'a> Lends<'a> for NotebookAddResultsBuilder {
+    type Reader = NotebookAddResultsReader<'a>;
+
+    ghost read = { λ x. x.body };
+
+    fn reader(body: StructView<'a>) -> NotebookAddResultsReader<'a> {
+        NotebookAddResultsReader { body }
+    }
+}
+
+/// `struct Notebook.open$Params`.
+#[derive(Drop)]
+pub struct NotebookOpenParamsReader<'a> {
+    /// The struct, by the places of its fields.
+    pub body: StructView<'a>,
+}
+
+impl<'a> NotebookOpenParamsReader<'a> {
+    /// `id @0`.
+    pub fn id(&self) -> u32
+        ensures { result ≡ plain self.now.body 32 0 }
     {
-        here.resolve(self.resolver, client.target.into_cap())
+        self.body.u32(0)
     }
+}
 
-    /// Calls of what was promised fail with this.
-    pub fn fail<M: Drop>(self, here: &mut Here<M>, fault: MethodFault) -> Result<(), AllocError>
-        ensures fails { OnOk result (Fails self.resolver fault (place_of here.old) (place_of here.new)) }
-        ensures left { OnErr result (place_of here.new ≡ place_of here.old) }
+/// `struct Notebook.open$Results`.
+#[derive(Drop)]
+pub struct NotebookOpenResultsReader<'a> {
+    /// The struct, by the places of its fields.
+    pub body: StructView<'a>,
+}
+
+impl<'a> NotebookOpenResultsReader<'a> {
+    /// `page @0`.
+    pub fn page(&self) -> Result<Option<u32>, WrongKind>
+        ensures { result ≡ cap_field (pointee_of self.now.body 0) }
     {
-        fail(self.resolver, here, fault)
+        self.body.cap(0)
+    }
+
+    /// `page @0`, of those that a table has.
+    pub fn page_client(&self, alloc: Global, caps: &Caps) -> Result<PageClient, CapFault>
+        ensures { Finds result (λ c. c.target) (cap_field (pointee_of self.now.body 0)) caps.now }
+    {
+        let place = self.page()?;
+        Ok(PageClient {
+            target: CallTarget::of_field(alloc, place, caps)?,
+        })
     }
 }
 
-/// Passes a call on to the method of an object that its interface and its number name.
-pub fn dispatch_notebook<T: NotebookServer>(
-    object: &mut T,
-    call: &MethodCall,
-    here: &mut Here<T::Makes>,
-) -> Result<Reply, AllocError>
-    ensures { IfOk result (λ reply. NotebookTakes T.notebook_kind (at object.old here.old) call.now reply (at object.new here.new)) }
-{
-    match call.request.interface {
-        0x845bdbd96c36d051 => dispatch_notebook_method(object, call, here),
-        _ => refuse(here.alloc(), call, MethodFault::Unimplemented),
+/// `struct Notebook.open$Results`, to be written.
+#[derive(Drop)]
+pub struct NotebookOpenResultsBuilder {
+    /// The struct, by the places of its fields.
+    pub body: StructDraft<0, 1>,
+    /// The capabilities that it names.
+    pub table: Table,
+}
+
+impl NotebookOpenResultsBuilder {
+    /// A struct whose fields are all as by default.
+    pub fn new(alloc: Global) -> Result<NotebookOpenResultsBuilder, AllocError>
+        ensures blank { IfOk result (λ d. d.body ≡ blank 0 1) }
+        ensures names { IfOk result (λ d. d.table ≡ []) }
+    {
+        Ok(NotebookOpenResultsBuilder {
+            body: StructDraft::new(alloc)?,
+            table: Table::new(alloc),
+        })
+    }
+
+    /// Sets `page`.
+    pub fn set_page(&mut self, value: PageClient) -> Result<(), DraftFault>
+        ensures set { OnOk result (self.new.body ≡ with_pointer self.old.body 0 (pointer_naming self.old.table value.target)) }
+        ensures added { OnOk result (self.new.table ≡ with_named self.old.table value.target) }
+        ensures left { OnErr result (self.new ≡ self.old) }
+        ensures full { result ≡ Err TooLong ↔ 2 ^ 32 ≤ length self.old.table + 1 }
+    {
+        let pointer = self.table.add(value.target.into_cap())?;
+        self.body.set_pointer(0, pointer);
+        Ok(())
     }
 }
 
-/// Passes a call of this interface on to the method of an object that its number names.
-pub fn dispatch_notebook_method<T: NotebookServer>(
-    object: &mut T,
-    call: &MethodCall,
-    here: &mut Here<T::Makes>,
-) -> Result<Reply, AllocError>
-    ensures { IfOk result (λ reply. NotebookMethodTakes T.notebook_kind (at object.old here.old) call.now reply (at object.new here.new)) }
-{
-    match call.request.method {
-        0 => pass_add(object, call, here),
-        1 => pass_open(object, call, here),
-        2 => pass_watch(object, call, here),
-        3 => pass_next(object, call, here),
-        _ => refuse(here.alloc(), call, MethodFault::Unimplemented),
+impl Results for NotebookOpenResultsBuilder {
+    ghost content = { λ d. d.body };
+
+    ghost names = { λ d. d.table };
+
+    fn into_parts(self, alloc: Global) -> (Whole, Table) {
+        let _ = alloc;
+        (self.body.into_whole(), self.table)
     }
 }
 
-/// Passes a call of `add` on.
-fn pass_add<T: NotebookServer>(
-    object: &mut T,
-    call: &MethodCall,
-    here: &mut Here<T::Makes>,
-) -> Result<Reply, AllocError>
-    ensures { IfOk result (λ reply. Passes T.notebook_kind.on_add (at object.old here.old) call.now reply (at object.new here.new)) }
-{
-    match call.params() {
-        Ok(body) => {
-            let results = NotebookAddResultsBuilder::new(here.alloc())?;
-            let params = NotebookAddParamsReader { body };
-            let mut passed = ServiceCall::new(here.alloc(), call, params, results);
-            let done = NotebookServer::add(object, &mut passed, here);
-            passed.reply(call, done)
-        }
-        Err(fault) => refuse(here.alloc(), call, MethodFault::WrongKind(fault)),
+/// `struct Notebook.open$Results`, as a question will give it.
+#[derive(Drop)]
+pub struct NotebookOpenResultsPromise {
+    /// The question, and the path to the struct.
+    pub at: Promised,
+}
+
+impl NotebookOpenResultsPromise {
+    /// What is promised there.
+    pub fn of(at: Promised) -> NotebookOpenResultsPromise
+        ensures { result.at ≡ at }
+    {
+        NotebookOpenResultsPromise { at }
+    }
+
+    /// The number of the question, whose outcome can be waited for.
+    pub fn question(&self) -> u32
+        ensures { result ≡ self.now.at.question }
+    {
+        self.at.question()
+    }
+
+    /// The results that came.
+    pub fn results<'a>(
+        &self,
+        came: &'a ResultPayload,
+    ) -> Result<NotebookOpenResultsReader<'a>, WrongKind>
+        ensures { Reads result (λ x. x.body) (struct_field came.now.content) }
+    {
+        Ok(NotebookOpenResultsReader {
+            body: came.results()?,
+        })
+    }
+
+    /// `page @0`.
+    pub fn page(&self) -> Result<PageClient, AllocError>
+        ensures { IfOk result (λ c. c.target ≡ promised_cap self.now.at 0) }
+    {
+        Ok(PageClient {
+            target: self.at.target(0)?,
+        })
     }
 }
 
-/// Passes a call of `open` on.
-fn pass_open<T: NotebookServer>(
-    object: &mut T,
-    call: &MethodCall,
-    here: &mut Here<T::Makes>,
-) -> Result<Reply, AllocError>
-    ensures { IfOk result (λ reply. Passes T.notebook_kind.on_open (at object.old here.old) call.now reply (at object.new here.new)) }
-{
-    match call.params() {
-        Ok(body) => {
-            let results = NotebookOpenResultsBuilder::new(here.alloc())?;
-            let params = NotebookOpenParamsReader { body };
-            let mut passed = ServiceCall::new(here.alloc(), call, params, results);
-            let done = NotebookServer::open_(object, &mut passed, here);
-            passed.reply(call, done)
-        }
-        Err(fault) => refuse(here.alloc(), call, MethodFault::WrongKind(fault)),
+/// `struct Notebook.watch$Params`.
+#[derive(Drop)]
+pub struct NotebookWatchParamsReader<'a> {
+    /// The struct, by the places of its fields.
+    pub body: StructView<'a>,
+}
+
+impl<'a> NotebookWatchParamsReader<'a> {
+    /// `watcher @0`.
+    pub fn watcher(&self) -> Result<Option<u32>, WrongKind>
+        ensures { result ≡ cap_field (pointee_of self.now.body 0) }
+    {
+        self.body.cap(0)
+    }
+
+    /// `watcher @0`, of those that a table has.
+    pub fn watcher_client(&self, alloc: Global, caps: &Caps) -> Result<WatcherClient, CapFault>
+        ensures { Finds result (λ c. c.target) (cap_field (pointee_of self.now.body 0)) caps.now }
+    {
+        let place = self.watcher()?;
+        Ok(WatcherClient {
+            target: CallTarget::of_field(alloc, place, caps)?,
+        })
     }
 }
 
-/// Passes a call of `watch` on.
-fn pass_watch<T: NotebookServer>(
-    object: &mut T,
-    call: &MethodCall,
-    here: &mut Here<T::Makes>,
-) -> Result<Reply, AllocError>
-    ensures { IfOk result (λ reply. Passes T.notebook_kind.on_watch (at object.old here.old) call.now reply (at object.new here.new)) }
-{
-    match call.params() {
-        Ok(body) => {
-            let results = NotebookWatchResultsBuilder::new(here.alloc())?;
-            let params = NotebookWatchParamsReader { body };
-            let mut passed = ServiceCall::new(here.alloc(), call, params, results);
-            let done = NotebookServer::watch(object, &mut passed, here);
-            passed.reply(call, done)
-        }
-        Err(fault) => refuse(here.alloc(), call, MethodFault::WrongKind(fault)),
+/// `struct Notebook.watch$Results`.
+pub type NotebookWatchResultsReader<'a> = NoFieldsReader<'a>;
+
+/// `struct Notebook.watch$Results`, to be written.
+pub type NotebookWatchResultsBuilder = NoFieldsBuilder;
+
+/// `struct Notebook.watch$Results`, as a question will give it.
+pub type NotebookWatchResultsPromise = NoFieldsPromise;
+
+/// `struct Notebook.next$Params`.
+pub type NotebookNextParamsReader<'a> = NoFieldsReader<'a>;
+
+/// `struct Notebook.next$Results`.
+#[derive(Drop)]
+pub struct NotebookNextResultsReader<'a> {
+    /// The struct, by the places of its fields.
+    pub body: StructView<'a>,
+}
+
+impl<'a> NotebookNextResultsReader<'a> {
+    /// `page @0`.
+    pub fn page(&self) -> Result<Option<u32>, WrongKind>
+        ensures { result ≡ cap_field (pointee_of self.now.body 0) }
+    {
+        self.body.cap(0)
+    }
+
+    /// `page @0`, of those that a table has.
+    pub fn page_client(&self, alloc: Global, caps: &Caps) -> Result<PageClient, CapFault>
+        ensures { Finds result (λ c. c.target) (cap_field (pointee_of self.now.body 0)) caps.now }
+    {
+        let place = self.page()?;
+        Ok(PageClient {
+            target: CallTarget::of_field(alloc, place, caps)?,
+        })
     }
 }
 
-/// Passes a call of `next` on.
-fn pass_next<T: NotebookServer>(
-    object: &mut T,
-    call: &MethodCall,
-    here: &mut Here<T::Makes>,
-) -> Result<Reply, AllocError>
-    ensures { IfOk result (λ reply. Passes T.notebook_kind.on_next (at object.old here.old) call.now reply (at object.new here.new)) }
-{
-    match call.params() {
-        Ok(body) => {
-            let results = NotebookNextResultsBuilder::new(here.alloc())?;
-            let params = NotebookNextParamsReader { body };
-            let mut passed = ServiceCall::new(here.alloc(), call, params, results);
-            let done = NotebookServer::next(object, &mut passed, here);
-            passed.reply(call, done)
-        }
-        Err(fault) => refuse(here.alloc(), call, MethodFault::WrongKind(fault)),
+/// `struct Notebook.next$Results`, to be written.
+#[derive(Drop)]
+pub struct NotebookNextResultsBuilder {
+    /// The struct, by the places of its fields.
+    pub body: StructDraft<0, 1>,
+    /// The capabilities that it names.
+    pub table: Table,
+}
+
+impl NotebookNextResultsBuilder {
+    /// A struct whose fields are all as by default.
+    pub fn new(alloc: Global) -> Result<NotebookNextResultsBuilder, AllocError>
+        ensures blank { IfOk result (λ d. d.body ≡ blank 0 1) }
+        ensures names { IfOk result (λ d. d.table ≡ []) }
+    {
+        Ok(NotebookNextResultsBuilder {
+            body: StructDraft::new(alloc)?,
+            table: Table::new(alloc),
+        })
+    }
+
+    /// Sets `page`.
+    pub fn set_page(&mut self, value: PageClient) -> Result<(), DraftFault>
+        ensures set { OnOk result (self.new.body ≡ with_pointer self.old.body 0 (pointer_naming self.old.table value.target)) }
+        ensures added { OnOk result (self.new.table ≡ with_named self.old.table value.target) }
+        ensures left { OnErr result (self.new ≡ self.old) }
+        ensures full { result ≡ Err TooLong ↔ 2 ^ 32 ≤ length self.old.table + 1 }
+    {
+        let pointer = self.table.add(value.target.into_cap())?;
+        self.body.set_pointer(0, pointer);
+        Ok(())
+    }
+}
+
+impl Results for NotebookNextResultsBuilder {
+    ghost content = { λ d. d.body };
+
+    ghost names = { λ d. d.table };
+
+    fn into_parts(self, alloc: Global) -> (Whole, Table) {
+        let _ = alloc;
+        (self.body.into_whole(), self.table)
+    }
+}
+
+/// `struct Notebook.next$Results`, as a question will give it.
+#[derive(Drop)]
+pub struct NotebookNextResultsPromise {
+    /// The question, and the path to the struct.
+    pub at: Promised,
+}
+
+impl NotebookNextResultsPromise {
+    /// What is promised there.
+    pub fn of(at: Promised) -> NotebookNextResultsPromise
+        ensures { result.at ≡ at }
+    {
+        NotebookNextResultsPromise { at }
+    }
+
+    /// The number of the question, whose outcome can be waited for.
+    pub fn question(&self) -> u32
+        ensures { result ≡ self.now.at.question }
+    {
+        self.at.question()
+    }
+
+    /// The results that came.
+    pub fn results<'a>(
+        &self,
+        came: &'a ResultPayload,
+    ) -> Result<NotebookNextResultsReader<'a>, WrongKind>
+        ensures { Reads result (λ x. x.body) (struct_field came.now.content) }
+    {
+        Ok(NotebookNextResultsReader {
+            body: came.results()?,
+        })
+    }
+
+    /// `page @0`.
+    pub fn page(&self) -> Result<PageClient, AllocError>
+        ensures { IfOk result (λ c. c.target ≡ promised_cap self.now.at 0) }
+    {
+        Ok(PageClient {
+            target: self.at.target(0)?,
+        })
     }
 }

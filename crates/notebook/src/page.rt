@@ -1,24 +1,29 @@
 //! `page` of notebook.capnp, made by capnpc_rattle.
 
-ghost use Rattle.std.specs.Prelude.{◌≡◌, IfOk, OnOk, OnErr, []};
-ghost use Rattle.cp_builder.specs.Drafts.{blank};
+ghost use Rattle.std.specs.Prelude.{◌≡◌, IfOk, OnOk, OnErr, Err, ◌≤◌, ◌^◌, length, ◌+◌, []};
+ghost use Rattle.cp_tree.specs.Seen.{pointee_of};
+ghost use Rattle.cp_fields.specs.Pointers.{text_field};
+ghost use Rattle.cp_builder.specs.declared.fault.DraftFault.TheVariants.{TooLong};
+ghost use Rattle.cp_builder.specs.Drafts.{blank, text_tree, with_pointer};
 ghost use Rattle.cp_stubs.specs.Calls.{ask_of, request_of};
-ghost use Rattle.cp_stubs.specs.Dispatch.{Passes};
-ghost use Rattle.cp_makers.specs.Here.{place_of};
 ghost use Rattle.cp_services.specs.Calls.{Answers};
 ghost use Rattle.cp_services.specs.Calls.{MakesOf};
-ghost use Rattle.cp_services.specs.Promises.{Fails, Promises, promised_by, resolved};
-ghost use Rattle.cp_services.specs.Services.{At, at, seen_as, taking};
-ghost use Rattle.notebook.specs.Page.{PageKind, PageMethodTakes, PageTakes, any_page};
+ghost use Rattle.cp_services.specs.Services.{At, at};
+ghost use Rattle.notebook.specs.Page.{PageKind, PageTakes, any_page};
 
-use crate::page_read_params::{PageReadParamsBuilder, PageReadParamsReader};
-use crate::page_read_results::{PageReadResultsBuilder, PageReadResultsPromise};
-use cp_builder::DraftFault;
-use cp_makers::{Here, Maker, Resolver};
-use cp_refs::{Cap, Outcome, Request};
-use cp_servants::{Ask, Reply, Settled};
-use cp_services::{MethodResult, ServiceCall, ServiceObject, fail};
-use cp_stubs::{CallTarget, Caller, MethodCall, MethodFault, refuse};
+use cp_builder::{DraftFault, StructDraft};
+use cp_fields::{StructView, TextView, WrongKind};
+use cp_makers::Here;
+use cp_refs::{Cap, Request};
+use cp_servants::{Ask, Reply};
+use cp_services::{
+    Dispatch, MethodResult, ServedObject, ServiceCall, ServiceObject, TypedResolver,
+};
+use cp_stubs::{
+    CallTarget, Caller, Lends, MethodCall, MethodFault, NoFieldsReader, Promise, Results, Table,
+    TypedClient, refuse,
+};
+use cp_tree::Whole;
 use std::alloc::{AllocError, Global};
 
 /// `interface Page`.
@@ -42,31 +47,39 @@ impl PageClient {
     }
 
     /// A call of `read @0`.
-    pub fn read_request(&self, params: PageReadParamsBuilder) -> Request
-        ensures { result ≡ request_of 0xd22af05f2861ac0c 0 params.body [] }
+    pub fn read_request(&self) -> Result<Request, DraftFault>
+        ensures { IfOk result (λ r. r ≡ request_of 0xd22af05f2861ac0c 0 (blank 0 0) []) }
     {
-        let content = params.body.into_whole();
-        self.target.request(0xd22af05f2861ac0c, 0, content)
+        let params: StructDraft<0, 0> = StructDraft::new(self.target.alloc())?;
+        let content = params.into_whole();
+        Ok(self.target.request(0xd22af05f2861ac0c, 0, content))
     }
 
     /// The text of the note.
     pub fn read<C: Caller>(&self, caller: &mut C) -> Result<PageReadResultsPromise, C::Fault>
         ensures { MakesOf (λ p. p.at) C.asks caller.old self.now.target 0xd22af05f2861ac0c 0 (blank 0 0) [] result caller.new }
     {
-        let params = PageReadParamsBuilder::of(self.target.alloc())?;
-        let request = self.read_request(params);
-        Ok(PageReadResultsPromise {
-            at: self.target.call(caller, request)?,
-        })
+        let request = self.read_request()?;
+        Ok(PageReadResultsPromise::of(self.target.call(caller, request)?))
     }
 
     /// A call of `read` that an object makes. With the mark the object is told what it came to.
     pub fn read_ask(&self, mark: u64) -> Result<Ask, DraftFault>
         ensures { IfOk result (λ ask. ask ≡ ask_of self.now.target (request_of 0xd22af05f2861ac0c 0 (blank 0 0) []) mark) }
     {
-        let params = PageReadParamsBuilder::of(self.target.alloc())?;
-        let request = self.read_request(params);
-        Ok(self.target.ask(request, mark)?)
+        Ok(self.target.ask(self.read_request()?, mark)?)
+    }
+}
+
+impl TypedClient for PageClient {
+    ghost called = { λ c. c.target };
+
+    fn of(target: CallTarget) -> PageClient {
+        PageClient { target }
+    }
+
+    fn into_target(self) -> CallTarget {
+        self.target
     }
 }
 
@@ -84,133 +97,101 @@ pub trait PageServer: ServiceObject {
 }
 
 /// An object of `interface Page`, as a connection serves it.
-#[derive(Drop)]
-pub struct PageServant<T> {
-    pub object: T,
-}
-
-impl<T: PageServer> Maker for PageServant<T> {
-    type Makes = T::Makes;
-
-    ghost makes = { seen_as (λ s. s.object) (taking (PageTakes T.page_kind) T.kind) };
-
-    fn call(
-        &mut self,
-        ticket: u64,
-        request: Request,
-        here: &mut Here<T::Makes>,
-    ) -> Result<Reply, AllocError> {
-        let call = MethodCall { ticket, request };
-        dispatch_page(&mut self.object, &call, here)
-    }
-
-    fn poll(&mut self, here: &mut Here<T::Makes>) -> Result<Option<Settled>, AllocError> {
-        Ok(ServiceObject::poll(&mut self.object, here)?)
-    }
-
-    fn again(&self) -> bool {
-        ServiceObject::again(&self.object)
-    }
-
-    fn ask(&mut self, here: &mut Here<T::Makes>) -> Result<Option<Ask>, AllocError> {
-        Ok(ServiceObject::ask(&mut self.object, here)?)
-    }
-
-    fn told(
-        &mut self,
-        mark: u64,
-        outcome: Outcome,
-        here: &mut Here<T::Makes>,
-    ) -> Result<(), AllocError> {
-        Ok(ServiceObject::told(&mut self.object, mark, outcome, here)?)
-    }
-}
+pub type PageServant<T> = ServedObject<T, PageClient>;
 
 /// Resolves a promise of an object of `interface Page`: one that is named before it is there.
-#[derive(Drop)]
-pub struct PageResolver {
-    pub resolver: Resolver,
+pub type PageResolver = TypedResolver<PageClient>;
+
+impl<T: PageServer> Dispatch<T> for PageClient {
+    ghost takes = { PageTakes T.page_kind };
+
+    fn dispatch(
+        object: &mut T,
+        call: &MethodCall,
+        here: &mut Here<T::Makes>,
+    ) -> Result<Reply, AllocError> {
+        match (call.request.interface, call.request.method, call.params()) {
+            (0xd22af05f2861ac0c, 0, Ok(body)) => {
+                let results = PageReadResultsBuilder::new(here.alloc())?;
+                let params = PageReadParamsReader { body };
+                let mut passed = ServiceCall::new(here.alloc(), call, params, results);
+                let done = PageServer::read(object, &mut passed, here);
+                passed.reply(call, done)
+            }
+            (0xd22af05f2861ac0c, 0, Err(fault)) => {
+                refuse(here.alloc(), call, MethodFault::WrongKind(fault))
+            }
+            _ => refuse(here.alloc(), call, MethodFault::Unimplemented),
+        }
+    }
 }
 
-impl PageResolver {
-    /// Makes the promise.
-    pub fn new<M: Drop>(here: &mut Here<M>) -> Result<PageResolver, AllocError>
-        ensures promised { IfOk result (λ r. Promises r.resolver (place_of here.old) (place_of here.new)) }
-        ensures left { OnErr result (place_of here.new ≡ place_of here.old) }
+/// `struct Page.read$Params`.
+pub type PageReadParamsReader<'a> = NoFieldsReader<'a>;
+
+/// `struct Page.read$Results`.
+#[derive(Drop)]
+pub struct PageReadResultsReader<'a> {
+    /// The struct, by the places of its fields.
+    pub body: StructView<'a>,
+}
+
+impl<'a> PageReadResultsReader<'a> {
+    /// `text @0`.
+    pub fn text(&self) -> Result<TextView<'a>, WrongKind>
+        ensures { result ≡ text_field [] (pointee_of self.now.body 0) }
     {
-        Ok(PageResolver {
-            resolver: here.promise()?,
+        self.body.text(0)
+    }
+}
+
+/// `struct Page.read$Results`, to be written.
+#[derive(Drop)]
+pub struct PageReadResultsBuilder {
+    /// The struct, by the places of its fields.
+    pub body: StructDraft<0, 1>,
+}
+
+impl PageReadResultsBuilder {
+    /// A struct whose fields are all as by default.
+    pub fn new(alloc: Global) -> Result<PageReadResultsBuilder, AllocError>
+        ensures { IfOk result (λ d. d.body ≡ blank 0 1) }
+    {
+        Ok(PageReadResultsBuilder {
+            body: StructDraft::new(alloc)?,
         })
     }
 
-    /// What is promised, to be named at once. Calls of it wait.
-    pub fn client(&self, alloc: Global) -> PageClient
-        ensures { result.target ≡ promised_by self.now.resolver }
+    /// Sets `text`.
+    pub fn set_text(&mut self, alloc: Global, value: &str) -> Result<(), DraftFault>
+        ensures set { OnOk result (self.new.body ≡ with_pointer self.old.body 0 (text_tree value.now)) }
+        ensures left { OnErr result (self.new ≡ self.old) }
+        ensures long { result ≡ Err TooLong → 2 ^ 29 ≤ length value.now + 1 }
     {
-        PageClient::new(alloc, self.resolver.cap())
-    }
-
-    /// What was promised comes to this object.
-    pub fn resolve<M: Drop>(self, here: &mut Here<M>, client: PageClient) -> Result<(), AllocError>
-        ensures resolved { OnOk result (place_of here.new ≡ resolved self.resolver client.target (place_of here.old)) }
-        ensures left { OnErr result (place_of here.new ≡ place_of here.old) }
-    {
-        here.resolve(self.resolver, client.target.into_cap())
-    }
-
-    /// Calls of what was promised fail with this.
-    pub fn fail<M: Drop>(self, here: &mut Here<M>, fault: MethodFault) -> Result<(), AllocError>
-        ensures fails { OnOk result (Fails self.resolver fault (place_of here.old) (place_of here.new)) }
-        ensures left { OnErr result (place_of here.new ≡ place_of here.old) }
-    {
-        fail(self.resolver, here, fault)
+        self.body.set_pointer(0, cp_builder::text_of(alloc, value)?);
+        Ok(())
     }
 }
 
-/// Passes a call on to the method of an object that its interface and its number name.
-pub fn dispatch_page<T: PageServer>(
-    object: &mut T,
-    call: &MethodCall,
-    here: &mut Here<T::Makes>,
-) -> Result<Reply, AllocError>
-    ensures { IfOk result (λ reply. PageTakes T.page_kind (at object.old here.old) call.now reply (at object.new here.new)) }
-{
-    match call.request.interface {
-        0xd22af05f2861ac0c => dispatch_page_method(object, call, here),
-        _ => refuse(here.alloc(), call, MethodFault::Unimplemented),
+impl Results for PageReadResultsBuilder {
+    ghost content = { λ d. d.body };
+
+    ghost names = { λ d. [] };
+
+    fn into_parts(self, alloc: Global) -> (Whole, Table) {
+        (self.body.into_whole(), Table::new(alloc))
     }
 }
 
-/// Passes a call of this interface on to the method of an object that its number names.
-pub fn dispatch_page_method<T: PageServer>(
-    object: &mut T,
-    call: &MethodCall,
-    here: &mut Here<T::Makes>,
-) -> Result<Reply, AllocError>
-    ensures { IfOk result (λ reply. PageMethodTakes T.page_kind (at object.old here.old) call.now reply (at object.new here.new)) }
-{
-    match call.request.method {
-        0 => pass_read(object, call, here),
-        _ => refuse(here.alloc(), call, MethodFault::Unimplemented),
-    }
-}
+/// `struct Page.read$Results`, as a question will give it.
+pub type PageReadResultsPromise = Promise<PageReadResultsBuilder>;
 
-/// Passes a call of `read` on.
-fn pass_read<T: PageServer>(
-    object: &mut T,
-    call: &MethodCall,
-    here: &mut Here<T::Makes>,
-) -> Result<Reply, AllocError>
-    ensures { IfOk result (λ reply. Passes T.page_kind.on_read (at object.old here.old) call.now reply (at object.new here.new)) }
-{
-    match call.params() {
-        Ok(body) => {
-            let results = PageReadResultsBuilder::new(here.alloc())?;
-            let params = PageReadParamsReader { body };
-            let mut passed = ServiceCall::new(here.alloc(), call, params, results);
-            let done = PageServer::read(object, &mut passed, here);
-            passed.reply(call, done)
-        }
-        Err(fault) => refuse(here.alloc(), call, MethodFault::WrongKind(fault)),
+impl<'a> Lends<'a> for PageReadResultsBuilder {
+    type Reader = PageReadResultsReader<'a>;
+
+    ghost read = { λ x. x.body };
+
+    fn reader(body: StructView<'a>) -> PageReadResultsReader<'a> {
+        PageReadResultsReader { body }
     }
 }

@@ -1,24 +1,27 @@
 //! `watcher` of notebook.capnp, made by capnpc_rattle.
 
-ghost use Rattle.std.specs.Prelude.{◌≡◌, IfOk, OnOk, OnErr, []};
+ghost use Rattle.std.specs.Prelude.{◌≡◌, IfOk, []};
+ghost use Rattle.cp_tree.specs.Seen.{pointee_of};
+ghost use Rattle.cp_fields.specs.Pointers.{text_field};
 ghost use Rattle.cp_builder.specs.Drafts.{blank, text_tree, with_pointer};
 ghost use Rattle.cp_stubs.specs.Calls.{ask_of, request_of};
-ghost use Rattle.cp_stubs.specs.Dispatch.{Passes};
-ghost use Rattle.cp_makers.specs.Here.{place_of};
 ghost use Rattle.cp_services.specs.Calls.{Answers};
 ghost use Rattle.cp_services.specs.Calls.{MakesOf};
-ghost use Rattle.cp_services.specs.Promises.{Fails, Promises, promised_by, resolved};
-ghost use Rattle.cp_services.specs.Services.{At, at, seen_as, taking};
-ghost use Rattle.notebook.specs.Watcher.{WatcherKind, WatcherMethodTakes, WatcherTakes, any_watcher};
+ghost use Rattle.cp_services.specs.Services.{At, at};
+ghost use Rattle.notebook.specs.Watcher.{WatcherKind, WatcherTakes, any_watcher};
 
-use crate::watcher_added_params::{WatcherAddedParamsBuilder, WatcherAddedParamsReader};
-use crate::watcher_added_results::{WatcherAddedResultsBuilder, WatcherAddedResultsPromise};
-use cp_builder::DraftFault;
-use cp_makers::{Here, Maker, Resolver};
-use cp_refs::{Cap, Outcome, Request};
-use cp_servants::{Ask, Reply, Settled};
-use cp_services::{MethodResult, ServiceCall, ServiceObject, fail};
-use cp_stubs::{CallTarget, Caller, MethodCall, MethodFault, refuse};
+use cp_builder::{DraftFault, StructDraft};
+use cp_fields::{StructView, TextView, WrongKind};
+use cp_makers::Here;
+use cp_refs::{Cap, Request};
+use cp_servants::{Ask, Reply};
+use cp_services::{
+    Dispatch, MethodResult, ServedObject, ServiceCall, ServiceObject, TypedResolver,
+};
+use cp_stubs::{
+    CallTarget, Caller, MethodCall, MethodFault, NoFieldsBuilder, NoFieldsPromise, NoFieldsReader,
+    TypedClient, refuse,
+};
 use std::alloc::{AllocError, Global};
 
 /// `interface Watcher`.
@@ -42,11 +45,13 @@ impl WatcherClient {
     }
 
     /// A call of `added @0`.
-    pub fn added_request(&self, params: WatcherAddedParamsBuilder) -> Request
-        ensures { result ≡ request_of 0x80a0c5d36bb2c9a2 0 params.body [] }
+    pub fn added_request(&self, text: &str) -> Result<Request, DraftFault>
+        ensures { IfOk result (λ r. r ≡ request_of 0x80a0c5d36bb2c9a2 0 (with_pointer (blank 0 1) 0 (text_tree text.now)) []) }
     {
-        let content = params.body.into_whole();
-        self.target.request(0x80a0c5d36bb2c9a2, 0, content)
+        let mut params: StructDraft<0, 1> = StructDraft::new(self.target.alloc())?;
+        params.set_pointer(0, cp_builder::text_of(self.target.alloc(), text)?);
+        let content = params.into_whole();
+        Ok(self.target.request(0x80a0c5d36bb2c9a2, 0, content))
     }
 
     /// Takes a note that was added.
@@ -57,20 +62,27 @@ impl WatcherClient {
     ) -> Result<WatcherAddedResultsPromise, C::Fault>
         ensures { MakesOf (λ p. p.at) C.asks caller.old self.now.target 0x80a0c5d36bb2c9a2 0 (with_pointer (blank 0 1) 0 (text_tree text.now)) [] result caller.new }
     {
-        let params = WatcherAddedParamsBuilder::of(self.target.alloc(), text)?;
-        let request = self.added_request(params);
-        Ok(WatcherAddedResultsPromise {
-            at: self.target.call(caller, request)?,
-        })
+        let request = self.added_request(text)?;
+        Ok(WatcherAddedResultsPromise::of(self.target.call(caller, request)?))
     }
 
     /// A call of `added` that an object makes. With the mark the object is told what it came to.
     pub fn added_ask(&self, text: &str, mark: u64) -> Result<Ask, DraftFault>
         ensures { IfOk result (λ ask. ask ≡ ask_of self.now.target (request_of 0x80a0c5d36bb2c9a2 0 (with_pointer (blank 0 1) 0 (text_tree text.now)) []) mark) }
     {
-        let params = WatcherAddedParamsBuilder::of(self.target.alloc(), text)?;
-        let request = self.added_request(params);
-        Ok(self.target.ask(request, mark)?)
+        Ok(self.target.ask(self.added_request(text)?, mark)?)
+    }
+}
+
+impl TypedClient for WatcherClient {
+    ghost called = { λ c. c.target };
+
+    fn of(target: CallTarget) -> WatcherClient {
+        WatcherClient { target }
+    }
+
+    fn into_target(self) -> CallTarget {
+        self.target
     }
 }
 
@@ -96,137 +108,56 @@ pub trait WatcherServer: ServiceObject {
 }
 
 /// An object of `interface Watcher`, as a connection serves it.
-#[derive(Drop)]
-pub struct WatcherServant<T> {
-    pub object: T,
-}
-
-impl<T: WatcherServer> Maker for WatcherServant<T> {
-    type Makes = T::Makes;
-
-    ghost makes = { seen_as (λ s. s.object) (taking (WatcherTakes T.watcher_kind) T.kind) };
-
-    fn call(
-        &mut self,
-        ticket: u64,
-        request: Request,
-        here: &mut Here<T::Makes>,
-    ) -> Result<Reply, AllocError> {
-        let call = MethodCall { ticket, request };
-        dispatch_watcher(&mut self.object, &call, here)
-    }
-
-    fn poll(&mut self, here: &mut Here<T::Makes>) -> Result<Option<Settled>, AllocError> {
-        Ok(ServiceObject::poll(&mut self.object, here)?)
-    }
-
-    fn again(&self) -> bool {
-        ServiceObject::again(&self.object)
-    }
-
-    fn ask(&mut self, here: &mut Here<T::Makes>) -> Result<Option<Ask>, AllocError> {
-        Ok(ServiceObject::ask(&mut self.object, here)?)
-    }
-
-    fn told(
-        &mut self,
-        mark: u64,
-        outcome: Outcome,
-        here: &mut Here<T::Makes>,
-    ) -> Result<(), AllocError> {
-        Ok(ServiceObject::told(&mut self.object, mark, outcome, here)?)
-    }
-}
+pub type WatcherServant<T> = ServedObject<T, WatcherClient>;
 
 /// Resolves a promise of an object of `interface Watcher`: one that is named before it is there.
-#[derive(Drop)]
-pub struct WatcherResolver {
-    pub resolver: Resolver,
-}
+pub type WatcherResolver = TypedResolver<WatcherClient>;
 
-impl WatcherResolver {
-    /// Makes the promise.
-    pub fn new<M: Drop>(here: &mut Here<M>) -> Result<WatcherResolver, AllocError>
-        ensures promised { IfOk result (λ r. Promises r.resolver (place_of here.old) (place_of here.new)) }
-        ensures left { OnErr result (place_of here.new ≡ place_of here.old) }
-    {
-        Ok(WatcherResolver {
-            resolver: here.promise()?,
-        })
-    }
+impl<T: WatcherServer> Dispatch<T> for WatcherClient {
+    ghost takes = { WatcherTakes T.watcher_kind };
 
-    /// What is promised, to be named at once. Calls of it wait.
-    pub fn client(&self, alloc: Global) -> WatcherClient
-        ensures { result.target ≡ promised_by self.now.resolver }
-    {
-        WatcherClient::new(alloc, self.resolver.cap())
-    }
-
-    /// What was promised comes to this object.
-    pub fn resolve<M: Drop>(
-        self,
-        here: &mut Here<M>,
-        client: WatcherClient,
-    ) -> Result<(), AllocError>
-        ensures resolved { OnOk result (place_of here.new ≡ resolved self.resolver client.target (place_of here.old)) }
-        ensures left { OnErr result (place_of here.new ≡ place_of here.old) }
-    {
-        here.resolve(self.resolver, client.target.into_cap())
-    }
-
-    /// Calls of what was promised fail with this.
-    pub fn fail<M: Drop>(self, here: &mut Here<M>, fault: MethodFault) -> Result<(), AllocError>
-        ensures fails { OnOk result (Fails self.resolver fault (place_of here.old) (place_of here.new)) }
-        ensures left { OnErr result (place_of here.new ≡ place_of here.old) }
-    {
-        fail(self.resolver, here, fault)
-    }
-}
-
-/// Passes a call on to the method of an object that its interface and its number name.
-pub fn dispatch_watcher<T: WatcherServer>(
-    object: &mut T,
-    call: &MethodCall,
-    here: &mut Here<T::Makes>,
-) -> Result<Reply, AllocError>
-    ensures { IfOk result (λ reply. WatcherTakes T.watcher_kind (at object.old here.old) call.now reply (at object.new here.new)) }
-{
-    match call.request.interface {
-        0x80a0c5d36bb2c9a2 => dispatch_watcher_method(object, call, here),
-        _ => refuse(here.alloc(), call, MethodFault::Unimplemented),
-    }
-}
-
-/// Passes a call of this interface on to the method of an object that its number names.
-pub fn dispatch_watcher_method<T: WatcherServer>(
-    object: &mut T,
-    call: &MethodCall,
-    here: &mut Here<T::Makes>,
-) -> Result<Reply, AllocError>
-    ensures { IfOk result (λ reply. WatcherMethodTakes T.watcher_kind (at object.old here.old) call.now reply (at object.new here.new)) }
-{
-    match call.request.method {
-        0 => pass_added(object, call, here),
-        _ => refuse(here.alloc(), call, MethodFault::Unimplemented),
-    }
-}
-
-/// Passes a call of `added` on.
-fn pass_added<T: WatcherServer>(
-    object: &mut T,
-    call: &MethodCall,
-    here: &mut Here<T::Makes>,
-) -> Result<Reply, AllocError>
-    ensures { IfOk result (λ reply. Passes T.watcher_kind.on_added (at object.old here.old) call.now reply (at object.new here.new)) }
-{
-    match call.params() {
-        Ok(body) => {
-            let results = WatcherAddedResultsBuilder::new(here.alloc())?;
-            let params = WatcherAddedParamsReader { body };
-            let mut passed = ServiceCall::new(here.alloc(), call, params, results);
-            let done = WatcherServer::added(object, &mut passed, here);
-            passed.reply(call, done)
+    fn dispatch(
+        object: &mut T,
+        call: &MethodCall,
+        here: &mut Here<T::Makes>,
+    ) -> Result<Reply, AllocError> {
+        match (call.request.interface, call.request.method, call.params()) {
+            (0x80a0c5d36bb2c9a2, 0, Ok(body)) => {
+                let results = WatcherAddedResultsBuilder::new(here.alloc())?;
+                let params = WatcherAddedParamsReader { body };
+                let mut passed = ServiceCall::new(here.alloc(), call, params, results);
+                let done = WatcherServer::added(object, &mut passed, here);
+                passed.reply(call, done)
+            }
+            (0x80a0c5d36bb2c9a2, 0, Err(fault)) => {
+                refuse(here.alloc(), call, MethodFault::WrongKind(fault))
+            }
+            _ => refuse(here.alloc(), call, MethodFault::Unimplemented),
         }
-        Err(fault) => refuse(here.alloc(), call, MethodFault::WrongKind(fault)),
     }
 }
+
+/// `struct Watcher.added$Params`.
+#[derive(Drop)]
+pub struct WatcherAddedParamsReader<'a> {
+    /// The struct, by the places of its fields.
+    pub body: StructView<'a>,
+}
+
+impl<'a> WatcherAddedParamsReader<'a> {
+    /// `text @0`.
+    pub fn text(&self) -> Result<TextView<'a>, WrongKind>
+        ensures { result ≡ text_field [] (pointee_of self.now.body 0) }
+    {
+        self.body.text(0)
+    }
+}
+
+/// `struct Watcher.added$Results`.
+pub type WatcherAddedResultsReader<'a> = NoFieldsReader<'a>;
+
+/// `struct Watcher.added$Results`, to be written.
+pub type WatcherAddedResultsBuilder = NoFieldsBuilder;
+
+/// `struct Watcher.added$Results`, as a question will give it.
+pub type WatcherAddedResultsPromise = NoFieldsPromise;

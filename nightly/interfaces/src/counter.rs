@@ -1,26 +1,27 @@
 //! A watcher that counts of whom it is told.
 
-use directory::{WatcherAddedParamsView, WatcherServer};
-use jamdrosek::interfaces::{Answer, MethodCall, MethodFault, ServerObject, StreamResultDraft};
-use std::alloc::Global;
+use crate::Served;
+use directory::{WatcherAddedCall, WatcherServer};
+use jamdrosek::interfaces::{MethodResult, ServiceObject};
+use jamdrosek::server::Here;
+use std::cell::RefCell;
+use std::rc::Rc;
 
 /// Counts of whom it is told.
 #[derive(Drop)]
 pub struct Counter {
-    pub alloc: Global,
-    pub count: u64,
+    pub count: Rc<RefCell<u64>>,
 }
 
-impl ServerObject for Counter {}
+impl ServiceObject for Counter {
+    type Makes = Served;
+}
 
 impl WatcherServer for Counter {
-    fn added(
-        &mut self,
-        _call: &MethodCall,
-        params: &WatcherAddedParamsView<'_>,
-    ) -> Result<Answer<StreamResultDraft>, MethodFault> {
-        let _person = params.person()?;
-        self.count = self.count.saturating_add(1);
-        Ok(Answer::of(self.alloc, StreamResultDraft::new(self.alloc)?))
+    fn added(&mut self, call: &mut WatcherAddedCall<'_>, _here: &mut Here<Served>) -> MethodResult {
+        let _person = call.params.person()?;
+        let mut count = self.count.try_borrow_mut()?;
+        *count = count.saturating_add(1);
+        Ok(())
     }
 }

@@ -1,39 +1,31 @@
 //! Calls of a directory.
 
-use crate::counter::Counter;
-use crate::peer::came;
+use crate::Served;
+use crate::peer::{Calling, came};
 use directory::{
-    DirectoryAddParamsDraft, DirectoryClient, DirectoryFindParamsDraft,
-    DirectoryFindResultsPromise, DirectoryWatchParamsDraft, FriendClient, FriendGreetParamsDraft,
-    FriendGreetParamsView, FriendGreetResultsDraft, FriendServant, FriendServer,
-    NamedNameParamsDraft, PersonDraft, WatcherClient, WatcherServant,
+    DirectoryAddParamsBuilder, DirectoryClient, DirectoryFindResultsPromise, FriendClient,
+    FriendGreetCall, FriendServer, PersonBuilder, WatcherClient,
 };
-use jamdrosek::client::{Cap, Client};
-use jamdrosek::interfaces::{Answer, MethodCall, MethodFault, ServerObject, Table};
-use jamdrosek::server::Servant;
+use jamdrosek::client::Cap;
+use jamdrosek::interfaces::{MethodResult, ServiceObject};
+use jamdrosek::server::Here;
 use std::alloc::Global;
 use std::io::{Read, Write};
 
 /// Answers a greeting with itself, twice.
 #[derive(Drop)]
-struct Echo {
-    alloc: Global,
+pub struct Echo {}
+
+impl ServiceObject for Echo {
+    type Makes = Served;
 }
 
-impl ServerObject for Echo {}
-
 impl FriendServer for Echo {
-    fn greet(
-        &mut self,
-        _call: &MethodCall,
-        params: &FriendGreetParamsView<'_>,
-    ) -> Result<Answer<FriendGreetResultsDraft>, MethodFault> {
-        let greeting = params.greeting()?.text(self.alloc)?;
+    fn greet(&mut self, call: &mut FriendGreetCall<'_>, here: &mut Here<Served>) -> MethodResult {
+        let greeting = call.params.greeting()?.text(here.alloc())?;
         let said = greeting.as_str();
-        let answer = format!(in self.alloc; "{said}, {said}")?;
-        let mut results = FriendGreetResultsDraft::new(self.alloc)?;
-        results.set_answer(self.alloc, answer.as_str())?;
-        Ok(Answer::of(self.alloc, results))
+        let answer = format!(in here.alloc(); "{said}, {said}")?;
+        Ok(call.results.set_answer(here.alloc(), answer.as_str())?)
     }
 }
 
@@ -41,16 +33,13 @@ impl FriendServer for Echo {
 #[derive(Drop)]
 pub struct Directing<'a, R, W> {
     alloc: Global,
-    client: &'a mut Client<R, W, Vec<Box<dyn Servant>>>,
+    client: &'a mut Calling<R, W>,
     directory: DirectoryClient,
 }
 
 impl<'a, R: Read + Drop, W: Write + Drop> Directing<'a, R, W> {
     /// Calls the peer's directory.
-    pub fn new(
-        alloc: Global,
-        client: &'a mut Client<R, W, Vec<Box<dyn Servant>>>,
-    ) -> anyhow::Result<Directing<'a, R, W>> {
+    pub fn new(alloc: Global, client: &'a mut Calling<R, W>) -> anyhow::Result<Directing<'a, R, W>> {
         let cap = client.bootstrap()?.cap(alloc);
         Ok(Directing {
             alloc,
@@ -61,19 +50,14 @@ impl<'a, R: Read + Drop, W: Write + Drop> Directing<'a, R, W> {
 
     /// The directory's name, by the interface that its own extends.
     pub fn name(&mut self) -> anyhow::Result<String> {
-        let params = NamedNameParamsDraft::new(self.alloc)?;
-        let promise = self.directory.as_named()?.name(self.client, params)?;
+        let promise = self.directory.as_named()?.name(self.client)?;
         let came = came(self.client, promise.question())?;
         Ok(promise.results(&came)?.name()?.text(self.alloc)?)
     }
 
     /// Has an object of this end's told of each person that is added.
     pub fn watch(&mut self) -> anyhow::Result<String> {
-        let alloc = self.alloc;
-        let object = Counter { alloc, count: 0 };
-        let watcher = Box::new(alloc, WatcherServant { alloc, object })?;
-        let watcher = self.client.export(watcher)?;
-        self.watch_by(watcher)
+        self.watch_by(Cap::Object(0))
     }
 
     /// Has nobody told of people: the capability is null.
@@ -85,10 +69,7 @@ impl<'a, R: Read + Drop, W: Write + Drop> Directing<'a, R, W> {
     fn watch_by(&mut self, watcher: Cap) -> anyhow::Result<String> {
         let alloc = self.alloc;
         let watcher = WatcherClient::new(alloc, watcher);
-        let mut table = Table::new(alloc);
-        let mut params = DirectoryWatchParamsDraft::new(alloc)?;
-        params.set_watcher_client(&mut table, watcher)?;
-        let promise = self.directory.watch(self.client, params, table)?;
+        let promise = self.directory.watch(self.client, watcher)?;
         let came = came(self.client, promise.question())?;
         let _ = promise.results(&came)?;
         Ok(String::from_str(alloc, "done")?)
@@ -96,10 +77,7 @@ impl<'a, R: Read + Drop, W: Write + Drop> Directing<'a, R, W> {
 
     /// Adds a person for whom an object of this end's speaks.
     pub fn add(&mut self) -> anyhow::Result<String> {
-        let alloc = self.alloc;
-        let object = Echo { alloc };
-        let friend = Box::new(alloc, FriendServant { alloc, object })?;
-        let friend = FriendClient::new(alloc, self.client.export(friend)?);
+        let friend = FriendClient::new(self.alloc, Cap::Object(1));
         self.add_person("Ada", 36, friend)
     }
 
@@ -112,30 +90,25 @@ impl<'a, R: Read + Drop, W: Write + Drop> Directing<'a, R, W> {
     /// Adds a person, and says how many there are.
     fn add_person(&mut self, name: &str, age: u8, friend: FriendClient) -> anyhow::Result<String> {
         let alloc = self.alloc;
-        let mut table = Table::new(alloc);
-        let mut person = PersonDraft::new(alloc)?;
+        let mut params = DirectoryAddParamsBuilder::new(alloc)?;
+        let mut person = PersonBuilder::new(alloc)?;
         person.set_name(alloc, name)?;
         person.set_age(age);
-        person.set_friend_client(&mut table, friend)?;
-        let mut params = DirectoryAddParamsDraft::new(alloc)?;
+        person.set_friend(&mut params.table, friend)?;
         params.set_person(person);
-        let promise = self.directory.add(self.client, params, table)?;
+        let promise = self.directory.add(self.client, params)?;
         let came = came(self.client, promise.question())?;
         Ok(format!(in alloc; "{}", promise.results(&came)?.count())?)
     }
 
     /// Asks for a person.
     fn find(&mut self, name: &str) -> anyhow::Result<DirectoryFindResultsPromise> {
-        let mut params = DirectoryFindParamsDraft::new(self.alloc)?;
-        params.set_name(self.alloc, name)?;
-        Ok(self.directory.find(self.client, params)?)
+        Ok(self.directory.find(self.client, name)?)
     }
 
     /// Greets whom a capability names.
     fn greet(&mut self, friend: &FriendClient) -> anyhow::Result<String> {
-        let mut params = FriendGreetParamsDraft::new(self.alloc)?;
-        params.set_greeting(self.alloc, "hello")?;
-        let promise = friend.greet(self.client, params)?;
+        let promise = friend.greet(self.client, "hello")?;
         let came = came(self.client, promise.question())?;
         Ok(promise.results(&came)?.answer()?.text(self.alloc)?)
     }

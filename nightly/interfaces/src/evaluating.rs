@@ -1,15 +1,13 @@
 //! Calls of a calculator.
 
-use crate::functions::{Binary, Function};
-use crate::peer::came;
+use crate::peer::{Calling, came};
 use calculator::{
-    CalculatorClient, CalculatorDefineParamsDraft, CalculatorEvaluateParamsDraft, ExpressionDraft,
-    ExpressionListDraft, FunctionClient, Operator, ReckonerOperatorParamsDraft,
-    ReckonerReckonParamsDraft, ValueClient, ValueReadParamsDraft,
+    CalculatorClient, CalculatorDefineParamsBuilder, CalculatorEvaluateParamsBuilder,
+    ExpressionBuilder, ExpressionListBuilder, FunctionClient, Operator,
+    ReckonerOperatorParamsBuilder, ReckonerReckonParamsBuilder, ValueClient,
 };
-use jamdrosek::client::{Cap, Client};
+use jamdrosek::client::Cap;
 use jamdrosek::interfaces::Table;
-use jamdrosek::server::Servant;
 use std::alloc::Global;
 use std::io::{Read, Write};
 
@@ -26,38 +24,38 @@ impl Maker {
         Maker { alloc, table }
     }
 
-    fn number(&self, number: f64) -> anyhow::Result<ExpressionDraft> {
-        let mut expression = ExpressionDraft::new(self.alloc)?;
+    fn number(&self, number: f64) -> anyhow::Result<ExpressionBuilder> {
+        let mut expression = ExpressionBuilder::new(self.alloc)?;
         expression.set_number(number);
         Ok(expression)
     }
 
-    fn param(&self, place: u32) -> anyhow::Result<ExpressionDraft> {
-        let mut expression = ExpressionDraft::new(self.alloc)?;
+    fn param(&self, place: u32) -> anyhow::Result<ExpressionBuilder> {
+        let mut expression = ExpressionBuilder::new(self.alloc)?;
         expression.set_param(place);
         Ok(expression)
     }
 
-    fn value(&mut self, value: &ValueClient) -> anyhow::Result<ExpressionDraft> {
+    fn value(&mut self, value: &ValueClient) -> anyhow::Result<ExpressionBuilder> {
         let target = value.target.copy()?;
-        let mut expression = ExpressionDraft::new(self.alloc)?;
-        expression.set_value_client(&mut self.table, ValueClient { target })?;
+        let mut expression = ExpressionBuilder::new(self.alloc)?;
+        expression.set_value(&mut self.table, ValueClient { target })?;
         Ok(expression)
     }
 
     fn call(
         &mut self,
         function: &FunctionClient,
-        first: ExpressionDraft,
-        second: ExpressionDraft,
-    ) -> anyhow::Result<ExpressionDraft> {
-        let mut params = ExpressionListDraft::new(self.alloc);
+        first: ExpressionBuilder,
+        second: ExpressionBuilder,
+    ) -> anyhow::Result<ExpressionBuilder> {
+        let mut params = ExpressionListBuilder::new(self.alloc);
         params.push(first)?;
         params.push(second)?;
         let target = function.target.copy()?;
-        let mut expression = ExpressionDraft::new(self.alloc)?;
+        let mut expression = ExpressionBuilder::new(self.alloc)?;
         expression.set_call();
-        expression.set_call_function_client(&mut self.table, FunctionClient { target })?;
+        expression.set_call_function(&mut self.table, FunctionClient { target })?;
         expression.set_call_params(params);
         Ok(expression)
     }
@@ -67,7 +65,7 @@ impl Maker {
 #[derive(Drop)]
 pub struct Evaluating<'a, R, W> {
     alloc: Global,
-    client: &'a mut Client<R, W, Vec<Box<dyn Servant>>>,
+    client: &'a mut Calling<R, W>,
     calculator: CalculatorClient,
 }
 
@@ -75,7 +73,7 @@ impl<'a, R: Read + Drop, W: Write + Drop> Evaluating<'a, R, W> {
     /// Calls the peer's calculator.
     pub fn new(
         alloc: Global,
-        client: &'a mut Client<R, W, Vec<Box<dyn Servant>>>,
+        client: &'a mut Calling<R, W>,
     ) -> anyhow::Result<Evaluating<'a, R, W>> {
         let cap = client.bootstrap()?.cap(alloc);
         Ok(Evaluating {
@@ -88,23 +86,23 @@ impl<'a, R: Read + Drop, W: Write + Drop> Evaluating<'a, R, W> {
     /// The function that an operator is, before it came.
     fn operator(&mut self, operator: Operator) -> anyhow::Result<FunctionClient> {
         let reckoner = self.calculator.as_reckoner()?;
-        let mut params = ReckonerOperatorParamsDraft::new(self.alloc)?;
+        let mut params = ReckonerOperatorParamsBuilder::new(self.alloc)?;
         params.set_operator(operator);
         Ok(reckoner.operator(self.client, params)?.function()?)
     }
 
     /// What an expression comes to, before it came.
-    fn evaluate(&mut self, maker: Maker, body: ExpressionDraft) -> anyhow::Result<ValueClient> {
-        let mut params = CalculatorEvaluateParamsDraft::new(self.alloc)?;
+    fn evaluate(&mut self, maker: Maker, body: ExpressionBuilder) -> anyhow::Result<ValueClient> {
+        let mut params = CalculatorEvaluateParamsBuilder::new(self.alloc)?;
+        params.table = maker.table;
         params.set_expression(body);
-        let promise = self.calculator.evaluate(self.client, params, maker.table)?;
+        let promise = self.calculator.evaluate(self.client, params)?;
         Ok(promise.value()?)
     }
 
     /// The number of a value.
     fn read(&mut self, value: &ValueClient) -> anyhow::Result<f64> {
-        let params = ValueReadParamsDraft::new(self.alloc)?;
-        let promise = value.read(self.client, params)?;
+        let promise = value.read(self.client)?;
         let came = came(self.client, promise.question())?;
         Ok(promise.results(&came)?.number())
     }
@@ -154,9 +152,10 @@ impl<'a, R: Read + Drop, W: Write + Drop> Evaluating<'a, R, W> {
         let (x, y, hundred) = (maker.param(0)?, maker.param(1)?, maker.number(100.0)?);
         let product = maker.call(&multiply, x, hundred)?;
         let sum = maker.call(&add, product, y)?;
-        let mut params = CalculatorDefineParamsDraft::new(self.alloc)?;
+        let mut params = CalculatorDefineParamsBuilder::new(self.alloc)?;
+        params.table = maker.table;
         params.set_body(sum);
-        let defined = self.calculator.define(self.client, params, maker.table)?;
+        let defined = self.calculator.define(self.client, params)?;
         let mut maker = Maker::new(self.alloc);
         let (a, b) = (maker.number(12.0)?, maker.number(34.0)?);
         let called = maker.call(&defined.function()?, a, b)?;
@@ -167,8 +166,7 @@ impl<'a, R: Read + Drop, W: Write + Drop> Evaluating<'a, R, W> {
     /// 2 ^ (4 + 5), by a function of this end's.
     pub fn own_functions(&mut self) -> anyhow::Result<f64> {
         let add = self.operator(Operator::Add)?;
-        let power = Box::new(self.alloc, Function::of(self.alloc, Binary::Power))?;
-        let power = FunctionClient::new(self.alloc, self.client.export(power)?);
+        let power = FunctionClient::new(self.alloc, Cap::Object(2));
         let mut maker = Maker::new(self.alloc);
         let (a, b, c) = (maker.number(2.0)?, maker.number(4.0)?, maker.number(5.0)?);
         let sum = maker.call(&add, b, c)?;
@@ -181,9 +179,9 @@ impl<'a, R: Read + Drop, W: Write + Drop> Evaluating<'a, R, W> {
     pub fn superinterface(&mut self) -> anyhow::Result<f64> {
         let reckoner = self.calculator.as_reckoner()?;
         let maker = Maker::new(self.alloc);
-        let mut params = ReckonerReckonParamsDraft::new(self.alloc)?;
+        let mut params = ReckonerReckonParamsBuilder::new(self.alloc)?;
         params.set_expression(maker.number(7.5)?);
-        let promise = reckoner.reckon(self.client, params, maker.table)?;
+        let promise = reckoner.reckon(self.client, params)?;
         let came = came(self.client, promise.question())?;
         Ok(promise.results(&came)?.number())
     }

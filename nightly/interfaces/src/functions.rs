@@ -1,11 +1,10 @@
 //! Functions: the operators, and one that the calculator hasn't.
 
-use calculator::{
-    FunctionCallParamsView, FunctionCallResultsDraft, FunctionServant, FunctionServer, Operator,
-};
+use crate::Served;
+use calculator::{FunctionCallCall, FunctionServant, FunctionServer, Operator};
 use jamdrosek::fields::List;
-use jamdrosek::interfaces::{Answer, MethodCall, MethodFault, ServerObject};
-use std::alloc::{AllocError, Global};
+use jamdrosek::interfaces::{MethodFault, MethodResult, ServiceObject};
+use jamdrosek::server::{Any2, Here};
 
 /// A function of two numbers, by what it is called with.
 #[derive(Clone, Copy)]
@@ -18,33 +17,29 @@ pub enum Binary {
 /// A function of two numbers.
 #[derive(Drop)]
 pub struct Function {
-    alloc: Global,
     binary: Binary,
 }
 
 impl Function {
     /// The function, to be served.
-    pub fn of(alloc: Global, binary: Binary) -> FunctionServant<Function> {
-        let object = Function { alloc, binary };
-        FunctionServant { alloc, object }
+    pub fn of(binary: Binary) -> Served {
+        let function = FunctionServant::new(Function { binary });
+        Any2::Second(Any2::Second(Any2::First(function)))
     }
 }
 
-impl ServerObject for Function {}
+impl ServiceObject for Function {
+    type Makes = Served;
+}
 
 impl FunctionServer for Function {
-    fn call(
-        &mut self,
-        _call: &MethodCall,
-        params: &FunctionCallParamsView<'_>,
-    ) -> Result<Answer<FunctionCallResultsDraft>, MethodFault> {
-        let numbers = params.params()?;
-        let Some((first, second)) = two_of(numbers) else {
+    fn call(&mut self, call: &mut FunctionCallCall<'_>, _here: &mut Here<Served>) -> MethodResult {
+        let Some((first, second)) = two_of(call.params.params()?) else {
             return Err(MethodFault::Unimplemented);
         };
-        let mut results = FunctionCallResultsDraft::new(self.alloc)?;
-        results.set_number(number_of(self.binary, first, second)?);
-        Ok(Answer::of(self.alloc, results))
+        call.results
+            .set_number(number_of(self.binary, first, second)?);
+        Ok(())
     }
 }
 

@@ -13,19 +13,32 @@ mod reckoner;
 mod shelf;
 
 use anyhow::anyhow;
-use directing::Directing;
-use directory::DirectoryServant;
+use calculator::{FunctionServant, ReckonerServant};
+use counter::Counter;
+use directing::{Directing, Echo};
+use directory::{DirectoryServant, FriendServant, WatcherServant};
 use evaluating::Evaluating;
-use jamdrosek::client::{Client, ClientFault};
-use jamdrosek::server::Servant;
+use functions::{Binary, Function};
+use jamdrosek::client::Client;
+use jamdrosek::server::{Any2, Family};
 use jamdrosek::{Limits, Mode};
-use reckoner::Reckoner;
+use peer::Calling;
+use reckoner::{Reckoner, new_reckoner};
 use shelf::Shelf;
 use std::alloc::Global;
+use std::cell::RefCell;
 use std::fmt::Display;
 use std::io::{Read, Write};
 use std::net::{Ipv4Addr, SocketAddr, TcpListener, TcpStream};
+use std::rc::Rc;
 use std::{env, fmt};
+
+/// Objects that are served from one end.
+type Own = Any2<ReckonerServant<Reckoner>, DirectoryServant<Shelf>>;
+
+/// The objects of this program.
+pub type Served =
+    Any2<WatcherServant<Counter>, Any2<FriendServant<Echo>, Any2<FunctionServant<Function>, Own>>>;
 
 /// Prints what a trial came to.
 fn print<T: Display + Drop>(
@@ -43,7 +56,7 @@ fn print<T: Display + Drop>(
 /// All trials of a calculator.
 fn evaluate<R: Read + Drop, W: Write + Drop>(
     rt: &HostRuntime,
-    client: &mut Client<R, W, Vec<Box<dyn Servant>>>,
+    client: &mut Calling<R, W>,
 ) -> anyhow::Result<()> {
     let mut trials = Evaluating::new(rt.alloc(), client)?;
     print(rt, "123 + 45 - 67", trials.operators())?;
@@ -60,7 +73,7 @@ fn evaluate<R: Read + Drop, W: Write + Drop>(
 /// All trials of a directory.
 fn direct<R: Read + Drop, W: Write + Drop>(
     rt: &HostRuntime,
-    client: &mut Client<R, W, Vec<Box<dyn Servant>>>,
+    client: &mut Calling<R, W>,
 ) -> anyhow::Result<()> {
     let mut trials = Directing::new(rt.alloc(), client)?;
     print(rt, "name", trials.name())?;
@@ -75,6 +88,24 @@ fn direct<R: Read + Drop, W: Write + Drop>(
     print(rt, "name again", trials.name())
 }
 
+/// The objects of a client: a watcher, a friend and a function.
+fn new_objects(alloc: Global) -> anyhow::Result<Family<Served>> {
+    let count = Rc::new(alloc, RefCell::new(0_u64))?;
+    let mut objects = Family::new(alloc);
+    objects.add(Any2::First(WatcherServant::new(Counter { count })))?;
+    objects.add(Any2::Second(Any2::First(FriendServant::new(Echo {}))))?;
+    objects.add(Function::of(Binary::Power))?;
+    Ok(objects)
+}
+
+/// A directory, as object 0.
+fn new_directory(alloc: Global) -> anyhow::Result<Family<Served>> {
+    let shelf = DirectoryServant::new(Shelf::new(alloc));
+    let mut objects = Family::new(alloc);
+    objects.add(Any2::Second(Any2::Second(Any2::Second(Own::Second(shelf)))))?;
+    Ok(objects)
+}
+
 /// Calls the server at a port.
 fn call(rt: &HostRuntime, trial: &str, port: u16) -> anyhow::Result<()> {
     let alloc = rt.alloc();
@@ -82,27 +113,14 @@ fn call(rt: &HostRuntime, trial: &str, port: u16) -> anyhow::Result<()> {
     let stream = TcpStream::connect(rt, address)?;
     stream.set_nodelay(true)?;
     let (mode, limits) = (Mode::Plain, Limits::standard());
-    let mut client = Client::with_objects(alloc, &stream, &stream, mode, limits, None);
+    let objects = new_objects(alloc)?;
+    let mut client = Client::with_family(alloc, &stream, &stream, mode, limits, objects);
     let came = match trial {
         "calculator" => evaluate(rt, &mut client),
         _ => direct(rt, &mut client),
     };
     let _ = client.into_devices();
     came
-}
-
-/// Exports what is to be served.
-fn export<R: Read + Drop, W: Write + Drop>(
-    alloc: Global,
-    client: &mut Client<R, W, Vec<Box<dyn Servant>>>,
-    trial: &str,
-) -> anyhow::Result<()> {
-    if trial == "reckoner" {
-        return Reckoner::export(alloc, client);
-    }
-    let object = Shelf::new(alloc);
-    client.export(Box::new(alloc, DirectoryServant { alloc, object })?)?;
-    Ok(())
 }
 
 /// Serves one client at a port.
@@ -112,11 +130,13 @@ fn serve(rt: &HostRuntime, trial: &str, port: u16) -> anyhow::Result<()> {
     let (stream, _) = listener.accept()?;
     stream.set_nodelay(true)?;
     let (mode, limits) = (Mode::Plain, Limits::standard());
-    let mut client = Client::with_objects(alloc, &stream, &stream, mode, limits, Some(0));
-    let exported = export(alloc, &mut client, trial);
+    let objects = match trial {
+        "reckoner" => new_reckoner(alloc)?,
+        _ => new_directory(alloc)?,
+    };
+    let mut client = Client::with_family(alloc, &stream, &stream, mode, limits, objects);
     let served = client.serve();
     let _ = client.into_devices();
-    exported?;
     Ok(served?)
 }
 

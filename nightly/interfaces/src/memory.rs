@@ -2,18 +2,20 @@
 //! client's of each person that is added.
 
 use crate::counter::Counter;
-use crate::shelf::Shelf;
+use crate::peer::Calling;
+use crate::{Served, new_directory};
 use directory::{
-    DirectoryAddParamsDraft, DirectoryClient, DirectoryFindParamsDraft,
-    DirectoryFindResultsPromise, DirectoryServant, DirectoryWatchParamsDraft, PersonDraft,
+    DirectoryAddParamsBuilder, DirectoryClient, DirectoryFindResultsPromise, PersonBuilder,
     WatcherClient, WatcherServant,
 };
-use jamdrosek::client::{Client, Question};
-use jamdrosek::connection::{Connection, Objects};
-use jamdrosek::interfaces::{Table, payload_of};
+use jamdrosek::client::{Cap, Client};
+use jamdrosek::server::{Any2, Family};
+use jamdrosek::session::{Session, SessionLimits, SessionOptions};
 use jamdrosek::{Limits, Mode};
 use std::alloc::Global;
+use std::cell::RefCell;
 use std::io::{Read, Write};
+use std::rc::Rc;
 
 /// Prints what the client is told.
 pub fn run(rt: &HostRuntime) -> anyhow::Result<()> {
@@ -23,88 +25,66 @@ pub fn run(rt: &HostRuntime) -> anyhow::Result<()> {
     Ok(())
 }
 
-/// A client whose objects are told of people.
-type Watching<R, W> = Client<R, W, Vec<WatcherServant<Counter>>>;
-
-/// Has an object of the client's told of each person that is added.
-fn watch<R: Read + Drop, W: Write + Drop>(
+/// A client of these bytes, whose object 0 is told of people.
+fn new_client<'b>(
     alloc: Global,
-    client: &mut Watching<R, W>,
-    directory: &DirectoryClient,
-) -> anyhow::Result<()> {
-    let object = Counter { alloc, count: 0 };
-    let watcher = client.export(WatcherServant { alloc, object })?;
-    let mut table = Table::new(alloc);
-    let mut params = DirectoryWatchParamsDraft::new(alloc)?;
-    params.set_watcher_client(&mut table, WatcherClient::new(alloc, watcher))?;
-    directory.watch(client, params, table)?;
-    Ok(())
+    from: &'b [u8],
+    count: Rc<RefCell<u64>>,
+) -> anyhow::Result<Calling<&'b [u8], Vec<u8>>> {
+    let mut objects: Family<Served> = Family::new(alloc);
+    objects.add(Any2::First(WatcherServant::new(Counter { count })))?;
+    let (mode, limits) = (Mode::Plain, Limits::standard());
+    Ok(Client::with_family(alloc, from, Vec::new(alloc), mode, limits, objects))
 }
 
 /// Adds a person.
 fn add<R: Read + Drop, W: Write + Drop>(
     alloc: Global,
-    client: &mut Watching<R, W>,
+    client: &mut Calling<R, W>,
     directory: &DirectoryClient,
 ) -> anyhow::Result<()> {
-    let mut person = PersonDraft::new(alloc)?;
+    let mut person = PersonBuilder::new(alloc)?;
     person.set_name(alloc, "Ada")?;
     person.set_age(36);
-    let mut params = DirectoryAddParamsDraft::new(alloc)?;
+    let mut params = DirectoryAddParamsBuilder::new(alloc)?;
     params.set_person(person);
-    directory.add(client, params, Table::new(alloc))?;
+    directory.add(client, params)?;
     Ok(())
 }
 
-/// Finds the person.
-fn find<R: Read + Drop, W: Write + Drop>(
-    alloc: Global,
-    client: &mut Watching<R, W>,
-    directory: &DirectoryClient,
-) -> anyhow::Result<DirectoryFindResultsPromise> {
-    let mut params = DirectoryFindParamsDraft::new(alloc)?;
-    params.set_name(alloc, "Ada")?;
-    Ok(directory.find(client, params)?)
-}
-
-/// Makes all calls, before the peer's object is known.
+/// Makes all calls, before the peer's object is known: has the client's object told of each person that is added, adds one, and finds it.
 fn ask<R: Read + Drop, W: Write + Drop>(
     alloc: Global,
-    client: &mut Watching<R, W>,
+    client: &mut Calling<R, W>,
 ) -> anyhow::Result<DirectoryFindResultsPromise> {
     let directory = DirectoryClient::new(alloc, client.bootstrap()?.cap(alloc));
-    watch(alloc, client, &directory)?;
+    directory.watch(client, WatcherClient::new(alloc, Cap::Object(0)))?;
     add(alloc, client, &directory)?;
-    find(alloc, client, &directory)
+    Ok(directory.find(client, "Ada")?)
 }
 
 /// What the calls came to, in words.
 fn told<R: Read + Drop, W: Write + Drop>(
     alloc: Global,
-    client: &mut Watching<R, W>,
+    client: &mut Calling<R, W>,
+    count: &Rc<RefCell<u64>>,
 ) -> anyhow::Result<String> {
     let found = ask(alloc, client)?;
-    let number = found.question();
-    let question = Question { number };
-    let came = payload_of(client.wait(question)?)?;
+    let came = client.results(found.question())?;
     let person = found.results(&came)?.person()?;
     let name = person.name()?.text(alloc)?;
-    let mut line = format!(in alloc; "{} is {}", name.as_str(), person.age())?;
-    for watcher in client.objects() {
-        write!(
-            line,
-            ", and the watcher was told of {}",
-            watcher.object.count
-        )?;
-    }
-    Ok(line)
+    let (name, age, count) = (name.as_str(), person.age(), *count.try_borrow()?);
+    Ok(format!(in alloc; "{name} is {age}, and the watcher was told of {count}")?)
+}
+
+/// No person yet.
+fn none(alloc: Global) -> anyhow::Result<Rc<RefCell<u64>>> {
+    Ok(Rc::new(alloc, RefCell::new(0_u64))?)
 }
 
 /// The bytes that a client sends for its calls.
 fn asked(alloc: Global) -> anyhow::Result<Vec<u8>> {
-    let from: &[u8] = &[];
-    let (mode, limits) = (Mode::Plain, Limits::standard());
-    let mut client = Client::with_objects(alloc, from, Vec::new(alloc), mode, limits, None);
+    let mut client = new_client(alloc, &[], none(alloc)?)?;
     let asked = ask(alloc, &mut client);
     let flushed = client.flush();
     let (_, sent) = client.into_devices();
@@ -114,13 +94,17 @@ fn asked(alloc: Global) -> anyhow::Result<Vec<u8>> {
 
 /// What a server with a Shelf sends for these bytes.
 fn served(alloc: Global, bytes: &[u8]) -> anyhow::Result<Vec<u8>> {
-    let mut server = Connection::new(alloc, Mode::Plain, Limits::standard(), Some(0));
-    let object = Shelf::new(alloc);
-    let mut objects = vec![in alloc; DirectoryServant { alloc, object }]?;
-    let mut work = Objects::that_call(alloc);
+    let options = SessionOptions {
+        mode: Mode::Plain,
+        messages: Limits::standard(),
+        bootstrap: Some(0),
+        may_call: true,
+        releases_idle: true,
+        limits: SessionLimits::standard(),
+    };
+    let mut server = Session::new(alloc, &options, new_directory(alloc)?, 0);
     for byte in bytes {
-        server.receive(&[*byte])?;
-        work.work_off(&mut server, &mut objects)?;
+        server.receive(&[*byte], 0)?;
     }
     let sent = Vec::from_slice(alloc, server.outgoing());
     drop(server);
@@ -129,9 +113,9 @@ fn served(alloc: Global, bytes: &[u8]) -> anyhow::Result<Vec<u8>> {
 
 /// What a client is told that gets these bytes for its calls.
 fn answered(alloc: Global, bytes: &[u8]) -> anyhow::Result<String> {
-    let (mode, limits) = (Mode::Plain, Limits::standard());
-    let mut client = Client::with_objects(alloc, bytes, Vec::new(alloc), mode, limits, None);
-    let line = told(alloc, &mut client);
+    let count = none(alloc)?;
+    let mut client = new_client(alloc, bytes, count.clone()?)?;
+    let line = told(alloc, &mut client, &count);
     let _ = client.into_devices();
     line
 }

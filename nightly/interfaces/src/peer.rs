@@ -1,15 +1,18 @@
-//! What comes of calls.
+//! A client whose objects answer, and what comes of its calls.
 
-use jamdrosek::client::{Client, Question};
-use jamdrosek::interfaces::{ResultPayload, payload_of};
-use jamdrosek::server::Servant;
+use crate::Served;
+use jamdrosek::client::Client;
+use jamdrosek::interfaces::ResultPayload;
+use jamdrosek::server::Family;
 use std::io::{Read, Write};
+
+/// A client with objects of this program.
+pub type Calling<R, W> = Client<R, W, Family<Served>>;
 
 /// The results of a question, while the objects answer.
 pub fn came<R: Read + Drop, W: Write + Drop>(
-    client: &mut Client<R, W, Vec<Box<dyn Servant>>>,
+    client: &mut Calling<R, W>,
     number: u32,
 ) -> anyhow::Result<ResultPayload> {
-    let outcome = client.wait(Question { number })?;
-    Ok(payload_of(outcome)?)
+    Ok(client.results(number)?)
 }

@@ -1,22 +1,19 @@
 //! A reckoner: it calls the functions that an expression names, one after another, and answers when the last has answered.
 
+use crate::Served;
 use crate::functions::{Binary, Function};
 use calculator::{
-    ExpressionCallView, ExpressionMember, ExpressionView, FunctionCallParamsDraft,
-    FunctionCallResultsView, FunctionClient, Operator, ReckonerOperatorParamsView,
-    ReckonerOperatorResultsDraft, ReckonerReckonParamsView, ReckonerReckonResultsDraft,
+    ExpressionMember, ExpressionReader, FunctionCallParamsBuilder, FunctionCallResultsReader,
+    FunctionClient, Operator, ReckonerOperatorCall, ReckonerReckonCall, ReckonerReckonResultsBuilder,
     ReckonerServant, ReckonerServer,
 };
-use jamdrosek::client::{Cap, Client, Outcome};
-use jamdrosek::builder::words_of;
-use jamdrosek::fields::Pointee;
-use jamdrosek::interfaces::{Answer, MethodCall, MethodFault, ServerObject, Table, failed, results};
-use jamdrosek::server::{Ask, Caps, Ids, Servant, Settled};
-use jamdrosek::tree::Whole;
-use std::alloc::{AllocError, Global};
+use jamdrosek::client::{Cap, Outcome};
+use jamdrosek::interfaces::{
+    LaterCall, MethodFault, MethodResult, ResultPayload, ServiceObject, failed, payload_of,
+};
+use jamdrosek::server::{Any2, Caps, Family, Here, Settled};
+use std::alloc::Global;
 use std::collections::VecDeque;
-use std::io::{Read, Write};
-use std::num::f64_to_bits_with_nan;
 
 /// The most parts that an expression may have.
 const PARTS: usize = 1000;
@@ -32,53 +29,49 @@ enum Step {
 /// An expression whose call waits.
 #[derive(Drop)]
 struct Job {
-    ticket: u64,
+    call: LaterCall,
+    /// By which what its functions give is told.
+    mark: u64,
     /// What is still to be done, the next at the end.
     steps: Vec<Step>,
     numbers: Vec<f64>,
-    /// The imports that it calls.
-    imports: Vec<u32>,
 }
 
 /// A reckoner, whose operators are the objects after it.
 #[derive(Drop)]
 pub struct Reckoner {
-    alloc: Global,
     jobs: Vec<Job>,
-    asks: VecDeque<Ask>,
     settled: VecDeque<Settled>,
+    /// The mark of the last job.
+    last: u64,
+}
+
+/// A reckoner, as object 0, and its operators.
+pub fn new_reckoner(alloc: Global) -> anyhow::Result<Family<Served>> {
+    let reckoner = ReckonerServant::new(Reckoner {
+        jobs: Vec::new(alloc),
+        settled: VecDeque::new(alloc),
+        last: 0,
+    });
+    let mut objects = Family::new(alloc);
+    objects.add(Any2::Second(Any2::Second(Any2::Second(Any2::First(reckoner)))))?;
+    for number in 0..4 {
+        objects.add(Function::of(Binary::Operator(Operator::of(number))))?;
+    }
+    Ok(objects)
 }
 
 impl Reckoner {
-    /// Exports a reckoner, as object 0, and its operators.
-    pub fn export<R: Read + Drop, W: Write + Drop>(
-        alloc: Global,
-        client: &mut Client<R, W, Vec<Box<dyn Servant>>>,
-    ) -> anyhow::Result<()> {
-        let object = Reckoner {
-            alloc,
-            jobs: Vec::new(alloc),
-            asks: VecDeque::new(alloc),
-            settled: VecDeque::new(alloc),
-        };
-        client.export(Box::new(alloc, ReckonerServant { alloc, object })?)?;
-        for number in 0..4 {
-            let function = Function::of(alloc, Binary::Operator(Operator::of(number)));
-            client.export(Box::new(alloc, function)?)?;
-        }
-        Ok(())
-    }
-
     /// Does what is to be done for an expression until a function is called, or the last number is there.
-    fn go_on(&mut self, mut job: Job) -> Result<(), AllocError> {
+    fn go_on(&mut self, mut job: Job, here: &mut Here<Served>) -> MethodResult {
         for _ in 0..PARTS {
             match job.steps.pop() {
                 Some(Step::Number(number)) => job.numbers.push(number)?,
-                Some(Step::Call(function, count)) => return self.call(job, &function, count),
-                None => return self.end(job),
+                Some(Step::Call(function, count)) => return self.call(job, &function, count, here),
+                None => return self.end(job, here),
             }
         }
-        self.fail(job, "too many steps")
+        self.fail(job, "too many steps", here)
     }
 
     /// Calls a function with the last numbers. The job waits for it.
@@ -87,62 +80,52 @@ impl Reckoner {
         mut job: Job,
         function: &FunctionClient,
         count: usize,
-    ) -> Result<(), AllocError> {
-        let mut words = Vec::new(self.alloc);
+        here: &mut Here<Served>,
+    ) -> MethodResult {
+        let mut numbers = Vec::new(here.alloc());
         for _ in 0..count {
-            let number = job.numbers.pop().unwrap_or(0.0);
-            words.push(f64_to_bits_with_nan(number))?;
+            numbers.push(job.numbers.pop().unwrap_or(0.0))?;
         }
-        words.reverse();
-        let Ok(numbers) = words_of(words) else {
-            return self.fail(job, "too many params");
-        };
-        let mut params = FunctionCallParamsDraft::new(self.alloc)?;
-        params.set_params(numbers);
+        numbers.reverse();
+        let mut params = FunctionCallParamsBuilder::new(here.alloc())?;
+        if params.set_params(here.alloc(), &numbers).is_err() {
+            return self.fail(job, "too many params", here);
+        }
         let request = function.call_request(params);
-        self.asks
-            .push_back(function.target.ask(request, job.ticket)?)?;
+        here.tell(function.target.ask(request, job.mark)?)?;
         self.jobs.push(job)?;
         Ok(())
     }
 
     /// Goes on with what a function gave.
-    fn came(&mut self, mut job: Job, content: &Whole) -> Result<(), AllocError> {
-        let Ok(came) = FunctionCallResultsView::of(Pointee::of_whole(content)) else {
-            return self.fail(job, "no number came");
+    fn came(&mut self, mut job: Job, came: &ResultPayload, here: &mut Here<Served>) -> MethodResult {
+        let Ok(body) = came.results() else {
+            return self.fail(job, "no number came", here);
         };
-        job.numbers.push(came.number())?;
-        self.go_on(job)
+        job.numbers.push(FunctionCallResultsReader { body }.number())?;
+        self.go_on(job, here)
     }
 
     /// Answers with the last number.
-    fn end(&mut self, mut job: Job) -> Result<(), AllocError> {
-        let mut reckoned = ReckonerReckonResultsDraft::new(self.alloc)?;
-        reckoned.set_number(job.numbers.pop().unwrap_or(0.0));
-        let outcome = results(reckoned, Table::new(self.alloc));
-        self.settle(job, outcome)
-    }
-
-    /// Answers with an exception.
-    fn fail(&mut self, job: Job, reason: &str) -> Result<(), AllocError> {
-        let exception = failed(self.alloc, reason)?;
-        self.settle(job, Outcome::Failed(exception))
-    }
-
-    /// Answers.
-    fn settle(&mut self, job: Job, outcome: Outcome) -> Result<(), AllocError> {
-        self.settled.push_back(Settled {
-            ticket: job.ticket,
-            outcome,
-            gives_up: Ids::new(job.imports),
-        })?;
+    fn end(&mut self, mut job: Job, here: &mut Here<Served>) -> MethodResult {
+        let mut results = ReckonerReckonResultsBuilder::new(here.alloc())?;
+        results.set_number(job.numbers.pop().unwrap_or(0.0));
+        self.settled
+            .push_back(job.call.answer(here.alloc(), results))?;
         Ok(())
     }
 
-    /// Takes the job that waits for a call with this mark.
+    /// Answers with an exception.
+    fn fail(&mut self, job: Job, reason: &str, here: &mut Here<Served>) -> MethodResult {
+        let fault = MethodFault::Fails(failed(here.alloc(), reason)?);
+        self.settled.push_back(job.call.fail(here.alloc(), fault)?)?;
+        Ok(())
+    }
+
+    /// Takes the job of this mark.
     fn take(&mut self, mark: u64) -> Option<Job> {
         for at in 0..self.jobs.len() {
-            if self.jobs.get(at).is_some_and(|job| job.ticket == mark) {
+            if self.jobs.get(at).is_some_and(|job| job.mark == mark) {
                 return Some(self.jobs.swap_remove(at));
             }
         }
@@ -153,7 +136,7 @@ impl Reckoner {
 /// What is to be done for an expression, the last first.
 fn steps_of(
     alloc: Global,
-    expression: ExpressionView<'_>,
+    expression: ExpressionReader<'_>,
     caps: &Caps,
 ) -> Result<Vec<Step>, MethodFault> {
     let mut steps = Vec::new(alloc);
@@ -178,23 +161,10 @@ fn steps_of(
     Err(MethodFault::TooLong)
 }
 
-/// The imports that are called, each once.
-fn imports_of(alloc: Global, steps: &[Step]) -> Result<Vec<u32>, AllocError> {
-    let mut imports = Vec::new(alloc);
-    for step in steps {
-        if let Step::Call(function, _) = step {
-            if let Some(import) = function.target.import() {
-                if !imports.contains(&import) {
-                    imports.push(import)?;
-                }
-            }
-        }
-    }
-    Ok(imports)
-}
+impl ServiceObject for Reckoner {
+    type Makes = Served;
 
-impl ServerObject for Reckoner {
-    fn poll(&mut self) -> Result<Option<Settled>, AllocError> {
+    fn poll(&mut self, _here: &mut Here<Served>) -> Result<Option<Settled>, MethodFault> {
         Ok(self.settled.pop_front())
     }
 
@@ -202,48 +172,44 @@ impl ServerObject for Reckoner {
         !self.settled.is_empty()
     }
 
-    fn ask(&mut self) -> Result<Option<Ask>, AllocError> {
-        Ok(self.asks.pop_front())
-    }
-
-    fn told(&mut self, mark: u64, outcome: Outcome) -> Result<(), AllocError> {
+    fn told(&mut self, mark: u64, outcome: Outcome, here: &mut Here<Served>) -> MethodResult {
         let Some(job) = self.take(mark) else {
             return Ok(());
         };
         match outcome {
-            Outcome::Results { content, .. } => self.came(job, &content),
-            other => self.settle(job, other),
+            Outcome::Failed(exception) => {
+                let fault = MethodFault::Fails(exception);
+                self.settled.push_back(job.call.fail(here.alloc(), fault)?)?;
+                Ok(())
+            }
+            other => match payload_of(other) {
+                Ok(came) => self.came(job, &came, here),
+                Err(_) => self.fail(job, "canceled", here),
+            },
         }
     }
 }
 
 impl ReckonerServer for Reckoner {
-    fn reckon(
-        &mut self,
-        call: &MethodCall,
-        params: &ReckonerReckonParamsView<'_>,
-    ) -> Result<Answer<ReckonerReckonResultsDraft>, MethodFault> {
-        let steps = steps_of(self.alloc, params.expression()?, call.caps())?;
+    fn reckon(&mut self, call: &mut ReckonerReckonCall<'_>, here: &mut Here<Served>) -> MethodResult {
+        let steps = steps_of(here.alloc(), call.params.expression()?, call.caps())?;
+        self.last = self.last.saturating_add(1);
         let job = Job {
-            ticket: call.ticket,
-            imports: imports_of(self.alloc, &steps)?,
+            call: call.later()?,
+            mark: self.last,
             steps,
-            numbers: Vec::new(self.alloc),
+            numbers: Vec::new(here.alloc()),
         };
-        self.go_on(job)?;
-        Ok(Answer::Later)
+        self.go_on(job, here)
     }
 
     fn operator(
         &mut self,
-        _call: &MethodCall,
-        params: &ReckonerOperatorParamsView<'_>,
-    ) -> Result<Answer<ReckonerOperatorResultsDraft>, MethodFault> {
-        let mut table = Table::new(self.alloc);
-        let mut results = ReckonerOperatorResultsDraft::new(self.alloc)?;
-        let place = Cap::Object(u32::from(params.operator().number()).saturating_add(1));
-        let function = FunctionClient::new(self.alloc, place);
-        results.set_function_client(&mut table, function)?;
-        Ok(Answer::naming(self.alloc, results, table))
+        call: &mut ReckonerOperatorCall<'_>,
+        here: &mut Here<Served>,
+    ) -> MethodResult {
+        let place = Cap::Object(u32::from(call.params.operator().number()).saturating_add(1));
+        let function = FunctionClient::new(here.alloc(), place);
+        Ok(call.results.set_function(function)?)
     }
 }

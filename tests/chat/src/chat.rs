@@ -1,26 +1,33 @@
 //! `chat` of chat.capnp, made by capnpc_rattle.
 
-ghost use Rattle.std.specs.Prelude.{◌≡◌, IfOk, OnOk, OnErr, []};
+ghost use Rattle.std.specs.Prelude.{◌≡◌, IfOk, OnOk, OnErr, Err, ◌↔◌, ◌≤◌, ◌^◌, length, ◌+◌, []};
+ghost use Rattle.cp_tree.specs.Seen.{pointee_of};
+ghost use Rattle.cp_fields.specs.Pointers.{Reads, cap_field, struct_field, text_field};
+ghost use Rattle.cp_builder.specs.declared.fault.DraftFault.TheVariants.{TooLong};
 ghost use Rattle.cp_builder.specs.Drafts.{blank, text_tree, with_pointer};
 ghost use Rattle.cp_servants.specs.Naming.{pointer_naming, with_named};
 ghost use Rattle.cp_stubs.specs.Calls.{ask_of, request_of};
-ghost use Rattle.cp_stubs.specs.Dispatch.{Passes};
-ghost use Rattle.cp_makers.specs.Here.{place_of};
+ghost use Rattle.cp_stubs.specs.Promises.{Finds, promised_cap};
 ghost use Rattle.cp_services.specs.Calls.{Answers};
 ghost use Rattle.cp_services.specs.Calls.{MakesOf};
-ghost use Rattle.cp_services.specs.Promises.{Fails, Promises, promised_by, resolved};
-ghost use Rattle.cp_services.specs.Services.{At, at, seen_as, taking};
-ghost use Rattle.chat.specs.Chat.{ChatKind, ChatMethodTakes, ChatTakes, any_chat};
+ghost use Rattle.cp_services.specs.Services.{At, at};
+ghost use Rattle.chat.specs.Chat.{ChatKind, ChatTakes, any_chat};
 
-use crate::chat_join_params::{ChatJoinParamsBuilder, ChatJoinParamsReader};
-use crate::chat_join_results::{ChatJoinResultsBuilder, ChatJoinResultsPromise};
 use crate::listener::ListenerClient;
-use cp_builder::DraftFault;
-use cp_makers::{Here, Maker, Resolver};
-use cp_refs::{Cap, Outcome, Request};
-use cp_servants::{Ask, Reply, Settled};
-use cp_services::{MethodResult, ServiceCall, ServiceObject, fail};
-use cp_stubs::{CallTarget, Caller, MethodCall, MethodFault, refuse};
+use crate::member_::MemberClient;
+use cp_builder::{DraftFault, StructDraft};
+use cp_fields::{StructView, TextView, WrongKind};
+use cp_makers::Here;
+use cp_refs::{Cap, Caps, Request};
+use cp_servants::{Ask, Reply};
+use cp_services::{
+    Dispatch, MethodResult, ServedObject, ServiceCall, ServiceObject, TypedResolver,
+};
+use cp_stubs::{
+    CallTarget, Caller, CapFault, MethodCall, MethodFault, Promised, ResultPayload, Results, Table,
+    TypedClient, refuse,
+};
+use cp_tree::Whole;
 use std::alloc::{AllocError, Global};
 
 /// `interface Chat`.
@@ -44,12 +51,18 @@ impl ChatClient {
     }
 
     /// A call of `join @0`.
-    pub fn join_request(&self, params: ChatJoinParamsBuilder) -> Request
-        ensures { result ≡ request_of 0x9be749cc343d65aa 0 params.body params.table }
+    pub fn join_request(&self, name: &str, listener: ListenerClient) -> Result<Request, DraftFault>
+        ensures { IfOk result (λ r. r ≡ request_of 0x9be749cc343d65aa 0 (with_pointer (with_pointer (blank 0 2) 0 (text_tree name.now)) 1 (pointer_naming [] listener.target)) (with_named [] listener.target)) }
     {
-        let content = params.body.into_whole();
-        self.target
-            .request_naming(0x9be749cc343d65aa, 0, content, params.table)
+        let mut params: StructDraft<0, 2> = StructDraft::new(self.target.alloc())?;
+        let mut table = Table::new(self.target.alloc());
+        params.set_pointer(0, cp_builder::text_of(self.target.alloc(), name)?);
+        params.set_pointer(1, table.add(listener.target.into_cap())?);
+        let content = params.into_whole();
+        Ok(
+            self.target
+                .request_naming(0x9be749cc343d65aa, 0, content, table),
+        )
     }
 
     /// Makes a member, whose listener hears all that is said from now on. Who drops it has left.
@@ -61,11 +74,8 @@ impl ChatClient {
     ) -> Result<ChatJoinResultsPromise, C::Fault>
         ensures { MakesOf (λ p. p.at) C.asks caller.old self.now.target 0x9be749cc343d65aa 0 (with_pointer (with_pointer (blank 0 2) 0 (text_tree name.now)) 1 (pointer_naming [] listener.target)) (with_named [] listener.target) result caller.new }
     {
-        let params = ChatJoinParamsBuilder::of(self.target.alloc(), name, listener)?;
-        let request = self.join_request(params);
-        Ok(ChatJoinResultsPromise {
-            at: self.target.call(caller, request)?,
-        })
+        let request = self.join_request(name, listener)?;
+        Ok(ChatJoinResultsPromise::of(self.target.call(caller, request)?))
     }
 
     /// A call of `join` that an object makes. With the mark the object is told what it came to.
@@ -77,9 +87,19 @@ impl ChatClient {
     ) -> Result<Ask, DraftFault>
         ensures { IfOk result (λ ask. ask ≡ ask_of self.now.target (request_of 0x9be749cc343d65aa 0 (with_pointer (with_pointer (blank 0 2) 0 (text_tree name.now)) 1 (pointer_naming [] listener.target)) (with_named [] listener.target)) mark) }
     {
-        let params = ChatJoinParamsBuilder::of(self.target.alloc(), name, listener)?;
-        let request = self.join_request(params);
-        Ok(self.target.ask(request, mark)?)
+        Ok(self.target.ask(self.join_request(name, listener)?, mark)?)
+    }
+}
+
+impl TypedClient for ChatClient {
+    ghost called = { λ c. c.target };
+
+    fn of(target: CallTarget) -> ChatClient {
+        ChatClient { target }
+    }
+
+    fn into_target(self) -> CallTarget {
+        self.target
     }
 }
 
@@ -97,133 +117,179 @@ pub trait ChatServer: ServiceObject {
 }
 
 /// An object of `interface Chat`, as a connection serves it.
-#[derive(Drop)]
-pub struct ChatServant<T> {
-    pub object: T,
-}
-
-impl<T: ChatServer> Maker for ChatServant<T> {
-    type Makes = T::Makes;
-
-    ghost makes = { seen_as (λ s. s.object) (taking (ChatTakes T.chat_kind) T.kind) };
-
-    fn call(
-        &mut self,
-        ticket: u64,
-        request: Request,
-        here: &mut Here<T::Makes>,
-    ) -> Result<Reply, AllocError> {
-        let call = MethodCall { ticket, request };
-        dispatch_chat(&mut self.object, &call, here)
-    }
-
-    fn poll(&mut self, here: &mut Here<T::Makes>) -> Result<Option<Settled>, AllocError> {
-        Ok(ServiceObject::poll(&mut self.object, here)?)
-    }
-
-    fn again(&self) -> bool {
-        ServiceObject::again(&self.object)
-    }
-
-    fn ask(&mut self, here: &mut Here<T::Makes>) -> Result<Option<Ask>, AllocError> {
-        Ok(ServiceObject::ask(&mut self.object, here)?)
-    }
-
-    fn told(
-        &mut self,
-        mark: u64,
-        outcome: Outcome,
-        here: &mut Here<T::Makes>,
-    ) -> Result<(), AllocError> {
-        Ok(ServiceObject::told(&mut self.object, mark, outcome, here)?)
-    }
-}
+pub type ChatServant<T> = ServedObject<T, ChatClient>;
 
 /// Resolves a promise of an object of `interface Chat`: one that is named before it is there.
-#[derive(Drop)]
-pub struct ChatResolver {
-    pub resolver: Resolver,
+pub type ChatResolver = TypedResolver<ChatClient>;
+
+impl<T: ChatServer> Dispatch<T> for ChatClient {
+    ghost takes = { ChatTakes T.chat_kind };
+
+    fn dispatch(
+        object: &mut T,
+        call: &MethodCall,
+        here: &mut Here<T::Makes>,
+    ) -> Result<Reply, AllocError> {
+        match (call.request.interface, call.request.method, call.params()) {
+            (0x9be749cc343d65aa, 0, Ok(body)) => {
+                let results = ChatJoinResultsBuilder::new(here.alloc())?;
+                let params = ChatJoinParamsReader { body };
+                let mut passed = ServiceCall::new(here.alloc(), call, params, results);
+                let done = ChatServer::join(object, &mut passed, here);
+                passed.reply(call, done)
+            }
+            (0x9be749cc343d65aa, 0, Err(fault)) => {
+                refuse(here.alloc(), call, MethodFault::WrongKind(fault))
+            }
+            _ => refuse(here.alloc(), call, MethodFault::Unimplemented),
+        }
+    }
 }
 
-impl ChatResolver {
-    /// Makes the promise.
-    pub fn new<M: Drop>(here: &mut Here<M>) -> Result<ChatResolver, AllocError>
-        ensures promised { IfOk result (λ r. Promises r.resolver (place_of here.old) (place_of here.new)) }
-        ensures left { OnErr result (place_of here.new ≡ place_of here.old) }
+/// `struct Chat.join$Params`.
+#[derive(Drop)]
+pub struct ChatJoinParamsReader<'a> {
+    /// The struct, by the places of its fields.
+    pub body: StructView<'a>,
+}
+
+impl<'a> ChatJoinParamsReader<'a> {
+    /// `name @0`.
+    pub fn name(&self) -> Result<TextView<'a>, WrongKind>
+        ensures { result ≡ text_field [] (pointee_of self.now.body 0) }
     {
-        Ok(ChatResolver {
-            resolver: here.promise()?,
+        self.body.text(0)
+    }
+
+    /// `listener @1`.
+    pub fn listener(&self) -> Result<Option<u32>, WrongKind>
+        ensures { result ≡ cap_field (pointee_of self.now.body 1) }
+    {
+        self.body.cap(1)
+    }
+
+    /// `listener @1`, of those that a table has.
+    pub fn listener_client(&self, alloc: Global, caps: &Caps) -> Result<ListenerClient, CapFault>
+        ensures { Finds result (λ c. c.target) (cap_field (pointee_of self.now.body 1)) caps.now }
+    {
+        let place = self.listener()?;
+        Ok(ListenerClient {
+            target: CallTarget::of_field(alloc, place, caps)?,
+        })
+    }
+}
+
+/// `struct Chat.join$Results`.
+#[derive(Drop)]
+pub struct ChatJoinResultsReader<'a> {
+    /// The struct, by the places of its fields.
+    pub body: StructView<'a>,
+}
+
+impl<'a> ChatJoinResultsReader<'a> {
+    /// `member @0`.
+    pub fn member_(&self) -> Result<Option<u32>, WrongKind>
+        ensures { result ≡ cap_field (pointee_of self.now.body 0) }
+    {
+        self.body.cap(0)
+    }
+
+    /// `member @0`, of those that a table has.
+    pub fn member_client(&self, alloc: Global, caps: &Caps) -> Result<MemberClient, CapFault>
+        ensures { Finds result (λ c. c.target) (cap_field (pointee_of self.now.body 0)) caps.now }
+    {
+        let place = self.member_()?;
+        Ok(MemberClient {
+            target: CallTarget::of_field(alloc, place, caps)?,
+        })
+    }
+}
+
+/// `struct Chat.join$Results`, to be written.
+#[derive(Drop)]
+pub struct ChatJoinResultsBuilder {
+    /// The struct, by the places of its fields.
+    pub body: StructDraft<0, 1>,
+    /// The capabilities that it names.
+    pub table: Table,
+}
+
+impl ChatJoinResultsBuilder {
+    /// A struct whose fields are all as by default.
+    pub fn new(alloc: Global) -> Result<ChatJoinResultsBuilder, AllocError>
+        ensures blank { IfOk result (λ d. d.body ≡ blank 0 1) }
+        ensures names { IfOk result (λ d. d.table ≡ []) }
+    {
+        Ok(ChatJoinResultsBuilder {
+            body: StructDraft::new(alloc)?,
+            table: Table::new(alloc),
         })
     }
 
-    /// What is promised, to be named at once. Calls of it wait.
-    pub fn client(&self, alloc: Global) -> ChatClient
-        ensures { result.target ≡ promised_by self.now.resolver }
+    /// Sets `member`.
+    pub fn set_member(&mut self, value: MemberClient) -> Result<(), DraftFault>
+        ensures set { OnOk result (self.new.body ≡ with_pointer self.old.body 0 (pointer_naming self.old.table value.target)) }
+        ensures added { OnOk result (self.new.table ≡ with_named self.old.table value.target) }
+        ensures left { OnErr result (self.new ≡ self.old) }
+        ensures full { result ≡ Err TooLong ↔ 2 ^ 32 ≤ length self.old.table + 1 }
     {
-        ChatClient::new(alloc, self.resolver.cap())
-    }
-
-    /// What was promised comes to this object.
-    pub fn resolve<M: Drop>(self, here: &mut Here<M>, client: ChatClient) -> Result<(), AllocError>
-        ensures resolved { OnOk result (place_of here.new ≡ resolved self.resolver client.target (place_of here.old)) }
-        ensures left { OnErr result (place_of here.new ≡ place_of here.old) }
-    {
-        here.resolve(self.resolver, client.target.into_cap())
-    }
-
-    /// Calls of what was promised fail with this.
-    pub fn fail<M: Drop>(self, here: &mut Here<M>, fault: MethodFault) -> Result<(), AllocError>
-        ensures fails { OnOk result (Fails self.resolver fault (place_of here.old) (place_of here.new)) }
-        ensures left { OnErr result (place_of here.new ≡ place_of here.old) }
-    {
-        fail(self.resolver, here, fault)
+        let pointer = self.table.add(value.target.into_cap())?;
+        self.body.set_pointer(0, pointer);
+        Ok(())
     }
 }
 
-/// Passes a call on to the method of an object that its interface and its number name.
-pub fn dispatch_chat<T: ChatServer>(
-    object: &mut T,
-    call: &MethodCall,
-    here: &mut Here<T::Makes>,
-) -> Result<Reply, AllocError>
-    ensures { IfOk result (λ reply. ChatTakes T.chat_kind (at object.old here.old) call.now reply (at object.new here.new)) }
-{
-    match call.request.interface {
-        0x9be749cc343d65aa => dispatch_chat_method(object, call, here),
-        _ => refuse(here.alloc(), call, MethodFault::Unimplemented),
+impl Results for ChatJoinResultsBuilder {
+    ghost content = { λ d. d.body };
+
+    ghost names = { λ d. d.table };
+
+    fn into_parts(self, alloc: Global) -> (Whole, Table) {
+        let _ = alloc;
+        (self.body.into_whole(), self.table)
     }
 }
 
-/// Passes a call of this interface on to the method of an object that its number names.
-pub fn dispatch_chat_method<T: ChatServer>(
-    object: &mut T,
-    call: &MethodCall,
-    here: &mut Here<T::Makes>,
-) -> Result<Reply, AllocError>
-    ensures { IfOk result (λ reply. ChatMethodTakes T.chat_kind (at object.old here.old) call.now reply (at object.new here.new)) }
-{
-    match call.request.method {
-        0 => pass_join(object, call, here),
-        _ => refuse(here.alloc(), call, MethodFault::Unimplemented),
-    }
+/// `struct Chat.join$Results`, as a question will give it.
+#[derive(Drop)]
+pub struct ChatJoinResultsPromise {
+    /// The question, and the path to the struct.
+    pub at: Promised,
 }
 
-/// Passes a call of `join` on.
-fn pass_join<T: ChatServer>(
-    object: &mut T,
-    call: &MethodCall,
-    here: &mut Here<T::Makes>,
-) -> Result<Reply, AllocError>
-    ensures { IfOk result (λ reply. Passes T.chat_kind.on_join (at object.old here.old) call.now reply (at object.new here.new)) }
-{
-    match call.params() {
-        Ok(body) => {
-            let results = ChatJoinResultsBuilder::new(here.alloc())?;
-            let params = ChatJoinParamsReader { body };
-            let mut passed = ServiceCall::new(here.alloc(), call, params, results);
-            let done = ChatServer::join(object, &mut passed, here);
-            passed.reply(call, done)
-        }
-        Err(fault) => refuse(here.alloc(), call, MethodFault::WrongKind(fault)),
+impl ChatJoinResultsPromise {
+    /// What is promised there.
+    pub fn of(at: Promised) -> ChatJoinResultsPromise
+        ensures { result.at ≡ at }
+    {
+        ChatJoinResultsPromise { at }
+    }
+
+    /// The number of the question, whose outcome can be waited for.
+    pub fn question(&self) -> u32
+        ensures { result ≡ self.now.at.question }
+    {
+        self.at.question()
+    }
+
+    /// The results that came.
+    pub fn results<'a>(
+        &self,
+        came: &'a ResultPayload,
+    ) -> Result<ChatJoinResultsReader<'a>, WrongKind>
+        ensures { Reads result (λ x. x.body) (struct_field came.now.content) }
+    {
+        Ok(ChatJoinResultsReader {
+            body: came.results()?,
+        })
+    }
+
+    /// `member @0`.
+    pub fn member_(&self) -> Result<MemberClient, AllocError>
+        ensures { IfOk result (λ c. c.target ≡ promised_cap self.now.at 0) }
+    {
+        Ok(MemberClient {
+            target: self.at.target(0)?,
+        })
     }
 }

@@ -6,7 +6,7 @@ use jamdrosek::{Limits, Mode};
 use std::alloc::Global;
 use std::fs::File;
 use std::io::{self, Read, Write};
-use store::{StoreClient, StoreGetParamsDraft, StorePutParamsDraft};
+use store::StoreClient;
 
 pub fn run(rt: &HostRuntime) -> anyhow::Result<()> {
     let alloc = rt.alloc();
@@ -26,23 +26,8 @@ fn kept<R: Read + Drop, W: Write + Drop>(
     client: &mut Client<R, W>,
 ) -> anyhow::Result<String> {
     let store = StoreClient::new(alloc, client.bootstrap()?.cap(alloc));
-    store.put(client, blue(alloc)?)?;
-    let got = store.get(client, colour(alloc)?)?;
+    store.put(client, "colour", "blue")?;
+    let got = store.get(client, "colour")?;
     let came = client.results(got.question())?;
     Ok(got.results(&came)?.value()?.text(alloc)?)
-}
-
-/// What is put.
-fn blue(alloc: Global) -> anyhow::Result<StorePutParamsDraft> {
-    let mut params = StorePutParamsDraft::new(alloc)?;
-    params.set_key(alloc, "colour")?;
-    params.set_value(alloc, "blue")?;
-    Ok(params)
-}
-
-/// What is asked for.
-fn colour(alloc: Global) -> anyhow::Result<StoreGetParamsDraft> {
-    let mut params = StoreGetParamsDraft::new(alloc)?;
-    params.set_key(alloc, "colour")?;
-    Ok(params)
 }

@@ -55,7 +55,7 @@ pub fn new_room(alloc: Global) -> anyhow::Result<Rc<RefCell<Room>>> {
 pub fn new_objects(alloc: Global, room: &Rc<RefCell<Room>>) -> anyhow::Result<Family<Served>> {
     let object = Chat(room.clone()?);
     let mut objects = Family::new(alloc);
-    objects.add(Served::First(ChatServant { object }))?;
+    objects.add(Served::First(ChatServant::new(object)))?;
     Ok(objects)
 }
 
@@ -81,7 +81,7 @@ impl ChatServer for Chat {
             listener,
             told: room.lines.len(),
         };
-        let member = here.make(Served::Second(MemberServant { object }))?;
+        let member = here.make(Served::Second(MemberServant::new(object)))?;
         call.keep_for(&member, &heard, here)?;
         let member = MemberClient::new(here.alloc(), member);
         Ok(call.results.set_member(member)?)

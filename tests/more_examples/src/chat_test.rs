@@ -86,7 +86,7 @@ fn talk(
         heard: heard.clone()?,
     };
     let mut objects = Family::new(alloc);
-    let listener = ListenerClient::new(alloc, objects.add(ListenerServant { object })?);
+    let listener = ListenerClient::new(alloc, objects.add(ListenerServant::new(object))?);
     let (to, limits) = (Vec::new(alloc), Limits::standard());
     let mut client = Client::with_family(alloc, from, to, Mode::Plain, limits, objects);
     let done = join(alloc, &mut client, listener, name, text);

@@ -13,6 +13,7 @@ mod notebook_client;
 mod notebook_server;
 mod notebook_test;
 mod serve;
+mod store;
 mod vat;
 mod view;
 mod write;
@@ -48,6 +49,8 @@ fn run_all(rt: &HostRuntime) -> anyhow::Result<()> {
     notebook_test::run(rt)?;
     heading(rt, "serve")?;
     serve::run(rt)?;
+    heading(rt, "store")?;
+    store::run(rt)?;
     heading(rt, "call")?;
     call::run(rt)?;
     heading(rt, "chat_test")?;

@@ -1,23 +1,18 @@
-//! Serves a store of texts, the interface of tests/store/store.capnp, to a client whose messages are in a file.
+//! Serves the store of the example `store` by a `Servant`, which takes requests as they come, without the types of its schema.
 
-use jamdrosek::interfaces::{Answer, MethodCall, MethodFault, ServerObject};
-use jamdrosek::server::{Servant, serve};
+use jamdrosek::client::{Request, text_in};
+use jamdrosek::server::{Content, Ids, Reply, Servant, Settled, outcome_of, serve};
 use jamdrosek::{Mode, Tap};
-use std::alloc::Global;
+use std::alloc::{AllocError, Global};
 use std::collections::BTreeMap;
 use std::fs::File;
 use std::io;
-use store::{
-    StoreGetParamsView, StoreGetResultsDraft, StorePutParamsView, StorePutResultsDraft,
-    StoreServant, StoreServer,
-};
 
 pub fn run(rt: &HostRuntime) -> anyhow::Result<()> {
     let alloc = rt.alloc();
     let texts = BTreeMap::new(alloc);
-    let object = Shelf { alloc, texts };
     let mut objects: Vec<Box<dyn Servant>> = Vec::new(alloc);
-    objects.push(Box::new(alloc, StoreServant { alloc, object })?)?;
+    objects.push(Box::new(alloc, Shelf { alloc, texts })?)?;
     let mut from = Tap::new(File::open(rt, "serve.bin")?);
     let mut to = Tap::new(io::writer(rt));
     serve(alloc, &mut from, &mut to, &mut objects, Mode::Plain)?;
@@ -31,30 +26,23 @@ struct Shelf {
     texts: BTreeMap<String, String>,
 }
 
-impl ServerObject for Shelf {}
-
-impl StoreServer for Shelf {
-    fn put(
-        &mut self,
-        _call: &MethodCall,
-        params: &StorePutParamsView<'_>,
-    ) -> Result<Answer<StorePutResultsDraft>, MethodFault> {
-        let key = params.key()?.text(self.alloc)?;
-        let value = params.value()?.text(self.alloc)?;
-        self.texts.insert(key, value)?;
-        Ok(Answer::of(self.alloc, StorePutResultsDraft::new(self.alloc)?))
+impl Servant for Shelf {
+    fn call(&mut self, _ticket: u64, request: Request) -> Result<Reply, AllocError> {
+        let key = String::from_str(self.alloc, text_in(&request.content, 0).unwrap_or(""))?;
+        let mut results = Ok(Content::new(self.alloc));
+        if request.method == 0 {
+            let value = text_in(&request.content, 1).unwrap_or("");
+            self.texts.insert(key, String::from_str(self.alloc, value)?)?;
+        } else if let Some(value) = self.texts.get(&key) {
+            results = Content::new(self.alloc).text(value.as_str());
+        }
+        Ok(Reply::Now {
+            outcome: outcome_of(self.alloc, results)?,
+            gives_up: Ids::new(Vec::new(self.alloc)),
+        })
     }
 
-    fn get(
-        &mut self,
-        _call: &MethodCall,
-        params: &StoreGetParamsView<'_>,
-    ) -> Result<Answer<StoreGetResultsDraft>, MethodFault> {
-        let key = params.key()?.text(self.alloc)?;
-        let mut results = StoreGetResultsDraft::new(self.alloc)?;
-        if let Some(value) = self.texts.get(&key) {
-            results.set_value(self.alloc, value.as_str())?;
-        }
-        Ok(Answer::of(self.alloc, results))
+    fn poll(&mut self) -> Result<Option<Settled>, AllocError> {
+        Ok(None)
     }
 }

@@ -1,19 +1,29 @@
-//! `store` of store.capnp.
+//! `store` of store.capnp, made by capnpc_rattle.
 
-ghost use Rattle.std.specs.Prelude.{◌≡◌, IfOk, []};
-ghost use Rattle.cp_stubs.specs.Calls.{Makes, request_of};
-ghost use Rattle.cp_stubs.specs.Dispatch.{Gives, Passes};
-ghost use Rattle.cp_servants.specs.Servant.{seen_as};
-ghost use Rattle.cp_stubs.specs.Objects.{taking};
-ghost use Rattle.store.specs.Store.{StoreKind, StoreMethodTakes, StoreTakes, any_store};
+ghost use Rattle.std.specs.Prelude.{◌≡◌, IfOk, OnOk, OnErr, Err, ◌≤◌, ◌^◌, length, ◌+◌, []};
+ghost use Rattle.cp_tree.specs.Seen.{pointee_of};
+ghost use Rattle.cp_fields.specs.Pointers.{text_field};
+ghost use Rattle.cp_builder.specs.declared.fault.DraftFault.TheVariants.{TooLong};
+ghost use Rattle.cp_builder.specs.Drafts.{blank, text_tree, with_pointer};
+ghost use Rattle.cp_stubs.specs.Calls.{ask_of, request_of};
+ghost use Rattle.cp_services.specs.Calls.{Answers};
+ghost use Rattle.cp_services.specs.Calls.{MakesOf};
+ghost use Rattle.cp_services.specs.Services.{At, at};
+ghost use Rattle.store.specs.Store.{StoreKind, StoreTakes, any_store};
 
-use crate::store_get_params::{StoreGetParamsDraft, StoreGetParamsView};
-use crate::store_get_results::{StoreGetResultsDraft, StoreGetResultsPromise};
-use crate::store_put_params::{StorePutParamsDraft, StorePutParamsView};
-use crate::store_put_results::{StorePutResultsDraft, StorePutResultsPromise};
-use cp_refs::{Cap, Outcome, Request};
-use cp_servants::{Ask, Reply, Servant, Settled};
-use cp_stubs::{Answer, CallTarget, Caller, MethodCall, MethodFault, ServerObject, refuse, reply};
+use cp_builder::{DraftFault, StructDraft};
+use cp_fields::{StructView, TextView, WrongKind};
+use cp_makers::Here;
+use cp_refs::{Cap, Request};
+use cp_servants::{Ask, Reply};
+use cp_services::{
+    Dispatch, MethodResult, ServedObject, ServiceCall, ServiceObject, TypedResolver,
+};
+use cp_stubs::{
+    CallTarget, Caller, Lends, MethodCall, MethodFault, NoFieldsBuilder, NoFieldsPromise,
+    NoFieldsReader, Promise, Results, Table, TypedClient, refuse,
+};
+use cp_tree::Whole;
 use std::alloc::{AllocError, Global};
 
 /// Keeps texts by their keys.
@@ -37,165 +47,246 @@ impl StoreClient {
     }
 
     /// A call of `put @0`.
-    pub fn put_request(&self, params: StorePutParamsDraft) -> Request
-        ensures { result ≡ request_of 0xea2f6e3bf233ec72 0 params.body [] }
+    pub fn put_request(&self, key: &str, value: &str) -> Result<Request, DraftFault>
+        ensures { IfOk result (λ r. r ≡ request_of 0xea2f6e3bf233ec72 0 (with_pointer (with_pointer (blank 0 2) 0 (text_tree key.now)) 1 (text_tree value.now)) []) }
     {
-        let content = params.body.into_whole();
-        self.target.request(0xea2f6e3bf233ec72, 0, content)
+        let mut params: StructDraft<0, 2> = StructDraft::new(self.target.alloc())?;
+        params.set_pointer(0, cp_builder::text_of(self.target.alloc(), key)?);
+        params.set_pointer(1, cp_builder::text_of(self.target.alloc(), value)?);
+        let content = params.into_whole();
+        Ok(self.target.request(0xea2f6e3bf233ec72, 0, content))
     }
 
     /// Keeps a text under a key, in place of the one before.
     pub fn put<C: Caller>(
         &self,
         caller: &mut C,
-        params: StorePutParamsDraft,
+        key: &str,
+        value: &str,
     ) -> Result<StorePutResultsPromise, C::Fault>
-        ensures { Makes (λ p. p.at) C.asks caller.old self.now.target 0xea2f6e3bf233ec72 0 params.body [] result caller.new }
+        ensures { MakesOf (λ p. p.at) C.asks caller.old self.now.target 0xea2f6e3bf233ec72 0 (with_pointer (with_pointer (blank 0 2) 0 (text_tree key.now)) 1 (text_tree value.now)) [] result caller.new }
     {
-        let request = self.put_request(params);
-        Ok(StorePutResultsPromise {
-            at: self.target.call(caller, request)?,
-        })
+        let request = self.put_request(key, value)?;
+        Ok(StorePutResultsPromise::of(self.target.call(caller, request)?))
+    }
+
+    /// A call of `put` that an object makes. With the mark the object is told what it came to.
+    pub fn put_ask(&self, key: &str, value: &str, mark: u64) -> Result<Ask, DraftFault>
+        ensures { IfOk result (λ ask. ask ≡ ask_of self.now.target (request_of 0xea2f6e3bf233ec72 0 (with_pointer (with_pointer (blank 0 2) 0 (text_tree key.now)) 1 (text_tree value.now)) []) mark) }
+    {
+        Ok(self.target.ask(self.put_request(key, value)?, mark)?)
     }
 
     /// A call of `get @1`.
-    pub fn get_request(&self, params: StoreGetParamsDraft) -> Request
-        ensures { result ≡ request_of 0xea2f6e3bf233ec72 1 params.body [] }
+    pub fn get_request(&self, key: &str) -> Result<Request, DraftFault>
+        ensures { IfOk result (λ r. r ≡ request_of 0xea2f6e3bf233ec72 1 (with_pointer (blank 0 1) 0 (text_tree key.now)) []) }
     {
-        let content = params.body.into_whole();
-        self.target.request(0xea2f6e3bf233ec72, 1, content)
+        let mut params: StructDraft<0, 1> = StructDraft::new(self.target.alloc())?;
+        params.set_pointer(0, cp_builder::text_of(self.target.alloc(), key)?);
+        let content = params.into_whole();
+        Ok(self.target.request(0xea2f6e3bf233ec72, 1, content))
     }
 
     /// The text of a key, or none.
     pub fn get<C: Caller>(
         &self,
         caller: &mut C,
-        params: StoreGetParamsDraft,
+        key: &str,
     ) -> Result<StoreGetResultsPromise, C::Fault>
-        ensures { Makes (λ p. p.at) C.asks caller.old self.now.target 0xea2f6e3bf233ec72 1 params.body [] result caller.new }
+        ensures { MakesOf (λ p. p.at) C.asks caller.old self.now.target 0xea2f6e3bf233ec72 1 (with_pointer (blank 0 1) 0 (text_tree key.now)) [] result caller.new }
     {
-        let request = self.get_request(params);
-        Ok(StoreGetResultsPromise {
-            at: self.target.call(caller, request)?,
-        })
+        let request = self.get_request(key)?;
+        Ok(StoreGetResultsPromise::of(self.target.call(caller, request)?))
+    }
+
+    /// A call of `get` that an object makes. With the mark the object is told what it came to.
+    pub fn get_ask(&self, key: &str, mark: u64) -> Result<Ask, DraftFault>
+        ensures { IfOk result (λ ask. ask ≡ ask_of self.now.target (request_of 0xea2f6e3bf233ec72 1 (with_pointer (blank 0 1) 0 (text_tree key.now)) []) mark) }
+    {
+        Ok(self.target.ask(self.get_request(key)?, mark)?)
     }
 }
 
+impl TypedClient for StoreClient {
+    ghost called = { λ c. c.target };
+
+    fn of(target: CallTarget) -> StoreClient {
+        StoreClient { target }
+    }
+
+    fn into_target(self) -> CallTarget {
+        self.target
+    }
+}
+
+/// A call of `put`.
+pub type StorePutCall<'c> = ServiceCall<'c, StorePutParamsReader<'c>, StorePutResultsBuilder>;
+
+/// A call of `get`.
+pub type StoreGetCall<'c> = ServiceCall<'c, StoreGetParamsReader<'c>, StoreGetResultsBuilder>;
+
 /// An object of `interface Store`.
-pub trait StoreServer: ServerObject {
+pub trait StoreServer: ServiceObject {
     /// What calls of its methods lead to. Of an object that doesn't say it nothing is known.
-    ghost store_kind: { StoreKind Self } = { any_store };
+    ghost store_kind: { StoreKind (At Self Self.Makes) } = { any_store };
 
     /// Keeps a text under a key, in place of the one before.
-    fn put(
-        &mut self,
-        call: &MethodCall,
-        params: &StorePutParamsView<'_>,
-    ) -> Result<Answer<StorePutResultsDraft>, MethodFault>
-        ensures { Gives (λ d. d.body) store_kind.on_put self.old call.now params.now.body result self.new };
+    fn put(&mut self, call: &mut StorePutCall<'_>, here: &mut Here<Self::Makes>) -> MethodResult
+        ensures { Answers (λ p. p.body) (λ d. d.body) (λ d. []) store_kind.on_put (at self.old here.old) call.old call.new result (at self.new here.new) };
 
     /// The text of a key, or none.
-    fn get(
-        &mut self,
-        call: &MethodCall,
-        params: &StoreGetParamsView<'_>,
-    ) -> Result<Answer<StoreGetResultsDraft>, MethodFault>
-        ensures { Gives (λ d. d.body) store_kind.on_get self.old call.now params.now.body result self.new };
+    fn get(&mut self, call: &mut StoreGetCall<'_>, here: &mut Here<Self::Makes>) -> MethodResult
+        ensures { Answers (λ p. p.body) (λ d. d.body) (λ d. []) store_kind.on_get (at self.old here.old) call.old call.new result (at self.new here.new) };
 }
 
 /// An object of `interface Store`, as a connection serves it.
+pub type StoreServant<T> = ServedObject<T, StoreClient>;
+
+/// Resolves a promise of an object of `interface Store`: one that is named before it is there.
+pub type StoreResolver = TypedResolver<StoreClient>;
+
+impl<T: StoreServer> Dispatch<T> for StoreClient {
+    ghost takes = { StoreTakes T.store_kind };
+
+    fn dispatch(
+        object: &mut T,
+        call: &MethodCall,
+        here: &mut Here<T::Makes>,
+    ) -> Result<Reply, AllocError> {
+        match (call.request.interface, call.request.method, call.params()) {
+            (0xea2f6e3bf233ec72, 0, Ok(body)) => {
+                let results = StorePutResultsBuilder::new(here.alloc())?;
+                let params = StorePutParamsReader { body };
+                let mut passed = ServiceCall::new(here.alloc(), call, params, results);
+                let done = StoreServer::put(object, &mut passed, here);
+                passed.reply(call, done)
+            }
+            (0xea2f6e3bf233ec72, 1, Ok(body)) => {
+                let results = StoreGetResultsBuilder::new(here.alloc())?;
+                let params = StoreGetParamsReader { body };
+                let mut passed = ServiceCall::new(here.alloc(), call, params, results);
+                let done = StoreServer::get(object, &mut passed, here);
+                passed.reply(call, done)
+            }
+            (0xea2f6e3bf233ec72, 0..=1, Err(fault)) => {
+                refuse(here.alloc(), call, MethodFault::WrongKind(fault))
+            }
+            _ => refuse(here.alloc(), call, MethodFault::Unimplemented),
+        }
+    }
+}
+
+/// `struct Store.put$Params`.
 #[derive(Drop)]
-pub struct StoreServant<T: StoreServer> {
-    pub alloc: Global,
-    pub object: T,
+pub struct StorePutParamsReader<'a> {
+    /// The struct, by the places of its fields.
+    pub body: StructView<'a>,
 }
 
-impl<T: StoreServer> Servant for StoreServant<T> {
-    ghost kind = { seen_as (λ s. s.object) (taking (StoreTakes T.store_kind) T.kind) };
-
-    fn call(&mut self, ticket: u64, request: Request) -> Result<Reply, AllocError> {
-        let call = MethodCall { ticket, request };
-        dispatch_store(self.alloc, &mut self.object, &call)
+impl<'a> StorePutParamsReader<'a> {
+    /// `key @0`.
+    pub fn key(&self) -> Result<TextView<'a>, WrongKind>
+        ensures { result ≡ text_field [] (pointee_of self.now.body 0) }
+    {
+        self.body.text(0)
     }
 
-    fn poll(&mut self) -> Result<Option<Settled>, AllocError> {
-        ServerObject::poll(&mut self.object)
-    }
-
-    fn again(&self) -> bool {
-        ServerObject::again(&self.object)
-    }
-
-    fn ask(&mut self) -> Result<Option<Ask>, AllocError> {
-        ServerObject::ask(&mut self.object)
-    }
-
-    fn told(&mut self, mark: u64, outcome: Outcome) -> Result<(), AllocError> {
-        ServerObject::told(&mut self.object, mark, outcome)
+    /// `value @1`.
+    pub fn value(&self) -> Result<TextView<'a>, WrongKind>
+        ensures { result ≡ text_field [] (pointee_of self.now.body 1) }
+    {
+        self.body.text(1)
     }
 }
 
-/// Passes a call on to the method of an object that its interface and its number name.
-pub fn dispatch_store<T: StoreServer>(
-    alloc: Global,
-    object: &mut T,
-    call: &MethodCall,
-) -> Result<Reply, AllocError>
-    ensures { IfOk result (λ reply. StoreTakes T.store_kind object.old call.now reply object.new) }
-{
-    match call.request.interface {
-        0xea2f6e3bf233ec72 => dispatch_store_method(alloc, object, call),
-        _ => refuse(alloc, call, MethodFault::Unimplemented),
+/// `struct Store.put$Results`.
+pub type StorePutResultsReader<'a> = NoFieldsReader<'a>;
+
+/// `struct Store.put$Results`, to be written.
+pub type StorePutResultsBuilder = NoFieldsBuilder;
+
+/// `struct Store.put$Results`, as a question will give it.
+pub type StorePutResultsPromise = NoFieldsPromise;
+
+/// `struct Store.get$Params`.
+#[derive(Drop)]
+pub struct StoreGetParamsReader<'a> {
+    /// The struct, by the places of its fields.
+    pub body: StructView<'a>,
+}
+
+impl<'a> StoreGetParamsReader<'a> {
+    /// `key @0`.
+    pub fn key(&self) -> Result<TextView<'a>, WrongKind>
+        ensures { result ≡ text_field [] (pointee_of self.now.body 0) }
+    {
+        self.body.text(0)
     }
 }
 
-/// Passes a call of this interface on to the method of an object that its number names.
-pub fn dispatch_store_method<T: StoreServer>(
-    alloc: Global,
-    object: &mut T,
-    call: &MethodCall,
-) -> Result<Reply, AllocError>
-    ensures { IfOk result (λ reply. StoreMethodTakes T.store_kind object.old call.now reply object.new) }
-{
-    match call.request.method {
-        0 => pass_put(alloc, object, call),
-        1 => pass_get(alloc, object, call),
-        _ => refuse(alloc, call, MethodFault::Unimplemented),
+/// `struct Store.get$Results`.
+#[derive(Drop)]
+pub struct StoreGetResultsReader<'a> {
+    /// The struct, by the places of its fields.
+    pub body: StructView<'a>,
+}
+
+impl<'a> StoreGetResultsReader<'a> {
+    /// `value @0`.
+    pub fn value(&self) -> Result<TextView<'a>, WrongKind>
+        ensures { result ≡ text_field [] (pointee_of self.now.body 0) }
+    {
+        self.body.text(0)
     }
 }
 
-/// Passes a call of `put` on.
-fn pass_put<T: StoreServer>(
-    alloc: Global,
-    object: &mut T,
-    call: &MethodCall,
-) -> Result<Reply, AllocError>
-    ensures { IfOk result (λ reply. Passes T.store_kind.on_put object.old call.now reply object.new) }
-{
-    match call.params() {
-        Ok(body) => {
-            let params = StorePutParamsView { body };
-            let answered = StoreServer::put(object, call, &params);
-            reply(alloc, call, answered)
-        }
-        Err(fault) => refuse(alloc, call, MethodFault::WrongKind(fault)),
+/// `struct Store.get$Results`, to be written.
+#[derive(Drop)]
+pub struct StoreGetResultsBuilder {
+    /// The struct, by the places of its fields.
+    pub body: StructDraft<0, 1>,
+}
+
+impl StoreGetResultsBuilder {
+    /// A struct whose fields are all as by default.
+    pub fn new(alloc: Global) -> Result<StoreGetResultsBuilder, AllocError>
+        ensures { IfOk result (λ d. d.body ≡ blank 0 1) }
+    {
+        Ok(StoreGetResultsBuilder {
+            body: StructDraft::new(alloc)?,
+        })
+    }
+
+    /// Sets `value`.
+    pub fn set_value(&mut self, alloc: Global, value: &str) -> Result<(), DraftFault>
+        ensures set { OnOk result (self.new.body ≡ with_pointer self.old.body 0 (text_tree value.now)) }
+        ensures left { OnErr result (self.new ≡ self.old) }
+        ensures long { result ≡ Err TooLong → 2 ^ 29 ≤ length value.now + 1 }
+    {
+        self.body.set_pointer(0, cp_builder::text_of(alloc, value)?);
+        Ok(())
     }
 }
 
-/// Passes a call of `get` on.
-fn pass_get<T: StoreServer>(
-    alloc: Global,
-    object: &mut T,
-    call: &MethodCall,
-) -> Result<Reply, AllocError>
-    ensures { IfOk result (λ reply. Passes T.store_kind.on_get object.old call.now reply object.new) }
-{
-    match call.params() {
-        Ok(body) => {
-            let params = StoreGetParamsView { body };
-            let answered = StoreServer::get(object, call, &params);
-            reply(alloc, call, answered)
-        }
-        Err(fault) => refuse(alloc, call, MethodFault::WrongKind(fault)),
+impl Results for StoreGetResultsBuilder {
+    ghost content = { λ d. d.body };
+
+    ghost names = { λ d. [] };
+
+    fn into_parts(self, alloc: Global) -> (Whole, Table) {
+        (self.body.into_whole(), Table::new(alloc))
+    }
+}
+
+/// `struct Store.get$Results`, as a question will give it.
+pub type StoreGetResultsPromise = Promise<StoreGetResultsBuilder>;
+
+impl<'a> Lends<'a> for StoreGetResultsBuilder {
+    type Reader = StoreGetResultsReader<'a>;
+
+    ghost read = { λ x. x.body };
+
+    fn reader(body: StructView<'a>) -> StoreGetResultsReader<'a> {
+        StoreGetResultsReader { body }
     }
 }

@@ -5,7 +5,7 @@ $block builder$
 
 /// `struct $title$`, to be written.
 #[derive(Drop)]
-pub struct $Type$$Builder$ {
+pub struct $Type$Builder {
     /// The struct, by the places of its fields.
     pub body: StructDraft<$words$, $pointers$>,
 $if own$
@@ -15,19 +15,16 @@ use cp_stubs::Table;
 $end$
 }
 
-impl $Type$$Builder$ {
+impl $Type$Builder {
     /// A struct whose fields are all as by default.
-    pub fn new(alloc: Global) -> Result<$Type$$Builder$, AllocError>
+    pub fn new(alloc: Global) -> Result<$Type$Builder, AllocError>
         ensures $if own$blank $end${ IfOk result (λ d. d.body ≡ blank $words$ $pointers$) }
 $if own$
         ensures names { IfOk result (λ d. d.table ≡ []) }
 $end$
     {
-        Ok($Type$$Builder$ { body: StructDraft::new(alloc)?$if own$, table: Table::new(alloc)$end$ })
+        Ok($Type$Builder { body: StructDraft::new(alloc)?$if own$, table: Table::new(alloc)$end$ })
     }
-$for plain$
-$insert constructor$
-$end$
 $for parts$
 $insert setter setter$
 $end$
@@ -36,21 +33,21 @@ $if list$
 
 /// A list of `struct $title$`, to be written.
 #[derive(Drop)]
-pub struct $Type$List$Builder$ {
+pub struct $Type$ListBuilder {
     /// The list.
     pub items: StructsDraft<$words$, $pointers$>,
 }
 
-impl $Type$List$Builder$ {
+impl $Type$ListBuilder {
     /// No struct yet.
-    pub fn new(alloc: Global) -> $Type$List$Builder$
+    pub fn new(alloc: Global) -> $Type$ListBuilder
         ensures { result.items ≡ blank_list $words$ $pointers$ }
     {
-        $Type$List$Builder$ { items: StructsDraft::new(alloc) }
+        $Type$ListBuilder { items: StructsDraft::new(alloc) }
     }
 
     /// Adds a struct at the end.
-    pub fn push(&mut self, item: $Type$$Builder$) -> Result<(), DraftFault>
+    pub fn push(&mut self, item: $Type$Builder) -> Result<(), DraftFault>
         ensures pushed { OnOk result (self.new.items ≡ with_last self.old.items item.body) }
         ensures left { OnErr result (self.new ≡ self.old) }
         ensures long { result ≡ Err TooLong → ¬ (HoldsOneMore self.old.items ($words$ + $pointers$)) }
@@ -58,9 +55,8 @@ impl $Type$List$Builder$ {
         self.items.push(item.body)
     }
 }
-$if services$
 
-impl cp_services::ListValue for $Type$List$Builder$ {
+impl cp_services::ListValue for $Type$ListBuilder {
     ghost tree = { λ l. l.items };
 
     ghost is_long = { λ l. ¬ (Unit {0}) };
@@ -71,24 +67,22 @@ impl cp_services::ListValue for $Type$List$Builder$ {
     }
 }
 $end$
-$end$
-$block constructor$
+$block results$
 
-    /// A struct of these fields.
-    pub fn of(alloc: Global$insert parameters$) -> Result<$Type$$Builder$, DraftFault>
-        ensures $if clients$made $end${ IfOk result (λ d. d.body ≡ $insert content$$if clients$) }
-        ensures names { IfOk result (λ d. d.table ≡ $insert table$$end$) }
-    {
-$if args$
-        let mut made = $Type$$Builder$::new(alloc)?;
-$for args$
-        made.set_$name|snake$($if copied$alloc, $end$$value$)$if points$?$end$;
+impl Results for $Type$Builder {
+    ghost content = { λ d. d.body };
+
+    ghost names = { λ d. $if own$d.table$else$[]$end$ };
+
+    fn into_parts(self, alloc: Global) -> (Whole, Table) {
+$if own$
+        let _ = alloc;
 $end$
-        Ok(made)
-$else$
-        Ok($Type$$Builder$::new(alloc)?)
-$end$
+        (self.body.into_whole(), $if own$self.table$else$Table::new(alloc)$end$)
     }
+}
+use cp_stubs::Results;
+use cp_stubs::Table;
 $block parameters$$for args$, $value$: $if client$$client.Type$Client$else$$insert takes form$$end$$end$
 $block content$$for wraps$($if points$with_pointer$else$with_uint$end$ $end$(blank $words$ $pointers$)$for args$ $unless points$$width$ $end$$place$ $if client$(pointer_naming $for before$(with_named $end$[]$for before$ $value$.target)$end$ $value$.target)$else$$insert sets form$$end$)$end$
 $block table$$for clients$(with_named $end$[]$for clients$ $value$.target)$end$
@@ -111,7 +105,7 @@ $insert about$
         self.body.set_u16($tag_place$, $tag$);
     }
 $block setter field$
-$if set$
+$unless client$
 $insert about$
     pub fn set_$joined$(&mut self, $insert copies kind$value: $insert takes form$)$if fails$ -> Result<(), DraftFault>$end$
         ensures $if fails$set { OnOk result ($else$$if own$set $end${ $end$self.new.body ≡ $if points$with_pointer$else$with_uint$end$ $insert old$ $unless points$$width$ $end$$place$ $insert sets form$$insert limits kind$$unless fails$ }$end$$insert table_stays$
@@ -145,7 +139,7 @@ $if own$
     {
         let pointer = self.table.add(value.target.into_cap())?;
 $else$
-    pub fn set_$joined$$unless services$_client$end$(
+    pub fn set_$joined$(
         &mut self,
         table: &mut Table,
         value: $Type$Client,
@@ -182,31 +176,31 @@ $block limits built$) }
         ensures long { result ≡ Err TooLong → 2 ^ 29 ≤ length value.items.items }
 $block takes unsigned$u$width$
 $block sets unsigned$$value$
-$block makes unsigned$set_u$width$($place$, value)
+$block makes unsigned$set_u$width$($place$, $value$)
 $block takes unsigned_or$u$width$
 $block sets unsigned_or$(bit_xor $value$ $default$)
-$block makes unsigned_or$set_u$width$($place$, value ^ $default$)
+$block makes unsigned_or$set_u$width$($place$, $value$ ^ $default$)
 $block takes signed$i$width$
 $block sets signed$(cast_unsigned w$width$ $value$)
-$block makes signed$set_u$width$($place$, value.cast_unsigned())
+$block makes signed$set_u$width$($place$, $value$.cast_unsigned())
 $block takes signed_or$i$width$
 $block sets signed_or$(bit_xor (cast_unsigned w$width$ $value$) $default$)
-$block makes signed_or$set_u$width$($place$, value.cast_unsigned() ^ $default$)
+$block makes signed_or$set_u$width$($place$, $value$.cast_unsigned() ^ $default$)
 $block takes float$f$width$
 $block sets float$(to_bits binary$width$ $value$)
-$block makes float$set_u$width$($place$, f$width$_to_bits_with_nan(value))
+$block makes float$set_u$width$($place$, f$width$_to_bits_with_nan($value$))
 $block takes float_or$f$width$
 $block sets float_or$(bit_xor (to_bits binary$width$ $value$) $default$)
-$block makes float_or$set_u$width$($place$, f$width$_to_bits_with_nan(value) ^ $default$)
+$block makes float_or$set_u$width$($place$, f$width$_to_bits_with_nan($value$) ^ $default$)
 $block takes bool$bool
 $block sets bool$(flag_bit $value$)
-$block makes bool$set_bit($place$, value)
+$block makes bool$set_bit($place$, $value$)
 $block takes bool_or$bool
 $block sets bool_or$(flag_bit (not $value$))
-$block makes bool_or$set_bit($place$, !value)
+$block makes bool_or$set_bit($place$, !$value$)
 $block takes enum$$of.Type$
 $block sets enum$($of.word$_number $value$)
-$block makes enum$set_u16($place$, value.number())
+$block makes enum$set_u16($place$, $value$.number())
 $block cites enum$
 use $of.from$$of.Type$;
 $if of.elsewhere$
@@ -214,48 +208,48 @@ ghost use Rattle.$of.krate$.specs.$of.module|module$.{$of.word$_number};
 $end$
 $block takes enum_or$$of.Type$
 $block sets enum_or$(bit_xor ($of.word$_number $value$) $default$)
-$block makes enum_or$set_u16($place$, value.number() ^ $default$)
+$block makes enum_or$set_u16($place$, $value$.number() ^ $default$)
 $block cites enum_or$
 $insert cites enum$
 $block takes text$&str
 $block sets text$(text_tree $value$.now)
-$block makes text$cp_builder::text_of(alloc, value)?
+$block makes text$cp_builder::text_of($alloc$, $value$)?
 $block takes data$Vec<u8>
 $block sets data$(bytes_tree $value$.items)
-$block makes data$cp_builder::bytes_of(value)?
+$block makes data$cp_builder::bytes_of($value$)?
 $block takes cap$u32
 $block sets cap$(cap_tree $value$)
-$block makes cap$cp_builder::cap_of(value)
-$block takes struct$$of.Type$$Builder$
+$block makes cap$cp_builder::cap_of($value$)
+$block takes struct$$of.Type$Builder
 $block sets struct$$value$.body
-$block makes struct$value.body.into_whole()
+$block makes struct$$value$.body.into_whole()
 $block cites struct$
-use $of.from$$of.Type$$Builder$;
+use $of.from$$of.Type$Builder;
 $block takes whole$Whole
 $block sets whole$$value$
-$block makes whole$value
-$block takes structs$$of.Type$List$Builder$
+$block makes whole$$value$
+$block takes structs$$of.Type$ListBuilder
 $block sets structs$$value$.items
-$block makes structs$value.items.into_whole()
+$block makes structs$$value$.items.into_whole()
 $block cites structs$
-use $of.from$$of.Type$List$Builder$;
+use $of.from$$of.Type$ListBuilder;
 $block takes numbers$Vec<$insert item base$>
 $block sets numbers$($elements$_tree $value$.items)
-$block makes numbers$cp_builder::$maker$_of(value)?
+$block makes numbers$cp_builder::$maker$_of($value$)?
 $block takes signed_list$&[i$width$]
 $block sets signed_list$($elements$_tree (map (cast_unsigned w$width$) $value$.now))
-$block makes signed_list$cp_services::signed$width$_of(alloc, value)?
+$block makes signed_list$cp_services::signed$width$_of($alloc$, $value$)?
 $block takes float_list$&[f$width$]
 $block sets float_list$($elements$_tree (map (to_bits binary$width$) $value$.now))
-$block makes float_list$cp_services::float$width$_of(alloc, value)?
+$block makes float_list$cp_services::float$width$_of($alloc$, $value$)?
 $block takes enum_list$&[$of.Type$]
 $block sets enum_list$(halves_tree (map $of.word$_number $value$.now))
-$block makes enum_list$cp_services::enumerants_of(alloc, value)?
+$block makes enum_list$cp_services::enumerants_of($alloc$, $value$)?
 $block cites enum_list$
 $insert cites enum$
 $block takes built$$for depth$cp_services::ListsBuilder<$end$$insert list base$$for depth$>$end$
 $block sets built$(pointers_tree $value$.items.items)
-$block makes built$value.into_whole()?
+$block makes built$$value$.into_whole()?
 $block cites built$
 ghost use Rattle.cp_services.specs.Lists.{pointers_tree};
 $if of$
@@ -264,7 +258,7 @@ $end$
 $block list text$cp_services::TextListBuilder
 $block list data$cp_services::DataListBuilder
 $block list cap$cp_services::CapListBuilder
-$block list struct$$of.Type$List$Builder$
+$block list struct$$of.Type$ListBuilder
 $block list bool$Vec<bool>
 $block list unsigned$Vec<u$width$>
 $block list signed$Vec<i$width$>

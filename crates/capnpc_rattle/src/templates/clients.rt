@@ -13,11 +13,7 @@ pub struct $Type$Client {
     pub target: CallTarget,
 }
 use cp_refs::Cap;
-use cp_refs::Request;
-use cp_stubs::Caller;
 use cp_stubs::CallTarget;
-use std::alloc::Global;
-ghost use $here$.{$Type$Kind, $Type$MethodTakes, $Type$Takes, any_$word$};
 
 impl $Type$Client {
     /// The interface's number.
@@ -44,114 +40,130 @@ $for methods$
 $insert client_method$
 $end$
 }
-$if services$
-$insert service$
-$else$
+
+impl TypedClient for $Type$Client {
+    ghost called = { λ c. c.target };
+
+    fn of(target: CallTarget) -> $Type$Client {
+        $Type$Client { target }
+    }
+
+    fn into_target(self) -> CallTarget {
+        self.target
+    }
+}
+use cp_stubs::TypedClient;
 $insert server$
-$end$
 $block client_method$
 
-    /// A call of `$name$ @$number$`$if params.shared$, with the table of the capabilities that its params name$end$.
-    pub fn $name|snake$_request(&self, params: $params.Type$$Builder$$if params.shared$, table: Table$end$) -> Request
-        ensures { result ≡ request_of $id|hex$ $number$ params.body $insert names params.naming$ }
+$if plain$
+$for plain$
+    /// A call of `$name$ @$number$`.
+    pub fn $name|snake$_request(&self$insert parameters$) -> Result<Request, DraftFault>
+        ensures { IfOk result (λ r. r ≡ request_of $id|hex$ $number$ $insert content$ $insert table$) }
     {
-        let content = params.body.into_whole();
-        self.target.request$unless params.never$_naming$end$($id|hex$, $number$, content$unless params.never$, $insert names params.naming$$end$)
-    }
-$if params.shared$
+        let $if args$mut $end$params: StructDraft<$words$, $pointers$> = StructDraft::new(self.target.alloc())?;
+$if clients$
+        let mut table = Table::new(self.target.alloc());
 use cp_stubs::Table;
 $end$
+$for args$
+        params.$if points$set_pointer($place$, $end$$if client$table.add($value$.target.into_cap())?$else$$insert makes form$$end$$if points$)$end$;
+$if client$
+use $client.from$$client.Type$Client;
+$end$
+$end$
+        let content = params.into_whole();
+        Ok(self.target.request$if clients$_naming$end$($id|hex$, $number$, content$if clients$, table$end$))
+    }
 
 $doc about$
 $unless about$
 /// Calls `$name$ @$number$`.
 $end$
-$if plain$
-$for plain$
     pub fn $name|method$<C: Caller>(&self, caller: &mut C$insert parameters$) -> Result<$results.Type$Promise, C::Fault>
         ensures { MakesOf (λ p. p.at) C.asks caller.old self.now.target $id|hex$ $number$ $insert content$ $insert table$ result caller.new }
     {
-        let params = $params.Type$$Builder$::of(self.target.alloc()$for args$, $value$$end$)?;
-        let request = self.$name|snake$_request(params);
-        Ok($results.Type$Promise { at: self.target.call(caller, request)? })
+        let request = self.$name|snake$_request($for args$$if more$, $end$$value$$end$)?;
+        Ok($results.Type$Promise::of(self.target.call(caller, request)?))
     }
 
     /// A call of `$name$` that an object makes. With the mark the object is told what it came to.
     pub fn $name|snake$_ask(&self$insert parameters$, mark: u64) -> Result<Ask, DraftFault>
         ensures { IfOk result (λ ask. ask ≡ ask_of self.now.target (request_of $id|hex$ $number$ $insert content$ $insert table$) mark) }
     {
-        let params = $params.Type$$Builder$::of(self.target.alloc()$for args$, $value$$end$)?;
-        let request = self.$name|snake$_request(params);
-        Ok(self.target.ask(request, mark)?)
+        Ok(self.target.ask(self.$name|snake$_request($for args$$if more$, $end$$value$$end$)?, mark)?)
     }
+use cp_servants::Ask;
 ghost use Rattle.cp_services.specs.Calls.{MakesOf};
-$for clients$
-use $client.from$$client.Type$Client;
-$end$
 $end$
 $else$
-$if params.shared$
-    pub fn $name|method$<C: Caller>(
-        &self,
-        caller: &mut C,
-        params: $params.Type$$Builder$,
-        table: Table,
-    ) -> Result<$results.Type$Promise, C::Fault>
-$else$
-    pub fn $name|method$<C: Caller>(&self, caller: &mut C, params: $params.Type$$Builder$) -> Result<$results.Type$Promise, C::Fault>
+    /// A call of `$name$ @$number$`$if params.shared$, with the table of the capabilities that its params name$end$.
+    pub fn $name|snake$_request(&self, params: $params.Type$Builder$if params.shared$, table: Table$end$) -> Request
+        ensures { result ≡ request_of $id|hex$ $number$ params.body $insert names params.naming$ }
+    {
+        let content = params.body.into_whole();
+        self.target.request$unless params.never$_naming$end$($id|hex$, $number$, content$unless params.never$, $insert names params.naming$$end$)
+    }
+
+$doc about$
+$unless about$
+/// Calls `$name$ @$number$`.
 $end$
+    pub fn $name|method$<C: Caller>(&self, caller: &mut C, params: $params.Type$Builder$if params.shared$, table: Table$end$) -> Result<$results.Type$Promise, C::Fault>
         ensures { Makes (λ p. p.at) C.asks caller.old self.now.target $id|hex$ $number$ params.body $insert names params.naming$ result caller.new }
     {
         let request = self.$name|snake$_request(params$if params.shared$, table$end$);
-        Ok($results.Type$Promise { at: self.target.call(caller, request)? })
+        Ok($results.Type$Promise::of(self.target.call(caller, request)?))
     }
+$if params.shared$
+use cp_stubs::Table;
 $end$
-use $params.from$$params.Type$$Builder$;
+use $params.from$$params.Type$Builder;
+ghost use Rattle.cp_stubs.specs.Calls.{Makes};
+$end$
+use cp_refs::Request;
+use cp_stubs::Caller;
 use $results.from$$results.Type$Promise;
 $block names never$[]
 $block names own$params.table
 $block names shared$table
-$block promise$
+$block node empty$
 
-$if own$
-impl ServiceResults for $Type$$Builder$ {
-    ghost content = { λ d. d.body };
+/// `struct $title$`.
+pub type $Type$Reader<'a> = NoFieldsReader<'a>;
+use cp_stubs::NoFieldsReader;
+$if results$
 
-    ghost names = { λ d. d.table };
-
-    fn into_parts(self, alloc: Global) -> (Whole, Table) {
-        let _ = alloc;
-        (self.body.into_whole(), self.table)
-    }
-}
-use cp_services::ServiceResults;
-use cp_stubs::Table;
-$else$
-$if nameless$
-impl ServiceResults for $Type$$Builder$ {
-    ghost content = { λ d. d.body };
-
-    ghost names = { λ d. [] };
-
-    fn into_parts(self, alloc: Global) -> (Whole, Table) {
-        (self.body.into_whole(), Table::new(alloc))
-    }
-}
-use cp_services::ServiceResults;
-use cp_stubs::Table;
-$else$
-impl Results for $Type$$Builder$ {
-    ghost content = { λ d. d.body };
-
-    fn into_whole(self) -> Whole {
-        self.body.into_whole()
-    }
-}
-use cp_stubs::Results;
-$end$
-$end$
+/// `struct $title$`, to be written.
+pub type $Type$Builder = NoFieldsBuilder;
 
 /// `struct $title$`, as a question will give it.
+pub type $Type$Promise = NoFieldsPromise;
+use cp_stubs::NoFieldsBuilder;
+use cp_stubs::NoFieldsPromise;
+$end$
+$block promise$
+
+/// `struct $title$`, as a question will give it.
+$if piped$
+$insert piped_promise$
+$else$
+pub type $Type$Promise = Promise<$Type$Builder>;
+
+impl<'a> Lends<'a> for $Type$Builder {
+    type Reader = $Type$Reader<'a>;
+
+    ghost read = { λ x. x.body };
+
+    fn reader(body: StructView<'a>) -> $Type$Reader<'a> {
+        $Type$Reader { body }
+    }
+}
+use cp_stubs::Lends;
+use cp_stubs::Promise;
+$end$
+$block piped_promise$
 #[derive(Drop)]
 pub struct $Type$Promise {
     /// The question, and the path to the struct.
@@ -159,9 +171,15 @@ pub struct $Type$Promise {
 }
 use cp_stubs::ResultPayload;
 use cp_stubs::Promised;
-use cp_tree::Whole;
 
 impl $Type$Promise {
+    /// What is promised there.
+    pub fn of(at: Promised) -> $Type$Promise
+        ensures { result.at ≡ at }
+    {
+        $Type$Promise { at }
+    }
+
     /// The number of the question, whose outcome can be waited for.
     pub fn question(&self) -> u32
         ensures { result ≡ self.now.at.question }
@@ -170,10 +188,10 @@ impl $Type$Promise {
     }
 
     /// The results that came.
-    pub fn results<'a>(&self, came: &'a ResultPayload) -> Result<$Type$$Reader$<'a>, WrongKind>
+    pub fn results<'a>(&self, came: &'a ResultPayload) -> Result<$Type$Reader<'a>, WrongKind>
         ensures { Reads result (λ x. x.body) (struct_field came.now.content) }
     {
-        Ok($Type$$Reader$ { body: came.results()? })
+        Ok($Type$Reader { body: came.results()? })
     }
 $for parts$
 $for promised$
@@ -183,7 +201,7 @@ $for promised$
 $if struct$
         ensures { IfOk result (λ p. p.at ≡ along self.now.at $place$) }
     {
-        Ok($Type$$ending$ { at: self.at.field($place$)? })
+        Ok($Type$$ending$::of(self.at.field($place$)?))
     }
 $else$
         ensures { IfOk result (λ c. c.target ≡ promised_cap self.now.at $place$) }
@@ -238,6 +256,7 @@ $end$
 $end$
   pub elsewhere : IsElsewhere ($for family$$id|hex$ ∷ $end$[]) call → Refuses old call reply new
 use Rattle.cp_servants.specs.declared.servant.Reply.{Reply}
+use Rattle.cp_stubs.specs.Dispatch.{$if methods$Anything, $end$IsElsewhere$if methods$, Method, Passes$end$, Refuses}
 use Rattle.cp_stubs.specs.declared.call.MethodCall.{MethodCall}
 $block takes_calls$$Type$Takes$for family$ T.$word$_kind$end$
 "#;

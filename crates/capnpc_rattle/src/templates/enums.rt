@@ -22,7 +22,7 @@ impl<'a> Item<'a> for $Type$ {
         $Type$::of(item.u16(0))
     }
 }
-$if services$
+$if whole$
 
 impl cp_services::Enumerant for $Type$ {
     ghost number = { $word$_number };

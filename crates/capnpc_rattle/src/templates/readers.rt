@@ -68,7 +68,8 @@ $end$
 $if builder$
 $insert builder$
 $end$
-$if promise$
+$if results$
+$insert results$
 $insert promise$
 $end$
 $block specs struct$

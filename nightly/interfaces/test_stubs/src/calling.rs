@@ -1,12 +1,11 @@
 //! Typed clients, and what their calls come to.
 
+use cp_builder::DraftFault;
 use cp_refs::{Cap, Caps, Outcome, Request, failed};
 use cp_stubs::{Caller, NoResults, payload_of};
 use cp_tree::Whole;
-use directory::{
-    DirectoryClient, DirectoryFindParamsDraft, DirectoryFindResultsPromise, FriendClient,
-};
-use std::alloc::{AllocError, Global};
+use directory::{DirectoryClient, DirectoryFindResultsPromise, FriendClient};
+use std::alloc::Global;
 use std::process::Abort;
 
 /// Keeps what it is asked. Its questions have the numbers from 1 on.
@@ -18,11 +17,11 @@ struct Log {
 }
 
 impl Caller for Log {
-    type Fault = AllocError;
+    type Fault = DraftFault;
 
     ghost asks = { λ _ _ _ _ _. Unit {0} };
 
-    fn ask(&mut self, alloc: Global, cap: &Cap, request: Request) -> Result<u32, AllocError> {
+    fn ask(&mut self, alloc: Global, cap: &Cap, request: Request) -> Result<u32, DraftFault> {
         self.asked.push((cap.copy(alloc)?, request))?;
         self.last = self.last.saturating_add(1);
         Ok(self.last)
@@ -30,10 +29,8 @@ impl Caller for Log {
 }
 
 /// A call of `find` on import 7.
-fn find(alloc: Global, log: &mut Log) -> Result<DirectoryFindResultsPromise, AllocError> {
-    let directory = DirectoryClient::new(alloc, Cap::Import(7));
-    let params = DirectoryFindParamsDraft::new(alloc)?;
-    directory.find(log, params)
+fn find(alloc: Global, log: &mut Log) -> Result<DirectoryFindResultsPromise, DraftFault> {
+    DirectoryClient::new(alloc, Cap::Import(7)).find(log, "")
 }
 
 /// Who speaks for the person that a call will find.

@@ -1,36 +1,35 @@
 //! A watcher with a relation of its own.
 
-use cp_stubs::{Answer, MethodCall, MethodFault, ServerObject, StreamResultDraft};
-use directory::{WatcherAddedParamsView, WatcherServer};
-use std::alloc::Global;
+use cp_makers::Here;
+use cp_services::{MethodResult, ServiceObject};
+use directory::{WatcherAddedCall, WatcherServant, WatcherServer};
+
+/// All objects of the test.
+pub type Counting = WatcherServant<Counter>;
 
 /// Counts of whom it is told.
 #[derive(Drop)]
 pub struct Counter {
-    pub alloc: Global,
     pub count: u64,
 }
 
-impl ServerObject for Counter {
-    ghost use Rattle.cp_stubs.specs.Objects.{still};
-
-    ghost kind = { still };
+impl ServiceObject for Counter {
+    type Makes = Counting;
 }
 
 impl WatcherServer for Counter {
     ghost use Rattle.directory.specs.Watcher.{any_watcher};
     ghost use Rattle.test_stubs.specs.Counter.{Counts};
 
-    ghost watcher_kind = { record any_watcher { on_added = λ old call params reply new. Counts old.count params new.count } };
+    ghost watcher_kind = { record any_watcher { on_added = λ old call params reply new. Counts old.object.count params new.object.count } };
 
     fn added(
         &mut self,
-        _call: &MethodCall,
-        params: &WatcherAddedParamsView<'_>,
-    ) -> Result<Answer<StreamResultDraft>, MethodFault> {
-        let _person = params.person()?;
+        call: &mut WatcherAddedCall<'_>,
+        _here: &mut Here<Counting>,
+    ) -> MethodResult {
+        let _person = call.params.person()?;
         self.count = self.count.saturating_add(1);
-        let results = StreamResultDraft::new(self.alloc)?;
-        Ok(Answer::of(self.alloc, results))
+        Ok(())
     }
 }

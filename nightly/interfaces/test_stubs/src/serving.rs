@@ -1,38 +1,57 @@
 //! Objects that are called through the glue.
 
-ghost use Rattle.std.specs.Prelude.{◌≡◌};
+ghost use Rattle.std.specs.Prelude.{IfOk};
+ghost use Rattle.cp_services.specs.Services.{at};
+ghost use Rattle.directory.specs.Watcher.{WatcherTakes};
 
-use crate::counter::Counter;
-use crate::shelf::Shelf;
+use crate::counter::{Counter, Counting};
+use crate::shelf::{Shelf, Shelved};
 use cp_builder::DraftFault;
+use cp_makers::{Family, Hall, Here};
 use cp_refs::{Cap, Caps, Outcome, Request};
 use cp_rpc::{Exception, ExceptionKind};
-use cp_servants::{Reply, Servant};
-use cp_stubs::Table;
+use cp_servants::Reply;
+use cp_services::Dispatch;
+use cp_stubs::MethodCall;
 use cp_tree::{Tree, Whole};
 use cp_vat_machine::Ids;
 use directory::{
-    DirectoryAddParamsDraft, DirectoryClient, DirectoryFindParamsDraft, DirectoryServant,
-    DirectoryWatchParamsDraft, FriendClient, NamedClient, NamedNameParamsDraft, PersonDraft,
-    WatcherAddedParamsDraft, WatcherClient, WatcherServant,
+    DirectoryAddParamsBuilder, DirectoryClient, DirectoryServant, FriendClient, NamedClient,
+    PersonBuilder, WatcherAddedParamsBuilder, WatcherClient, WatcherServant,
 };
 use std::alloc::{AllocError, Global};
 use std::process::Abort;
 
 /// A Shelf that is served.
-fn shelf(alloc: Global) -> DirectoryServant<Shelf> {
-    DirectoryServant {
-        alloc,
-        object: Shelf { alloc, count: 0 },
+fn shelf(alloc: Global) -> Result<Family<Shelved>, AllocError> {
+    let mut objects = Family::new(alloc);
+    objects.add(DirectoryServant::new(Shelf {
+        count: 0,
+        sought: None,
+    }))?;
+    Ok(objects)
+}
+
+/// What the first object answers, once it was polled too.
+fn reply_of<H: Hall>(objects: &mut H, request: Request) -> Result<Option<Reply>, AllocError> {
+    if !objects.has(0) {
+        return Ok(None);
     }
+    let reply = objects.call_at(0, 1, request)?;
+    if objects.has(0) {
+        drop(objects.poll_at(0)?);
+    }
+    Ok(Some(reply))
 }
 
 /// What a call comes to at once, and the imports that are given up. `None` says later.
 fn came(rt: &impl Abort, alloc: Global, request: Request) -> Option<(Outcome, Ids)> {
-    let reply = shelf(alloc).call(1, request).expect(rt, "memory");
+    let mut objects = shelf(alloc).expect(rt, "memory");
+    let reply = reply_of(&mut objects, request).expect(rt, "memory");
+    drop(objects);
     match reply {
-        Reply::Now { outcome, gives_up } => Some((outcome, gives_up)),
-        Reply::Later => None,
+        Some(Reply::Now { outcome, gives_up }) => Some((outcome, gives_up)),
+        _ => None,
     }
 }
 
@@ -91,33 +110,27 @@ fn directory(alloc: Global) -> DirectoryClient {
 }
 
 /// A call of `find`.
-fn find(alloc: Global) -> Result<Request, AllocError> {
-    let params = DirectoryFindParamsDraft::new(alloc)?;
-    Ok(directory(alloc).find_request(params))
+fn find(alloc: Global) -> Result<Request, DraftFault> {
+    directory(alloc).find_request("")
 }
 
 /// A call of `add`, of a person for whom import 4 speaks.
 fn add(alloc: Global) -> Result<Request, DraftFault> {
-    let mut table = Table::new(alloc);
-    let mut person = PersonDraft::new(alloc)?;
-    person.set_friend_client(&mut table, FriendClient::new(alloc, Cap::Import(4)))?;
-    let mut params = DirectoryAddParamsDraft::new(alloc)?;
+    let mut params = DirectoryAddParamsBuilder::new(alloc)?;
+    let mut person = PersonBuilder::new(alloc)?;
+    person.set_friend(&mut params.table, FriendClient::new(alloc, Cap::Import(4)))?;
     params.set_person(person);
-    Ok(directory(alloc).add_request(params, table))
+    Ok(directory(alloc).add_request(params))
 }
 
 /// A call of `watch`, with import 5.
 fn watch(alloc: Global) -> Result<Request, DraftFault> {
-    let mut table = Table::new(alloc);
-    let mut params = DirectoryWatchParamsDraft::new(alloc)?;
-    params.set_watcher_client(&mut table, WatcherClient::new(alloc, Cap::Import(5)))?;
-    Ok(directory(alloc).watch_request(params, table))
+    directory(alloc).watch_request(WatcherClient::new(alloc, Cap::Import(5)))
 }
 
 /// A call of `name`.
-fn name(alloc: Global) -> Result<Request, AllocError> {
-    let params = NamedNameParamsDraft::new(alloc)?;
-    Ok(NamedClient::new(alloc, Cap::None).name_request(params))
+fn name(alloc: Global) -> Result<Request, DraftFault> {
+    NamedClient::new(alloc, Cap::None).name_request()
 }
 
 /// The imports that are given up with the results of a call.
@@ -141,26 +154,25 @@ fn methods_answer_now_or_later(rt: HostRuntime) {
     check!(&rt; named.is_some_and(|ids| ids.ids().is_empty()));
 }
 
-/// How many a counter has counted that was told of one person, by the glue, and polled then. That it is one follows from the
-/// counter's kind alone.
-fn counted(rt: &impl Abort, alloc: Global) -> u64
-    ensures { result ≡ 1 }
+/// A counter counts a person of whom it is told by the glue. That follows from the counter's kind alone.
+fn count(
+    counter: &mut Counter,
+    call: &MethodCall,
+    here: &mut Here<Counting>,
+) -> Result<Reply, AllocError>
+    ensures { IfOk result (λ reply. WatcherTakes ⟦<Counter as WatcherServer>⟧.watcher_kind (at counter.old here.old) call.now reply (at counter.new here.new)) }
 {
-    let mut watcher = WatcherServant {
-        alloc,
-        object: Counter { alloc, count: 0 },
-    };
-    let params = WatcherAddedParamsDraft::new(alloc).expect(rt, "memory");
-    let client = WatcherClient::new(alloc, Cap::None);
-    let request = client.added_request(params, Table::new(alloc));
-    let reply = watcher.call(1, request).expect(rt, "memory");
-    drop(reply);
-    let settled = watcher.poll().expect(rt, "memory");
-    drop(settled);
-    watcher.object.count
+    WatcherClient::dispatch(counter, call, here)
 }
 
 #[test]
 fn streams_are_called(rt: HostRuntime) {
-    check!(&rt; counted(&rt, rt.alloc()) == 1);
+    let alloc = rt.alloc();
+    let mut objects: Family<Counting> = Family::new(alloc);
+    let added = objects.add(WatcherServant::new(Counter { count: 0 }));
+    drop(added.expect(&rt, "memory"));
+    let params = WatcherAddedParamsBuilder::new(alloc).expect(&rt, "memory");
+    let request = WatcherClient::new(alloc, Cap::None).added_request(params);
+    let reply = reply_of(&mut objects, request).expect(&rt, "memory");
+    check!(&rt; matches!(&reply, Some(Reply::Now { outcome: Outcome::Results { .. }, .. })));
 }

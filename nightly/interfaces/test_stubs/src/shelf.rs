@@ -1,63 +1,59 @@
 //! A directory for tests: it finds nobody, counts whom it is told of, and keeps the watcher that it is given.
 
-use cp_stubs::{Answer, MethodCall, MethodFault, ServerObject};
+use cp_makers::Here;
+use cp_servants::Settled;
+use cp_services::{LaterCall, MethodResult, ServiceObject};
+use cp_stubs::MethodFault;
 use directory::{
-    DirectoryAddParamsView, DirectoryAddResultsDraft, DirectoryFindParamsView,
-    DirectoryFindResultsDraft, DirectoryServer, DirectoryWatchParamsView,
-    DirectoryWatchResultsDraft, NamedNameParamsView, NamedNameResultsDraft, NamedServer,
+    DirectoryAddCall, DirectoryFindCall, DirectoryServant, DirectoryServer, DirectoryWatchCall,
+    NamedNameCall, NamedServer,
 };
-use std::alloc::Global;
+
+/// All objects of the test.
+pub type Shelved = DirectoryServant<Shelf>;
 
 /// The directory.
 #[derive(Drop)]
 pub struct Shelf {
-    pub alloc: Global,
     pub count: u32,
+    /// The call of `find` that is never answered.
+    pub sought: Option<LaterCall>,
 }
 
-impl ServerObject for Shelf {}
+impl ServiceObject for Shelf {
+    type Makes = Shelved;
+
+    fn poll(&mut self, _here: &mut Here<Shelved>) -> Result<Option<Settled>, MethodFault> {
+        Ok(None)
+    }
+}
 
 impl NamedServer for Shelf {
-    fn name(
-        &mut self,
-        _call: &MethodCall,
-        _params: &NamedNameParamsView<'_>,
-    ) -> Result<Answer<NamedNameResultsDraft>, MethodFault> {
-        let mut results = NamedNameResultsDraft::new(self.alloc)?;
-        results.set_name(self.alloc, "a shelf")?;
-        Ok(Answer::of(self.alloc, results))
+    fn name(&mut self, call: &mut NamedNameCall<'_>, here: &mut Here<Shelved>) -> MethodResult {
+        Ok(call.results.set_name(here.alloc(), "a shelf")?)
     }
 }
 
 impl DirectoryServer for Shelf {
-    fn find(
-        &mut self,
-        _call: &MethodCall,
-        params: &DirectoryFindParamsView<'_>,
-    ) -> Result<Answer<DirectoryFindResultsDraft>, MethodFault> {
-        let _name = params.name()?.text(self.alloc)?;
-        Ok(Answer::Later)
+    fn find(&mut self, call: &mut DirectoryFindCall<'_>, here: &mut Here<Shelved>) -> MethodResult {
+        let _name = call.params.name()?.text(here.alloc())?;
+        self.sought = Some(call.later()?);
+        Ok(())
     }
 
-    fn add(
-        &mut self,
-        call: &MethodCall,
-        params: &DirectoryAddParamsView<'_>,
-    ) -> Result<Answer<DirectoryAddResultsDraft>, MethodFault> {
-        let _friend = params.person()?.friend_client(self.alloc, call.caps())?;
+    fn add(&mut self, call: &mut DirectoryAddCall<'_>, here: &mut Here<Shelved>) -> MethodResult {
+        let _friend = call
+            .params
+            .person()?
+            .friend_client(here.alloc(), call.caps())?;
         self.count = self.count.saturating_add(1);
-        let mut results = DirectoryAddResultsDraft::new(self.alloc)?;
-        results.set_count(self.count);
-        Ok(Answer::of(self.alloc, results))
+        call.results.set_count(self.count);
+        Ok(())
     }
 
-    fn watch(
-        &mut self,
-        call: &MethodCall,
-        params: &DirectoryWatchParamsView<'_>,
-    ) -> Result<Answer<DirectoryWatchResultsDraft>, MethodFault> {
-        let watcher = params.watcher_client(self.alloc, call.caps())?;
-        let results = DirectoryWatchResultsDraft::new(self.alloc)?;
-        Ok(Answer::of(self.alloc, results).keeping(&watcher.target)?)
+    fn watch(&mut self, call: &mut DirectoryWatchCall<'_>, here: &mut Here<Shelved>) -> MethodResult {
+        let watcher = call.params.watcher_client(here.alloc(), call.caps())?;
+        call.keep(&watcher.target, here)
+            .map_err(|fault| MethodFault::from(fault))
     }
 }

@@ -1,4 +1,4 @@
-//! Tests of what the plugin made of workshop.capnp with --services: lists by their builders, and tables of capabilities.
+//! Tests of what the plugin made of workshop.capnp: lists by their builders, and tables of capabilities.
 #![tactic(auto)]
 
 /// Ends the test unless the condition holds, with the condition's text.

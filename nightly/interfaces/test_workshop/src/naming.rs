@@ -2,8 +2,7 @@
 
 use cp_builder::DraftFault;
 use cp_refs::Cap;
-use cp_services::ServiceResults;
-use cp_stubs::Table;
+use cp_stubs::{Results, Table};
 use std::alloc::Global;
 use workshop::{MakerClient, MakerMakeParamsBuilder, MakerMakeResultsBuilder, ToolBuilder};
 

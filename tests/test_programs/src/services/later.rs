@@ -5,7 +5,7 @@ use cp_makers::{Family, Here, Maker};
 use cp_refs::{Outcome, Request};
 use cp_servants::{Ask, Reply, Settled};
 use cp_services::{LaterCall, MethodResult, ServiceCall};
-use cp_stubs::{MethodCall, MethodFault, StreamResultDraft};
+use cp_stubs::{MethodCall, MethodFault, NoFieldsBuilder};
 use std::alloc::AllocError;
 use std::process::Abort;
 
@@ -18,7 +18,7 @@ struct Slow {
 
 impl Slow {
     /// The call is to be answered later.
-    fn put_off(&mut self, call: &mut ServiceCall<'_, (), StreamResultDraft>) -> MethodResult {
+    fn put_off(&mut self, call: &mut ServiceCall<'_, (), NoFieldsBuilder>) -> MethodResult {
         let later = call.later()?;
         self.calls.push(later)?;
         self.is_ready = self.calls.len() == 2;
@@ -36,7 +36,7 @@ impl Maker for Slow {
         here: &mut Here<Slow>,
     ) -> Result<Reply, AllocError> {
         let call = MethodCall { ticket, request };
-        let results = StreamResultDraft::new(here.alloc())?;
+        let results = NoFieldsBuilder::new(here.alloc())?;
         let mut passed = ServiceCall::new(here.alloc(), &call, (), results);
         let done = self.put_off(&mut passed);
         passed.reply(&call, done)
@@ -52,7 +52,7 @@ impl Maker for Slow {
         if self.calls.is_empty() {
             return Ok(Some(call.fail(here.alloc(), MethodFault::InUse)?));
         }
-        let results = StreamResultDraft::new(here.alloc())?;
+        let results = NoFieldsBuilder::new(here.alloc())?;
         Ok(Some(call.answer(here.alloc(), results)))
     }
 

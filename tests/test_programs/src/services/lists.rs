@@ -5,11 +5,11 @@ ghost use Rattle.std.specs.Prelude.{ℕ};
 use cp_builder::DraftFault;
 use cp_refs::Cap;
 use cp_services::{
-    CapListBuilder, DataListBuilder, Enumerant, ListsBuilder, NamedResults, ServiceResults,
+    CapListBuilder, DataListBuilder, Enumerant, ListsBuilder, NamedResults,
     TextListBuilder, enumerants_of, float32_of, float64_of, signed8_of, signed16_of, signed32_of,
     signed64_of,
 };
-use cp_stubs::{CallTarget, StreamResultDraft, Table};
+use cp_stubs::{CallTarget, NoFieldsBuilder, Results, Table};
 use cp_tree::{Tree, Whole};
 use std::alloc::Global;
 
@@ -105,7 +105,7 @@ fn numbers(alloc: Global) -> Result<[u64; 7], DraftFault> {
 
 /// How many capabilities results name.
 fn named(alloc: Global) -> Result<usize, DraftFault> {
-    let mut results = NamedResults::new(alloc, StreamResultDraft::new(alloc)?);
+    let mut results = NamedResults::new(alloc, NoFieldsBuilder::new(alloc)?);
     let added = results.table.add(Cap::Object(2));
     let (content, table) = results.into_parts(alloc);
     drop(content);
