@@ -31,11 +31,11 @@ class Copier(Printer):
         elif code == 14 and kind["elem"]["kind"] in SLICES:
             copied = f"let mut items = Vec::new(alloc); for item in {read} {{ items.push(item)?; }} {to}.{setter}(alloc, items.as_slice())?;"
         elif code == 14 and kind["elem"]["kind"] == 12:
-            self.types.add(("cp_services", "TextListBuilder"))
+            self.types.add(("cp_interface_objects", "TextListBuilder"))
             copied = (f"let mut items = TextListBuilder::new(alloc); for item in {read} {{ items.push(item?.text(alloc)?.as_str())?; }} "
                       f"{to}.{setter}(items)?;")
         elif code == 14 and kind["elem"]["kind"] == 13:
-            self.types.add(("cp_services", "DataListBuilder"))
+            self.types.add(("cp_interface_objects", "DataListBuilder"))
             copied = f"let mut items = DataListBuilder::new(alloc); for item in {read} {{ items.push(item?.to_vec(alloc)?)?; }} {to}.{setter}(items)?;"
         else:
             copied = f"{to}.body.set_pointer({place}, whole_at(alloc, &{at}.body, {place})?);"
@@ -99,7 +99,7 @@ class Copier(Printer):
 #![tactic(auto)]
 
 use anyhow::anyhow;
-use cp_fields::{{Pointee, StructView}};
+use cp_fields::{{PointerReader, StructReader}};
 use cp_frame::{{FrameReader, Mode}};
 use cp_reading::View;
 use cp_stream::{{Tap, write_struct}};
@@ -108,7 +108,7 @@ use cp_words::Limits;
 use std::alloc::Global;
 use std::io::{{self, Read}};
 {self.imports()}
-fn whole_at(alloc: Global, body: &StructView<'_>, place: u32) -> anyhow::Result<Whole> {{
+fn whole_at(alloc: Global, body: &StructReader<'_>, place: u32) -> anyhow::Result<Whole> {{
     Whole::new(body.pointer(place).tree(alloc)?).map_err(|_| anyhow!("no message can hold this"))
 }}
 
@@ -119,7 +119,7 @@ fn whole_at(alloc: Global, body: &StructView<'_>, place: u32) -> anyhow::Result<
     let mut out = Tap::new(io::writer(&rt));
     for (_, segments) in &reader.feed(&bytes)? {{
         let view = View::root(segments, Limits::standard()).map_err(|fault| anyhow!("{{fault}}"))?;
-        let built = {function}(rt.alloc(), &{root}Reader::of(Pointee::of_view(view))?)?;
+        let built = {function}(rt.alloc(), &{root}Reader::of(PointerReader::of_view(view))?)?;
         write_struct(rt.alloc(), &mut out, &built.body.into_object(), Mode::Plain, Limits::standard())?;
     }}
     Ok(reader.finish()?)

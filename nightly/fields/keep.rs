@@ -2,8 +2,8 @@
 #![tactic(auto)]
 
 use anyhow::anyhow;
-use cp_builder::StructDraft;
-use cp_fields::Pointee;
+use cp_builder::StructBuilder;
+use cp_fields::PointerReader;
 use cp_frame::{FrameReader, Mode};
 use cp_reading::View;
 use cp_stream::{Tap, write_struct};
@@ -15,9 +15,9 @@ use std::io::{self, Read};
 /// The draft of a message, with a field that the older schema knows set again.
 fn kept(alloc: Global, segments: &Segments) -> anyhow::Result<ThingBuilder> {
     let view = View::root(segments, Limits::standard()).map_err(|fault| anyhow!("{fault}"))?;
-    let thing = ThingReader::of(Pointee::of_view(view))?;
+    let thing = ThingReader::of(PointerReader::of_view(view))?;
     let mut draft = ThingBuilder {
-        body: StructDraft::of_view(alloc, &thing.body)?,
+        body: StructBuilder::of_view(alloc, &thing.body)?,
     };
     draft.set_id(thing.id());
     Ok(draft)

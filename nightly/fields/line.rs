@@ -1,6 +1,6 @@
 //! A line in the reference tool's notation, as it is put together.
 
-use cp_fields::{DataView, StructView, TextView};
+use cp_fields::{DataReader, StructReader, TextReader};
 use std::alloc::Global;
 
 /// A line, and whether a bracket was opened last.
@@ -59,7 +59,7 @@ impl Line {
         Ok(())
     }
 
-    pub fn string(&mut self, text: &TextView<'_>) -> anyhow::Result<()> {
+    pub fn string(&mut self, text: &TextReader<'_>) -> anyhow::Result<()> {
         let text = text.text(self.alloc)?;
         self.text.push('"')?;
         for c in text.as_str().chars() {
@@ -73,7 +73,7 @@ impl Line {
         Ok(())
     }
 
-    pub fn bytes(&mut self, data: &DataView<'_>) -> anyhow::Result<()> {
+    pub fn bytes(&mut self, data: &DataReader<'_>) -> anyhow::Result<()> {
         self.text.push('"')?;
         for i in 0..data.len() {
             self.byte(data.get(i))?;
@@ -102,6 +102,6 @@ impl Line {
 }
 
 /// Whether pointer `i` is there.
-pub fn has(body: &StructView<'_>, i: u32) -> bool {
+pub fn has(body: &StructReader<'_>, i: u32) -> bool {
     !body.pointer(i).is_null()
 }

@@ -160,7 +160,7 @@ class Printer:
 mod line;
 
 use anyhow::anyhow;
-use cp_fields::Pointee;
+use cp_fields::PointerReader;
 use cp_frame::FrameReader;
 use cp_reading::View;
 use cp_words::Limits;
@@ -174,7 +174,7 @@ use std::io::Read;
     for (_, segments) in &reader.feed(&bytes)? {{
         let view = View::root(segments, Limits::standard()).map_err(|fault| anyhow!("{{fault}}"))?;
         let mut line = Line::new(rt.alloc());
-        {name}_line(&mut line, &{root}Reader::of(Pointee::of_view(view))?)?;
+        {name}_line(&mut line, &{root}Reader::of(PointerReader::of_view(view))?)?;
         println!(rt; "{{}}", line.text.as_str())?;
     }}
     Ok(reader.finish()?)

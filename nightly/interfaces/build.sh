@@ -1,6 +1,6 @@
 #!/usr/bin/env bash
 # build.sh FOLDER    makes crates of calculator.capnp and directory.capnp by capnpc_rattle, and proves and builds the program of this folder as
-#                    FOLDER/interfaces, over these and the libraries of the repository. It proves and runs the tests of cp_stubs by the crate
+#                    FOLDER/interfaces, over these and the libraries of the repository. It proves and runs the tests of cp_interfaces by the crate
 #                    directory (test_stubs), and tries the edits of what the plugin wrote (must-fail). It makes a crate of workshop.capnp,
 #                    which has each kind of list, of params and of results; proves it, and runs its tests (test_workshop).
 set -eu
@@ -22,8 +22,8 @@ generate directory
 generate workshop
 cp -a "$here/must-fail" "$room/crates/directory/"
 lay_crate "$room" "$here" interfaces "jamdrosek calculator directory anyhow"
-lay_crate "$room" "$here/test_stubs" test_stubs "cp_words cp_tree cp_messages cp_rpc cp_tables cp_refs cp_vat_machine cp_fields cp_builder cp_servants cp_makers cp_stubs cp_services directory"
-lay_crate "$room" "$here/test_workshop" test_workshop "cp_words cp_tree cp_messages cp_rpc cp_tables cp_refs cp_vat_machine cp_fields cp_builder cp_servants cp_makers cp_stubs cp_services workshop"
+lay_crate "$room" "$here/test_stubs" test_stubs "cp_words cp_tree cp_messages cp_rpc cp_tables cp_refs cp_vat_machine cp_fields cp_builder cp_servants cp_objects cp_interfaces cp_interface_objects directory"
+lay_crate "$room" "$here/test_workshop" test_workshop "cp_words cp_tree cp_messages cp_rpc cp_tables cp_refs cp_vat_machine cp_fields cp_builder cp_servants cp_objects cp_interfaces cp_interface_objects workshop"
 said=$(cd "$room/crates/interfaces" && rt run -- memory)
 [ "$said" = "Ada is 36, and the watcher was told of 1" ] || fail "in memory: $said"
 cp "$room/crates/interfaces/out/interfaces" "$folder/"

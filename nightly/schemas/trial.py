@@ -17,7 +17,7 @@ MODULE = """//! Messages of {stem}.
 
 use crate::line::{{Line, has}};
 use anyhow::{{anyhow, bail}};
-use cp_fields::{{Pointee, StructView}};
+use cp_fields::{{PointerReader, StructReader}};
 use cp_frame::Mode;
 use cp_reading::View;
 use cp_stream::{{Tap, read_struct, write_struct}};
@@ -25,7 +25,7 @@ use cp_tree::Whole;
 use cp_words::{{Limits, Segments}};
 use std::alloc::Global;
 {imports}
-fn whole_at(alloc: Global, body: &StructView<'_>, place: u32) -> anyhow::Result<Whole> {{
+fn whole_at(alloc: Global, body: &StructReader<'_>, place: u32) -> anyhow::Result<Whole> {{
     Whole::new(body.pointer(place).tree(alloc)?).map_err(|_| anyhow!("no message can hold this"))
 }}
 
@@ -47,12 +47,12 @@ fn built(alloc: Global, root: &RootReader<'_>) -> anyhow::Result<Vec<u8>> {{
 
 pub fn show(rt: &HostRuntime, segments: &Segments) -> anyhow::Result<()> {{
     let view = View::root(segments, Limits::standard()).map_err(|fault| anyhow!("{{fault}}"))?;
-    let root = RootReader::of(Pointee::of_view(view))?;
+    let root = RootReader::of(PointerReader::of_view(view))?;
     print(rt, &root)?;
     let bytes = built(rt.alloc(), &root)?;
     let mut from = Tap::new(bytes.as_slice());
     match read_struct(rt.alloc(), &mut from, Mode::Plain, Limits::standard())? {{
-        Some(whole) => print(rt, &RootReader::of(Pointee::of_whole(&whole))?),
+        Some(whole) => print(rt, &RootReader::of(PointerReader::of_whole(&whole))?),
         None => bail!("nothing was written"),
     }}
 }}
@@ -64,7 +64,7 @@ MAIN = """//! Reads messages of random schemas, and builds them again.
 mod line;
 {modules}
 use anyhow::{{anyhow, bail}};
-use cp_fields::{{Pointee, StructView}};
+use cp_fields::{{PointerReader, StructReader}};
 use cp_frame::FrameReader;
 use cp_reading::View;
 use cp_words::{{Limits, Segments}};
@@ -73,7 +73,7 @@ use std::io::Read;
 /// The place of a seed, and the number of its messages.
 fn turn_of(segments: &Segments) -> anyhow::Result<(u32, u32)> {{
     let view = View::root(segments, Limits::standard()).map_err(|fault| anyhow!("{{fault}}"))?;
-    let turn = StructView::of(Pointee::of_view(view))?;
+    let turn = StructReader::of(PointerReader::of_view(view))?;
     Ok((turn.u32(0), turn.u32(1)))
 }}
 

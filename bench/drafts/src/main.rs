@@ -2,8 +2,8 @@
 #![tactic(auto)]
 
 use addressbook::{
-    AddressBookDraft, PersonDraft, PersonListDraft, PersonPhoneNumberDraft,
-    PersonPhoneNumberListDraft, PersonPhoneNumberType,
+    AddressBookBuilder, PersonBuilder, PersonListBuilder, PersonPhoneNumberBuilder,
+    PersonPhoneNumberListBuilder, PersonPhoneNumberType,
 };
 use cp_frame::{Mode, write_frame};
 use cp_words::{Limits, Segments};
@@ -23,17 +23,17 @@ struct Times {
     all: u64,
 }
 
-fn phones(alloc: Global) -> anyhow::Result<PersonPhoneNumberListDraft> {
-    let mut phone = PersonPhoneNumberDraft::new(alloc)?;
+fn phones(alloc: Global) -> anyhow::Result<PersonPhoneNumberListBuilder> {
+    let mut phone = PersonPhoneNumberBuilder::new(alloc)?;
     phone.set_number(alloc, "555-1212")?;
     phone.set_type(PersonPhoneNumberType::Home);
-    let mut phones = PersonPhoneNumberListDraft::new(alloc);
+    let mut phones = PersonPhoneNumberListBuilder::new(alloc);
     phones.push(phone)?;
     Ok(phones)
 }
 
-fn person(alloc: Global, i: u32) -> anyhow::Result<PersonDraft> {
-    let mut person = PersonDraft::new(alloc)?;
+fn person(alloc: Global, i: u32) -> anyhow::Result<PersonBuilder> {
+    let mut person = PersonBuilder::new(alloc)?;
     person.set_id(i);
     person.set_name(alloc, "Alice Example")?;
     person.set_email(alloc, "alice@example.com")?;
@@ -44,12 +44,12 @@ fn person(alloc: Global, i: u32) -> anyhow::Result<PersonDraft> {
     Ok(person)
 }
 
-fn book(alloc: Global) -> anyhow::Result<AddressBookDraft> {
-    let mut people = PersonListDraft::new(alloc);
+fn book(alloc: Global) -> anyhow::Result<AddressBookBuilder> {
+    let mut people = PersonListBuilder::new(alloc);
     for i in 0..PEOPLE {
         people.push(person(alloc, i)?)?;
     }
-    let mut book = AddressBookDraft::new(alloc)?;
+    let mut book = AddressBookBuilder::new(alloc)?;
     book.set_people(people);
     Ok(book)
 }

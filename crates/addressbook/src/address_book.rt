@@ -5,16 +5,18 @@ ghost use Rattle.cp_words.specs.declared.pointer.ElementSize.TheVariants as size
 ghost use Rattle.cp_tree.specs.Seen.{pointee_of};
 ghost use Rattle.cp_fields.specs.Constants.{constant_of};
 ghost use Rattle.cp_fields.specs.Pointers.{Reads, list_field, or_default, struct_field};
-ghost use Rattle.cp_builder.specs.declared.fault.DraftFault.TheVariants.{TooLong};
+ghost use Rattle.cp_builder.specs.declared.fault.BuildError.TheVariants.{TooLong};
 ghost use Rattle.cp_builder.specs.Drafts.{HoldsOneMore, blank, blank_list, with_last, with_pointer};
-ghost use Rattle.cp_stubs.specs.Promises.{along};
-ghost use Rattle.cp_services.specs.Lists.{pointers_tree};
+ghost use Rattle.cp_interfaces.specs.Promises.{along};
+ghost use Rattle.cp_interface_objects.specs.Lists.{pointers_tree};
 ghost use Rattle.addressbook.specs.AddressBook.{address_book_owner_default, address_book_circles_default};
 
-use crate::person::{PersonBuilder, PersonListBuilder, PersonPromise, PersonReader};
-use cp_builder::{DraftFault, StructDraft, StructsDraft};
-use cp_fields::{Constant, ConstantBody, Item, List, Pointee, StructView, TextView, WrongKind};
-use cp_stubs::{Promised, ResultPayload, Results, Table};
+use crate::person::{PersonBuilder, PersonListBuilder, PersonPipeline, PersonReader};
+use cp_builder::{BuildError, StructBuilder, StructListBuilder};
+use cp_fields::{
+    Constant, ConstantBody, Element, List, PointerReader, StructReader, TextReader, WrongKind,
+};
+use cp_interfaces::{CapTableBuilder, Pipeline, ResultPayload, Results};
 use cp_tree::{ListRef, Whole};
 use std::alloc::{AllocError, Global};
 
@@ -22,10 +24,10 @@ use std::alloc::{AllocError, Global};
 #[derive(Drop)]
 pub struct AddressBookReader<'a> {
     /// The struct, by the places of its fields.
-    pub body: StructView<'a>,
+    pub body: StructReader<'a>,
 }
 
-impl<'a> Item<'a> for AddressBookReader<'a> {
+impl<'a> Element<'a> for AddressBookReader<'a> {
     ghost SIZE = { sizes.Composite };
 
     ghost read = { λ t. record { body = t } };
@@ -36,18 +38,18 @@ impl<'a> Item<'a> for AddressBookReader<'a> {
         cp_words::ElementSize::Composite
     }
 
-    fn of_item(item: StructView<'a>) -> AddressBookReader<'a> {
+    fn of_element(item: StructReader<'a>) -> AddressBookReader<'a> {
         AddressBookReader { body: item }
     }
 }
 
 impl<'a> AddressBookReader<'a> {
     /// The struct that a pointer stands for; null is the struct whose fields are all as by default.
-    pub fn of(at: Pointee<'a>) -> Result<AddressBookReader<'a>, WrongKind>
+    pub fn of(at: PointerReader<'a>) -> Result<AddressBookReader<'a>, WrongKind>
         ensures { Reads result (λ x. x.body) (struct_field at.entry) }
     {
         Ok(AddressBookReader {
-            body: StructView::of(at)?,
+            body: StructReader::of(at)?,
         })
     }
 
@@ -69,7 +71,7 @@ impl<'a> AddressBookReader<'a> {
     }
 
     /// What people are sorted into.
-    pub fn circles(&self) -> Result<List<'a, Result<TextView<'a>, WrongKind>>, WrongKind>
+    pub fn circles(&self) -> Result<List<'a, Result<TextReader<'a>, WrongKind>>, WrongKind>
         ensures { result ≡ list_field sizes.Pointer (or_default (pointee_of self.now.body 2) address_book_circles_default) }
     {
         let default = address_book_circles_default();
@@ -81,7 +83,7 @@ impl<'a> AddressBookReader<'a> {
 #[derive(Drop)]
 pub struct AddressBookBuilder {
     /// The struct, by the places of its fields.
-    pub body: StructDraft<0, 3>,
+    pub body: StructBuilder<0, 3>,
 }
 
 impl AddressBookBuilder {
@@ -90,7 +92,7 @@ impl AddressBookBuilder {
         ensures { IfOk result (λ d. d.body ≡ blank 0 3) }
     {
         Ok(AddressBookBuilder {
-            body: StructDraft::new(alloc)?,
+            body: StructBuilder::new(alloc)?,
         })
     }
 
@@ -109,7 +111,10 @@ impl AddressBookBuilder {
     }
 
     /// What people are sorted into.
-    pub fn set_circles(&mut self, value: cp_services::TextListBuilder) -> Result<(), DraftFault>
+    pub fn set_circles(
+        &mut self,
+        value: cp_interface_objects::TextListBuilder,
+    ) -> Result<(), BuildError>
         ensures set { OnOk result (self.new.body ≡ with_pointer self.old.body 2 (pointers_tree value.items.items)) }
         ensures left { OnErr result (self.new ≡ self.old) }
         ensures long { result ≡ Err TooLong → 2 ^ 29 ≤ length value.items.items }
@@ -123,7 +128,7 @@ impl AddressBookBuilder {
 #[derive(Drop)]
 pub struct AddressBookListBuilder {
     /// The list.
-    pub items: StructsDraft<0, 3>,
+    pub items: StructListBuilder<0, 3>,
 }
 
 impl AddressBookListBuilder {
@@ -132,12 +137,12 @@ impl AddressBookListBuilder {
         ensures { result.items ≡ blank_list 0 3 }
     {
         AddressBookListBuilder {
-            items: StructsDraft::new(alloc),
+            items: StructListBuilder::new(alloc),
         }
     }
 
     /// Adds a struct at the end.
-    pub fn push(&mut self, item: AddressBookBuilder) -> Result<(), DraftFault>
+    pub fn push(&mut self, item: AddressBookBuilder) -> Result<(), BuildError>
         ensures pushed { OnOk result (self.new.items ≡ with_last self.old.items item.body) }
         ensures left { OnErr result (self.new ≡ self.old) }
         ensures long { result ≡ Err TooLong → ¬ (HoldsOneMore self.old.items (0 + 3)) }
@@ -146,12 +151,12 @@ impl AddressBookListBuilder {
     }
 }
 
-impl cp_services::ListValue for AddressBookListBuilder {
+impl cp_interface_objects::ListValue for AddressBookListBuilder {
     ghost tree = { λ l. l.items };
 
     ghost is_long = { λ l. ¬ (Unit {0}) };
 
-    fn into_list(self, alloc: Global) -> Result<Whole, DraftFault> {
+    fn into_list(self, alloc: Global) -> Result<Whole, BuildError> {
         let _ = alloc;
         Ok(self.items.into_whole())
     }
@@ -162,24 +167,24 @@ impl Results for AddressBookBuilder {
 
     ghost names = { λ d. [] };
 
-    fn into_parts(self, alloc: Global) -> (Whole, Table) {
-        (self.body.into_whole(), Table::new(alloc))
+    fn into_parts(self, alloc: Global) -> (Whole, CapTableBuilder) {
+        (self.body.into_whole(), CapTableBuilder::new(alloc))
     }
 }
 
 /// `struct AddressBook`, as a question will give it.
 #[derive(Drop)]
-pub struct AddressBookPromise {
+pub struct AddressBookPipeline {
     /// The question, and the path to the struct.
-    pub at: Promised,
+    pub at: Pipeline,
 }
 
-impl AddressBookPromise {
+impl AddressBookPipeline {
     /// What is promised there.
-    pub fn of(at: Promised) -> AddressBookPromise
+    pub fn of(at: Pipeline) -> AddressBookPipeline
         ensures { result.at ≡ at }
     {
-        AddressBookPromise { at }
+        AddressBookPipeline { at }
     }
 
     /// The number of the question, whose outcome can be waited for.
@@ -199,10 +204,10 @@ impl AddressBookPromise {
     }
 
     /// `owner @1`.
-    pub fn owner(&self) -> Result<PersonPromise, AllocError>
+    pub fn owner(&self) -> Result<PersonPipeline, AllocError>
         ensures { IfOk result (λ p. p.at ≡ along self.now.at 1) }
     {
-        Ok(PersonPromise::of(self.at.field(1)?))
+        Ok(PersonPipeline::of(self.at.field(1)?))
     }
 }
 

@@ -8,15 +8,15 @@ mod person_phone_number;
 mod person_phone_number_type;
 
 pub use address_book::{
-    AddressBookBuilder, AddressBookListBuilder, AddressBookPromise, AddressBookReader,
+    AddressBookBuilder, AddressBookListBuilder, AddressBookPipeline, AddressBookReader,
 };
 pub use constants::LARGEST;
 pub use person::{
     PersonBuilder, PersonEmploymentMember, PersonEmploymentReader, PersonEmploymentWhich,
-    PersonListBuilder, PersonPromise, PersonReader,
+    PersonListBuilder, PersonPipeline, PersonReader,
 };
 pub use person_phone_number::{
-    PersonPhoneNumberBuilder, PersonPhoneNumberListBuilder, PersonPhoneNumberPromise,
+    PersonPhoneNumberBuilder, PersonPhoneNumberListBuilder, PersonPhoneNumberPipeline,
     PersonPhoneNumberReader,
 };
 pub use person_phone_number_type::PersonPhoneNumberType;

@@ -8,15 +8,17 @@ ghost use Rattle.cp_tree.specs.Seen.{pointee_of};
 ghost use Rattle.cp_fields.specs.Numbers.{flag, plain, uint};
 ghost use Rattle.cp_fields.specs.Pointers.{Reads, data_field, list_field, struct_field, text_field};
 ghost use Rattle.cp_builder.specs.Numbers.{flag_bit};
-ghost use Rattle.cp_builder.specs.declared.fault.DraftFault.TheVariants.{TooLong};
+ghost use Rattle.cp_builder.specs.declared.fault.BuildError.TheVariants.{TooLong};
 ghost use Rattle.cp_builder.specs.Drafts.{HoldsOneMore, blank, blank_list, bytes_tree, quads_tree, text_tree, with_last, with_pointer, with_uint};
-ghost use Rattle.cp_stubs.specs.Promises.{along};
+ghost use Rattle.cp_interfaces.specs.Promises.{along};
 ghost use Rattle.addressbook.specs.Person.{person_employment_which_of, person_employment_member};
 
 use crate::person_phone_number::{PersonPhoneNumberListBuilder, PersonPhoneNumberReader};
-use cp_builder::{DraftFault, StructDraft, StructsDraft};
-use cp_fields::{DataView, Item, List, Past, Pointee, StructView, TextView, WrongKind};
-use cp_stubs::{Promised, ResultPayload, Results, Table};
+use cp_builder::{BuildError, StructBuilder, StructListBuilder};
+use cp_fields::{
+    DataReader, Element, List, PointerReader, StructReader, TextReader, UnknownEnumerant, WrongKind,
+};
+use cp_interfaces::{CapTableBuilder, Pipeline, ResultPayload, Results};
 use cp_tree::Whole;
 use std::alloc::{AllocError, Global};
 use std::num::f64_to_bits_with_nan;
@@ -25,10 +27,10 @@ use std::num::f64_to_bits_with_nan;
 #[derive(Drop)]
 pub struct PersonReader<'a> {
     /// The struct, by the places of its fields.
-    pub body: StructView<'a>,
+    pub body: StructReader<'a>,
 }
 
-impl<'a> Item<'a> for PersonReader<'a> {
+impl<'a> Element<'a> for PersonReader<'a> {
     ghost SIZE = { sizes.Composite };
 
     ghost read = { λ t. record { body = t } };
@@ -39,18 +41,18 @@ impl<'a> Item<'a> for PersonReader<'a> {
         cp_words::ElementSize::Composite
     }
 
-    fn of_item(item: StructView<'a>) -> PersonReader<'a> {
+    fn of_element(item: StructReader<'a>) -> PersonReader<'a> {
         PersonReader { body: item }
     }
 }
 
 impl<'a> PersonReader<'a> {
     /// The struct that a pointer stands for; null is the struct whose fields are all as by default.
-    pub fn of(at: Pointee<'a>) -> Result<PersonReader<'a>, WrongKind>
+    pub fn of(at: PointerReader<'a>) -> Result<PersonReader<'a>, WrongKind>
         ensures { Reads result (λ x. x.body) (struct_field at.entry) }
     {
         Ok(PersonReader {
-            body: StructView::of(at)?,
+            body: StructReader::of(at)?,
         })
     }
 
@@ -62,14 +64,14 @@ impl<'a> PersonReader<'a> {
     }
 
     /// `name @1`.
-    pub fn name(&self) -> Result<TextView<'a>, WrongKind>
+    pub fn name(&self) -> Result<TextReader<'a>, WrongKind>
         ensures { result ≡ text_field [] (pointee_of self.now.body 0) }
     {
         self.body.text(0)
     }
 
     /// `email @2`.
-    pub fn email(&self) -> Result<TextView<'a>, WrongKind>
+    pub fn email(&self) -> Result<TextReader<'a>, WrongKind>
         ensures { result ≡ text_field [] (pointee_of self.now.body 1) }
     {
         self.body.text(1)
@@ -87,7 +89,7 @@ impl<'a> PersonReader<'a> {
         ensures { result.body ≡ self.now.body }
     {
         PersonEmploymentReader {
-            body: self.body.again(),
+            body: self.body.reborrow(),
         }
     }
 
@@ -129,7 +131,7 @@ impl<'a> PersonReader<'a> {
     }
 
     /// `picture @13`.
-    pub fn picture(&self) -> Result<DataView<'a>, WrongKind>
+    pub fn picture(&self) -> Result<DataReader<'a>, WrongKind>
         ensures { result ≡ data_field [] (pointee_of self.now.body 6) }
     {
         self.body.data(6)
@@ -147,7 +149,7 @@ impl<'a> PersonReader<'a> {
 #[derive(Drop)]
 pub struct PersonBuilder {
     /// The struct, by the places of its fields.
-    pub body: StructDraft<3, 7>,
+    pub body: StructBuilder<3, 7>,
 }
 
 impl PersonBuilder {
@@ -156,7 +158,7 @@ impl PersonBuilder {
         ensures { IfOk result (λ d. d.body ≡ blank 3 7) }
     {
         Ok(PersonBuilder {
-            body: StructDraft::new(alloc)?,
+            body: StructBuilder::new(alloc)?,
         })
     }
 
@@ -168,7 +170,7 @@ impl PersonBuilder {
     }
 
     /// Sets `name`.
-    pub fn set_name(&mut self, alloc: Global, value: &str) -> Result<(), DraftFault>
+    pub fn set_name(&mut self, alloc: Global, value: &str) -> Result<(), BuildError>
         ensures set { OnOk result (self.new.body ≡ with_pointer self.old.body 0 (text_tree value.now)) }
         ensures left { OnErr result (self.new ≡ self.old) }
         ensures long { result ≡ Err TooLong → 2 ^ 29 ≤ length value.now + 1 }
@@ -178,7 +180,7 @@ impl PersonBuilder {
     }
 
     /// Sets `email`.
-    pub fn set_email(&mut self, alloc: Global, value: &str) -> Result<(), DraftFault>
+    pub fn set_email(&mut self, alloc: Global, value: &str) -> Result<(), BuildError>
         ensures set { OnOk result (self.new.body ≡ with_pointer self.old.body 1 (text_tree value.now)) }
         ensures left { OnErr result (self.new ≡ self.old) }
         ensures long { result ≡ Err TooLong → 2 ^ 29 ≤ length value.now + 1 }
@@ -202,7 +204,7 @@ impl PersonBuilder {
     }
 
     /// Sets `employer`, and chooses it in its union.
-    pub fn set_employment_employer(&mut self, alloc: Global, value: &str) -> Result<(), DraftFault>
+    pub fn set_employment_employer(&mut self, alloc: Global, value: &str) -> Result<(), BuildError>
         ensures set { OnOk result (self.new.body ≡ with_pointer (with_uint self.old.body 16 2 1) 3 (text_tree value.now)) }
         ensures left { OnErr result (self.new ≡ self.old) }
         ensures long { result ≡ Err TooLong → 2 ^ 29 ≤ length value.now + 1 }
@@ -214,7 +216,7 @@ impl PersonBuilder {
     }
 
     /// Sets `school`, and chooses it in its union.
-    pub fn set_employment_school(&mut self, alloc: Global, value: &str) -> Result<(), DraftFault>
+    pub fn set_employment_school(&mut self, alloc: Global, value: &str) -> Result<(), BuildError>
         ensures set { OnOk result (self.new.body ≡ with_pointer (with_uint self.old.body 16 2 2) 3 (text_tree value.now)) }
         ensures left { OnErr result (self.new ≡ self.old) }
         ensures long { result ≡ Err TooLong → 2 ^ 29 ≤ length value.now + 1 }
@@ -261,7 +263,7 @@ impl PersonBuilder {
     }
 
     /// Sets `scores`.
-    pub fn set_scores(&mut self, value: Vec<u32>) -> Result<(), DraftFault>
+    pub fn set_scores(&mut self, value: Vec<u32>) -> Result<(), BuildError>
         ensures set { OnOk result (self.new.body ≡ with_pointer self.old.body 5 (quads_tree value.items)) }
         ensures left { OnErr result (self.new ≡ self.old) }
         ensures long { IfErr result (λ fault. (fault ≡ TooLong) × (2 ^ 29 ≤ length value.items)) }
@@ -271,7 +273,7 @@ impl PersonBuilder {
     }
 
     /// Sets `picture`.
-    pub fn set_picture(&mut self, value: Vec<u8>) -> Result<(), DraftFault>
+    pub fn set_picture(&mut self, value: Vec<u8>) -> Result<(), BuildError>
         ensures set { OnOk result (self.new.body ≡ with_pointer self.old.body 6 (bytes_tree value.items)) }
         ensures left { OnErr result (self.new ≡ self.old) }
         ensures long { IfErr result (λ fault. (fault ≡ TooLong) × (2 ^ 29 ≤ length value.items)) }
@@ -293,7 +295,7 @@ impl PersonBuilder {
 #[derive(Drop)]
 pub struct PersonListBuilder {
     /// The list.
-    pub items: StructsDraft<3, 7>,
+    pub items: StructListBuilder<3, 7>,
 }
 
 impl PersonListBuilder {
@@ -302,12 +304,12 @@ impl PersonListBuilder {
         ensures { result.items ≡ blank_list 3 7 }
     {
         PersonListBuilder {
-            items: StructsDraft::new(alloc),
+            items: StructListBuilder::new(alloc),
         }
     }
 
     /// Adds a struct at the end.
-    pub fn push(&mut self, item: PersonBuilder) -> Result<(), DraftFault>
+    pub fn push(&mut self, item: PersonBuilder) -> Result<(), BuildError>
         ensures pushed { OnOk result (self.new.items ≡ with_last self.old.items item.body) }
         ensures left { OnErr result (self.new ≡ self.old) }
         ensures long { result ≡ Err TooLong → ¬ (HoldsOneMore self.old.items (3 + 7)) }
@@ -316,12 +318,12 @@ impl PersonListBuilder {
     }
 }
 
-impl cp_services::ListValue for PersonListBuilder {
+impl cp_interface_objects::ListValue for PersonListBuilder {
     ghost tree = { λ l. l.items };
 
     ghost is_long = { λ l. ¬ (Unit {0}) };
 
-    fn into_list(self, alloc: Global) -> Result<Whole, DraftFault> {
+    fn into_list(self, alloc: Global) -> Result<Whole, BuildError> {
         let _ = alloc;
         Ok(self.items.into_whole())
     }
@@ -332,24 +334,24 @@ impl Results for PersonBuilder {
 
     ghost names = { λ d. [] };
 
-    fn into_parts(self, alloc: Global) -> (Whole, Table) {
-        (self.body.into_whole(), Table::new(alloc))
+    fn into_parts(self, alloc: Global) -> (Whole, CapTableBuilder) {
+        (self.body.into_whole(), CapTableBuilder::new(alloc))
     }
 }
 
 /// `struct Person`, as a question will give it.
 #[derive(Drop)]
-pub struct PersonPromise {
+pub struct PersonPipeline {
     /// The question, and the path to the struct.
-    pub at: Promised,
+    pub at: Pipeline,
 }
 
-impl PersonPromise {
+impl PersonPipeline {
     /// What is promised there.
-    pub fn of(at: Promised) -> PersonPromise
+    pub fn of(at: Pipeline) -> PersonPipeline
         ensures { result.at ≡ at }
     {
-        PersonPromise { at }
+        PersonPipeline { at }
     }
 
     /// The number of the question, whose outcome can be waited for.
@@ -369,10 +371,10 @@ impl PersonPromise {
     }
 
     /// `spouse @11`.
-    pub fn spouse(&self) -> Result<PersonPromise, AllocError>
+    pub fn spouse(&self) -> Result<PersonPipeline, AllocError>
         ensures { IfOk result (λ p. p.at ≡ along self.now.at 4) }
     {
-        Ok(PersonPromise::of(self.at.field(4)?))
+        Ok(PersonPipeline::of(self.at.field(4)?))
     }
 }
 
@@ -380,7 +382,7 @@ impl PersonPromise {
 #[derive(Drop)]
 pub struct PersonEmploymentReader<'a> {
     /// The struct, by the places of its fields.
-    pub body: StructView<'a>,
+    pub body: StructReader<'a>,
 }
 
 impl<'a> PersonEmploymentReader<'a> {
@@ -392,14 +394,14 @@ impl<'a> PersonEmploymentReader<'a> {
     }
 
     /// `employer @5`.
-    pub fn employer(&self) -> Result<TextView<'a>, WrongKind>
+    pub fn employer(&self) -> Result<TextReader<'a>, WrongKind>
         ensures { result ≡ text_field [] (pointee_of self.now.body 3) }
     {
         self.body.text(3)
     }
 
     /// `school @6`.
-    pub fn school(&self) -> Result<TextView<'a>, WrongKind>
+    pub fn school(&self) -> Result<TextReader<'a>, WrongKind>
         ensures { result ≡ text_field [] (pointee_of self.now.body 3) }
     {
         self.body.text(3)
@@ -427,7 +429,7 @@ pub enum PersonEmploymentWhich {
     School,
     SelfEmployed,
     /// A number that a newer schema has.
-    Unknown(Past<3>),
+    Unknown(UnknownEnumerant<3>),
 }
 
 impl PersonEmploymentWhich {
@@ -440,7 +442,7 @@ impl PersonEmploymentWhich {
             1 => PersonEmploymentWhich::Employer,
             2 => PersonEmploymentWhich::School,
             3 => PersonEmploymentWhich::SelfEmployed,
-            _ => match Past::new(number) {
+            _ => match UnknownEnumerant::new(number) {
                 Some(number) => PersonEmploymentWhich::Unknown(number),
                 None => unreachable!(),
             },
@@ -452,9 +454,9 @@ impl PersonEmploymentWhich {
 #[derive(Drop)]
 pub enum PersonEmploymentMember<'a> {
     Unemployed,
-    Employer(TextView<'a>),
-    School(TextView<'a>),
+    Employer(TextReader<'a>),
+    School(TextReader<'a>),
     SelfEmployed,
     /// A member that a newer schema has.
-    Unknown(Past<3>),
+    Unknown(UnknownEnumerant<3>),
 }

@@ -5,15 +5,15 @@ ghost use Rattle.cp_words.specs.declared.pointer.ElementSize.TheVariants as size
 ghost use Rattle.cp_tree.specs.Seen.{pointee_of};
 ghost use Rattle.cp_fields.specs.Numbers.{plain};
 ghost use Rattle.cp_fields.specs.Pointers.{Reads, struct_field, text_field};
-ghost use Rattle.cp_builder.specs.declared.fault.DraftFault.TheVariants.{TooLong};
+ghost use Rattle.cp_builder.specs.declared.fault.BuildError.TheVariants.{TooLong};
 ghost use Rattle.cp_builder.specs.Drafts.{HoldsOneMore, blank, blank_list, text_tree, with_last, with_pointer, with_uint};
 ghost use Rattle.addressbook.specs.PersonPhoneNumberType.{person_phone_number_type_number};
 ghost use Rattle.addressbook.specs.PersonPhoneNumberType.{person_phone_number_type_of};
 
 use crate::person_phone_number_type::PersonPhoneNumberType;
-use cp_builder::{DraftFault, StructDraft, StructsDraft};
-use cp_fields::{Item, Pointee, StructView, TextView, WrongKind};
-use cp_stubs::{Lends, Promise, Results, Table};
+use cp_builder::{BuildError, StructBuilder, StructListBuilder};
+use cp_fields::{Element, PointerReader, StructReader, TextReader, WrongKind};
+use cp_interfaces::{CapTableBuilder, Lends, Results, TypedPipeline};
 use cp_tree::Whole;
 use std::alloc::{AllocError, Global};
 
@@ -21,10 +21,10 @@ use std::alloc::{AllocError, Global};
 #[derive(Drop)]
 pub struct PersonPhoneNumberReader<'a> {
     /// The struct, by the places of its fields.
-    pub body: StructView<'a>,
+    pub body: StructReader<'a>,
 }
 
-impl<'a> Item<'a> for PersonPhoneNumberReader<'a> {
+impl<'a> Element<'a> for PersonPhoneNumberReader<'a> {
     ghost SIZE = { sizes.Composite };
 
     ghost read = { λ t. record { body = t } };
@@ -35,23 +35,23 @@ impl<'a> Item<'a> for PersonPhoneNumberReader<'a> {
         cp_words::ElementSize::Composite
     }
 
-    fn of_item(item: StructView<'a>) -> PersonPhoneNumberReader<'a> {
+    fn of_element(item: StructReader<'a>) -> PersonPhoneNumberReader<'a> {
         PersonPhoneNumberReader { body: item }
     }
 }
 
 impl<'a> PersonPhoneNumberReader<'a> {
     /// The struct that a pointer stands for; null is the struct whose fields are all as by default.
-    pub fn of(at: Pointee<'a>) -> Result<PersonPhoneNumberReader<'a>, WrongKind>
+    pub fn of(at: PointerReader<'a>) -> Result<PersonPhoneNumberReader<'a>, WrongKind>
         ensures { Reads result (λ x. x.body) (struct_field at.entry) }
     {
         Ok(PersonPhoneNumberReader {
-            body: StructView::of(at)?,
+            body: StructReader::of(at)?,
         })
     }
 
     /// `number @0`.
-    pub fn number(&self) -> Result<TextView<'a>, WrongKind>
+    pub fn number(&self) -> Result<TextReader<'a>, WrongKind>
         ensures { result ≡ text_field [] (pointee_of self.now.body 0) }
     {
         self.body.text(0)
@@ -69,7 +69,7 @@ impl<'a> PersonPhoneNumberReader<'a> {
 #[derive(Drop)]
 pub struct PersonPhoneNumberBuilder {
     /// The struct, by the places of its fields.
-    pub body: StructDraft<1, 1>,
+    pub body: StructBuilder<1, 1>,
 }
 
 impl PersonPhoneNumberBuilder {
@@ -78,12 +78,12 @@ impl PersonPhoneNumberBuilder {
         ensures { IfOk result (λ d. d.body ≡ blank 1 1) }
     {
         Ok(PersonPhoneNumberBuilder {
-            body: StructDraft::new(alloc)?,
+            body: StructBuilder::new(alloc)?,
         })
     }
 
     /// Sets `number`.
-    pub fn set_number(&mut self, alloc: Global, value: &str) -> Result<(), DraftFault>
+    pub fn set_number(&mut self, alloc: Global, value: &str) -> Result<(), BuildError>
         ensures set { OnOk result (self.new.body ≡ with_pointer self.old.body 0 (text_tree value.now)) }
         ensures left { OnErr result (self.new ≡ self.old) }
         ensures long { result ≡ Err TooLong → 2 ^ 29 ≤ length value.now + 1 }
@@ -104,7 +104,7 @@ impl PersonPhoneNumberBuilder {
 #[derive(Drop)]
 pub struct PersonPhoneNumberListBuilder {
     /// The list.
-    pub items: StructsDraft<1, 1>,
+    pub items: StructListBuilder<1, 1>,
 }
 
 impl PersonPhoneNumberListBuilder {
@@ -113,12 +113,12 @@ impl PersonPhoneNumberListBuilder {
         ensures { result.items ≡ blank_list 1 1 }
     {
         PersonPhoneNumberListBuilder {
-            items: StructsDraft::new(alloc),
+            items: StructListBuilder::new(alloc),
         }
     }
 
     /// Adds a struct at the end.
-    pub fn push(&mut self, item: PersonPhoneNumberBuilder) -> Result<(), DraftFault>
+    pub fn push(&mut self, item: PersonPhoneNumberBuilder) -> Result<(), BuildError>
         ensures pushed { OnOk result (self.new.items ≡ with_last self.old.items item.body) }
         ensures left { OnErr result (self.new ≡ self.old) }
         ensures long { result ≡ Err TooLong → ¬ (HoldsOneMore self.old.items (1 + 1)) }
@@ -127,12 +127,12 @@ impl PersonPhoneNumberListBuilder {
     }
 }
 
-impl cp_services::ListValue for PersonPhoneNumberListBuilder {
+impl cp_interface_objects::ListValue for PersonPhoneNumberListBuilder {
     ghost tree = { λ l. l.items };
 
     ghost is_long = { λ l. ¬ (Unit {0}) };
 
-    fn into_list(self, alloc: Global) -> Result<Whole, DraftFault> {
+    fn into_list(self, alloc: Global) -> Result<Whole, BuildError> {
         let _ = alloc;
         Ok(self.items.into_whole())
     }
@@ -143,20 +143,20 @@ impl Results for PersonPhoneNumberBuilder {
 
     ghost names = { λ d. [] };
 
-    fn into_parts(self, alloc: Global) -> (Whole, Table) {
-        (self.body.into_whole(), Table::new(alloc))
+    fn into_parts(self, alloc: Global) -> (Whole, CapTableBuilder) {
+        (self.body.into_whole(), CapTableBuilder::new(alloc))
     }
 }
 
 /// `struct Person.PhoneNumber`, as a question will give it.
-pub type PersonPhoneNumberPromise = Promise<PersonPhoneNumberBuilder>;
+pub type PersonPhoneNumberPipeline = TypedPipeline<PersonPhoneNumberBuilder>;
 
 impl<'a> Lends<'a> for PersonPhoneNumberBuilder {
     type Reader = PersonPhoneNumberReader<'a>;
 
     ghost read = { λ x. x.body };
 
-    fn reader(body: StructView<'a>) -> PersonPhoneNumberReader<'a> {
+    fn reader(body: StructReader<'a>) -> PersonPhoneNumberReader<'a> {
         PersonPhoneNumberReader { body }
     }
 }

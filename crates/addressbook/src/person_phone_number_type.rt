@@ -5,7 +5,7 @@ ghost use Rattle.cp_words.specs.declared.pointer.ElementSize.TheVariants as size
 ghost use Rattle.cp_fields.specs.Numbers.{plain};
 ghost use Rattle.addressbook.specs.PersonPhoneNumberType.{person_phone_number_type_of, person_phone_number_type_number};
 
-use cp_fields::{Item, Past, StructView};
+use cp_fields::{Element, StructReader, UnknownEnumerant};
 
 /// `enum Person.PhoneNumber.Type`.
 #[derive(Clone, Copy, PartialEq, Eq, Debug)]
@@ -14,7 +14,7 @@ pub enum PersonPhoneNumberType {
     Home,
     Work,
     /// A number that a newer schema has.
-    Unknown(Past<2>),
+    Unknown(UnknownEnumerant<2>),
 }
 
 impl PersonPhoneNumberType {
@@ -26,7 +26,7 @@ impl PersonPhoneNumberType {
             0 => PersonPhoneNumberType::Mobile,
             1 => PersonPhoneNumberType::Home,
             2 => PersonPhoneNumberType::Work,
-            _ => match Past::new(number) {
+            _ => match UnknownEnumerant::new(number) {
                 Some(number) => PersonPhoneNumberType::Unknown(number),
                 None => unreachable!(),
             },
@@ -46,7 +46,7 @@ impl PersonPhoneNumberType {
     }
 }
 
-impl<'a> Item<'a> for PersonPhoneNumberType {
+impl<'a> Element<'a> for PersonPhoneNumberType {
     ghost SIZE = { sizes.TwoBytes };
 
     ghost read = { λ t. person_phone_number_type_of (plain t 16 0) };
@@ -55,12 +55,12 @@ impl<'a> Item<'a> for PersonPhoneNumberType {
         cp_words::ElementSize::TwoBytes
     }
 
-    fn of_item(item: StructView<'a>) -> PersonPhoneNumberType {
+    fn of_element(item: StructReader<'a>) -> PersonPhoneNumberType {
         PersonPhoneNumberType::of(item.u16(0))
     }
 }
 
-impl cp_services::Enumerant for PersonPhoneNumberType {
+impl cp_interface_objects::Enumerant for PersonPhoneNumberType {
     ghost number = { person_phone_number_type_number };
 
     fn as_number(&self) -> u16 {

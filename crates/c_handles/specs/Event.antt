@@ -11,8 +11,8 @@ use Rattle.cp_vat_machine.specs.declared.effect.Reason.{Reason}
 use Rattle.cp_vat_machine.specs.declared.effect.Reason.TheVariants as reasons
 use Rattle.cp_vat_machine.specs.declared.fault.PeerFault.{PeerFault}
 use Rattle.cp_vat_machine.specs.declared.fault.PeerFault.TheVariants as peers
-use Rattle.cp_connection.specs.declared.happening.Happening.{Happening}
-use Rattle.cp_connection.specs.declared.happening.Happening.TheVariants as happenings
+use Rattle.cp_connection.specs.declared.event.ConnectionEvent.{ConnectionEvent}
+use Rattle.cp_connection.specs.declared.event.ConnectionEvent.TheVariants as happenings
 use Rattle.c_handles.specs.declared.event.OriginNumbers.{OriginNumbers}
 use Rattle.c_handles.specs.declared.event.EventNumbers.{EventNumbers}
 
@@ -66,7 +66,7 @@ closing_numbers (reasons.Peer exception) = record nothing { kind = 3; exception 
 closing_numbers (reasons.Fault fault) = record nothing { kind = 3; outcome = fault_number fault }
 
 -- the numbers of what happened
-abbrev pub numbers_of : Option Happening → EventNumbers
+abbrev pub numbers_of : Option ConnectionEvent → EventNumbers
 numbers_of None = nothing
 numbers_of (Some (happenings.Delivered object origin ticket call)) =
     record nothing { kind = 1; object = object; origin = origin_numbers origin; ticket = ticket; interface = call.interface; method = call.method; caps = length call.caps }
@@ -74,19 +74,19 @@ numbers_of (Some (happenings.Settled question outcome)) = record (outcome_number
 numbers_of (Some (happenings.Closed reason)) = closing_numbers reason
 
 -- the content of an event's params or results
-abbrev pub content_of : Option Happening → Option Node
+abbrev pub content_of : Option ConnectionEvent → Option Node
 content_of (Some (happenings.Delivered object origin ticket call)) = Some call.content
 content_of (Some (happenings.Settled question (outcomes.Results content table))) = Some content
 content_of other = None
 
 -- their capability table
-abbrev pub table_of : Option Happening → List Cap
+abbrev pub table_of : Option ConnectionEvent → List Cap
 table_of (Some (happenings.Delivered object origin ticket call)) = call.caps
 table_of (Some (happenings.Settled question (outcomes.Results content table))) = table
 table_of other = []
 
 -- the reason of an event's exception: that of a question, or that of the peer's Abort
-abbrev pub reason_of : Option Happening → Option (List ℕ)
+abbrev pub reason_of : Option ConnectionEvent → Option (List ℕ)
 reason_of (Some (happenings.Settled question (outcomes.Failed exception))) = Some exception.reason
 reason_of (Some (happenings.Closed (reasons.Peer exception))) = Some exception.reason
 reason_of other = None

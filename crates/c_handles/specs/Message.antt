@@ -1,8 +1,8 @@
 -- A message of rpc.capnp as its numbers.
 use Rattle.std.specs.Prelude.{◌≡◌, ℕ, List, false}
 use Rattle.cp_words.specs.Limits.{Bounds}
-use Rattle.cp_messages.specs.declared.disembargo.Context.{Context}
-use Rattle.cp_messages.specs.declared.disembargo.Context.TheVariants as contexts
+use Rattle.cp_messages.specs.declared.disembargo.DisembargoContext.{DisembargoContext}
+use Rattle.cp_messages.specs.declared.disembargo.DisembargoContext.TheVariants as contexts
 use Rattle.cp_messages.specs.declared.message.Message.{Message}
 use Rattle.cp_messages.specs.declared.message.Message.TheVariants as messages
 use Rattle.cp_stream.specs.Stream.{Holds}
@@ -13,7 +13,7 @@ abbrev pub of_kind : ℕ → MessageNumbers
 of_kind n = record { kind = n; id = 0; interface = 0; method = 0; releases = false; count = 0 }
 
 -- the embargo of a disembargo that loops back
-abbrev pub embargo_of : Context → ℕ
+abbrev pub embargo_of : DisembargoContext → ℕ
 embargo_of (contexts.SenderLoopback embargo) = embargo
 embargo_of (contexts.ReceiverLoopback embargo) = embargo
 embargo_of other = 0

@@ -14,11 +14,11 @@ use crate::code::CallFault;
 use crate::content::{content_of, put_content};
 use crate::event::EventNumbers;
 use crate::fault::{fault_of, told};
-use cp_connection::{Connection, Happening};
+use cp_connection::{Connection, ConnectionEvent};
 use cp_frame::Mode;
 use cp_refs::{Cap, Caps, Origin, Outcome, Request};
 use cp_rpc::{Exception, ExceptionKind, Text};
-use cp_tree::{Past, Whole};
+use cp_tree::{UnknownEnumerant, Whole};
 use cp_vat_machine::Reason;
 use cp_words::Limits;
 use std::alloc::Global;
@@ -32,7 +32,7 @@ pub struct ConnectionState {
     pub alloc: Global,
     pub limits: Limits,
     pub connection: Connection,
-    pub event: Option<Happening>,
+    pub event: Option<ConnectionEvent>,
     pub lent: Vec<u8>,
 }
 
@@ -341,18 +341,18 @@ fn kind_of(number: u16) -> ExceptionKind
         1 => ExceptionKind::Overloaded,
         2 => ExceptionKind::Disconnected,
         3 => ExceptionKind::Unimplemented,
-        _ => ExceptionKind::Unknown(Past::of(number)),
+        _ => ExceptionKind::Unknown(UnknownEnumerant::of(number)),
     }
 }
 
 /// The content of an event's params or results.
-fn content_in(event: &Option<Happening>) -> Option<&Whole>
+fn content_in(event: &Option<ConnectionEvent>) -> Option<&Whole>
     ensures { MatchOption result (happened.content_of event.now ≡ None) (λ w. happened.content_of event.now ≡ Some w.now) }
 {
     match event {
-        Some(Happening::Delivered { call, .. }) => Some(&call.content),
+        Some(ConnectionEvent::Delivered { call, .. }) => Some(&call.content),
         Some(
-            Happening::Settled {
+            ConnectionEvent::Settled {
                 outcome: Outcome::Results { content, .. },
                 ..
             },
@@ -362,13 +362,13 @@ fn content_in(event: &Option<Happening>) -> Option<&Whole>
 }
 
 /// The capability table of an event's params or results.
-fn table_in(event: &Option<Happening>) -> &[Cap]
+fn table_in(event: &Option<ConnectionEvent>) -> &[Cap]
     ensures { result.now ≡ happened.table_of event.now }
 {
     match event {
-        Some(Happening::Delivered { call, .. }) => call.caps.caps(),
+        Some(ConnectionEvent::Delivered { call, .. }) => call.caps.caps(),
         Some(
-            Happening::Settled {
+            ConnectionEvent::Settled {
                 outcome: Outcome::Results { caps, .. },
                 ..
             },
@@ -378,17 +378,17 @@ fn table_in(event: &Option<Happening>) -> &[Cap]
 }
 
 /// The reason of an event's exception.
-fn reason_in(event: &Option<Happening>) -> Option<&[u8]>
+fn reason_in(event: &Option<ConnectionEvent>) -> Option<&[u8]>
     ensures { MatchOption result (happened.reason_of event.now ≡ None) (λ r. happened.reason_of event.now ≡ Some r.now) }
 {
     match event {
         Some(
-            Happening::Settled {
+            ConnectionEvent::Settled {
                 outcome: Outcome::Failed(exception),
                 ..
             },
         ) => Some(exception.reason.as_str().as_bytes()),
-        Some(Happening::Closed(Reason::Peer(exception))) => {
+        Some(ConnectionEvent::Closed(Reason::Peer(exception))) => {
             Some(exception.reason.as_str().as_bytes())
         }
         _ => None,

@@ -4,7 +4,7 @@ ghost use Rattle.std.specs.Prelude.{◌≡◌};
 ghost use Rattle.cp_messages.specs.Written.{kind_number};
 ghost use Rattle.c_handles.specs.Event.{origin_numbers, origin_of, numbers_of, outcome_numbers, closing_numbers, fault_number};
 
-use cp_connection::Happening;
+use cp_connection::ConnectionEvent;
 use cp_refs::{Origin, Outcome};
 use cp_rpc::ExceptionKind;
 use cp_vat_machine::{PeerFault, Reason};
@@ -92,13 +92,13 @@ impl EventNumbers {
     };
 
     /// The numbers of an event.
-    pub fn of(event: &Option<Happening>) -> EventNumbers
+    pub fn of(event: &Option<ConnectionEvent>) -> EventNumbers
         ensures { result ≡ numbers_of event.now }
     {
         match event {
             None => EventNumbers::NOTHING,
             Some(
-                Happening::Delivered {
+                ConnectionEvent::Delivered {
                     object,
                     origin,
                     ticket,
@@ -114,12 +114,12 @@ impl EventNumbers {
                 caps: call.caps.caps().len(),
                 ..EventNumbers::NOTHING
             },
-            Some(Happening::Settled { question, outcome }) => EventNumbers {
+            Some(ConnectionEvent::Settled { question, outcome }) => EventNumbers {
                 kind: 2,
                 question: *question,
                 ..outcome_numbers(outcome)
             },
-            Some(Happening::Closed(reason)) => closing_numbers(reason),
+            Some(ConnectionEvent::Closed(reason)) => closing_numbers(reason),
         }
     }
 }

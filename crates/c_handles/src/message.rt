@@ -6,7 +6,7 @@ ghost use Rattle.c_handles.specs.Check.{HoldsNoMessage};
 ghost use Rattle.c_handles.specs.Message.{HasNumbers, numbers_of, of_kind, embargo_of};
 
 use crate::code::CallFault;
-use cp_rpc::{Context, MessageIn, MessageView};
+use cp_rpc::{DisembargoContext, MessageIn, MessageView};
 use cp_stream::view_in;
 use cp_words::{Limits, Segments};
 
@@ -102,12 +102,12 @@ fn of_kind(kind: u32) -> MessageNumbers
 }
 
 /// The embargo of a disembargo that loops back.
-fn embargo_of(context: Context) -> u32
+fn embargo_of(context: DisembargoContext) -> u32
     ensures { result ≡ embargo_of context }
 {
     match context {
-        Context::SenderLoopback(embargo) => embargo,
-        Context::ReceiverLoopback(embargo) => embargo,
+        DisembargoContext::SenderLoopback(embargo) => embargo,
+        DisembargoContext::ReceiverLoopback(embargo) => embargo,
         _ => 0,
     }
 }

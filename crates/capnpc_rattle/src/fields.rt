@@ -16,7 +16,7 @@ pub const DEEPEST: u32 = 64;
 const MOST: usize = 4;
 
 /// What the code around arguments calls its own.
-const OURS: &str = "alloc ask caller mark params r request table";
+const OURS: &str = "alloc call call_id caller params r request table";
 
 /// Adds a node's names, and where a module finds it.
 pub fn named<'m>(model: &mut Model<'m>, book: &'m Book<'_>, key: &'static str, of: &'m Named) {
@@ -271,7 +271,7 @@ fn setter<'m>(
 /// Adds what a field will be, if it is a struct or a capability, and says whether it is.
 fn promised<'m>(model: &mut Model<'m>, book: &'m Book<'_>, slot: &'m Slot) -> bool {
     let (id, ending) = match slot.of.of {
-        Base::Struct(id) => (id, "Promise"),
+        Base::Struct(id) => (id, "Pipeline"),
         Base::Interface(id) => (id, "Client"),
         _ => return false,
     };

@@ -57,7 +57,7 @@ fn method<'m>(
 /// Adds the names of results, if there are such.
 fn results<'m>(model: &mut Model<'m>, book: &'m Book<'_>, id: u64) -> bool {
     if id == STREAM_RESULT {
-        model.texts(&[("Type", "NoFields"), ("from", "cp_stubs::")]);
+        model.texts(&[("Type", "NoFields"), ("from", "cp_interfaces::")]);
         return true;
     }
     match book.find(id) {

@@ -48,7 +48,7 @@ Writes a crate for each schema file into the current folder: readers and builder
 of its structs, and clients and servers of its interfaces.
 
   --crate=NAME  The crate's name, in place of the file's
-  --only=LIST   Readers alone, called views, with these methods: STRUCT.FIELD and
+  --only=LIST   Readers alone, with these methods: STRUCT.FIELD and
                 STRUCT.of with commas between; no types without one, and no members
                 of unions
   --print       Print the files, and write none

@@ -5,12 +5,12 @@ const AMBIGUOUS: &str = "Data Struct Structs Text";
 
 /// Types that generated code or definitions have from elsewhere.
 const TYPES: &str = "\
-    AllocError Anything Ask Bool Box CallTarget Caller Cap CapFault Caps Constant \
-    ConstantBody DataView Dispatch DraftFault Drop Err Finds Global Here HoldsOneMore \
-    IsElsewhere Item Lends List ListRef Makes MakesOf Method MethodCall MethodFault \
-    MethodResult NamedResults None Ok Option Passes Past Pointee Promise Promised Reads \
-    Refuses Reply Request Result ResultPayload Results Self ServedObject ServiceCall \
-    ServiceObject Some String StructDraft StructView StructsDraft Table TextView TooLong \
+    AllocError Anything OutgoingCall Bool Box CallTarget Caller Cap CapFault Caps Constant \
+    ConstantBody DataReader Dispatch BuildError Drop Err Finds Global Context HoldsOneMore \
+    IsElsewhere Element Lends List ListRef Makes MakesOf Method MethodCall MethodFault \
+    MethodResult NamedResults None Ok Option Passes UnknownEnumerant PointerReader TypedPipeline Pipeline Reads \
+    Refuses Reply Request Result ResultPayload Results Self ObjectDispatch ServiceCall \
+    ServiceObject Some String StructBuilder StructReader StructListBuilder CapTableBuilder TextReader TooLong \
     Tree Type TypedClient TypedResolver Unit Vec Whole WrongKind";
 
 /// Words of Rattle.
@@ -28,7 +28,7 @@ const OF_PROOFS: &str = "\
 
 /// Methods that each view has, of its own or of every type, and files of each crate, and libraries.
 const OF_CRATES: &str = "\
-    body clone into member of of_item size try_into which \
+    body clone into member of of_element size try_into which \
     constants contracts core declared lib main specs std";
 
 /// Methods that each promise has.

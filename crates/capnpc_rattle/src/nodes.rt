@@ -28,7 +28,7 @@ pub fn node<'m>(model: &mut Model<'m>, book: &'m Book<'_>, of: &'m Node, with: &
             model.text("kind", "enum");
             model.number("numbered", 1);
             if items.is_empty() {
-                // `Past` needs a last value.
+                // `UnknownEnumerant` needs a last value.
                 model.refuse(of.name(), "", "an enum without values can't be written");
             }
             enumeration(model, book, of.id, items.as_slice());

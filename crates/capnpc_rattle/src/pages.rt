@@ -13,12 +13,12 @@ use std::alloc::{AllocError, Global};
 /// The libraries that builders, clients and servers stand on.
 const LIBRARIES: &str = "\
 cp_builder
-cp_makers
+cp_objects
 cp_refs
 cp_rpc
 cp_servants
-cp_services
-cp_stubs
+cp_interface_objects
+cp_interfaces
 cp_tables
 cp_vat_machine
 ";
@@ -137,7 +137,7 @@ fn model_of<'b>(book: &'b Book<'_>, target: Target<'b>, module: &'b str) -> Mode
     model.text("schema", target.schema);
     model.text("krate", target.krate);
     model.text("module", module);
-    let ending = if book.is_whole() { "Reader" } else { "View" };
+    let ending = "Reader";
     model.text("Reader", ending);
     model.texts(&[
         ("body", "self.now.body"),

@@ -12,11 +12,11 @@ cp_fields.specs.Numbers flag plain uint
 cp_fields.specs.Pointers Reads cap_field data_field held list_field or_default struct_field text_field
 cp_fields.specs.declared.kind.WrongKind WrongKind
 cp_builder.specs.Numbers flag_bit
-cp_builder.specs.declared.fault.DraftFault.TheVariants TooLong
+cp_builder.specs.declared.fault.BuildError.TheVariants TooLong
 cp_builder.specs.Drafts HoldsOneMore bits_tree blank blank_list bytes_tree cap_tree halves_tree quads_tree text_tree with_last with_pointer with_uint words_tree
 cp_servants.specs.Naming pointer_naming with_named
-cp_stubs.specs.Calls ask_of request_of
-cp_stubs.specs.Promises Finds along promised_cap
+cp_interfaces.specs.Calls outgoing_call_of request_of
+cp_interfaces.specs.Promises Finds along promised_cap
 ";
 
 /// Where definitions have the kinds that a pointer may be of from.
@@ -24,21 +24,24 @@ const WRONG_KIND: &str = "cp_fields.specs.declared.kind.WrongKind";
 
 /// The types of cp_fields that generated code cites, each with parts of a text that has it: a variant may be called so too.
 const FIELDS: [(&str, &[&str]); 8] = [
-    ("DataView", &["DataView<", "DataView::"]),
-    ("Item", &["Item<", "Item::"]),
+    ("DataReader", &["DataReader<", "DataReader::"]),
+    ("Element", &["Element<", "Element::"]),
     ("List", &["List<", "List::"]),
-    ("Past", &["Past<", "Past::"]),
-    ("Pointee", &["Pointee<", "Pointee::"]),
-    ("StructView", &["StructView<", "StructView::"]),
-    ("TextView", &["TextView<", "TextView::"]),
+    (
+        "UnknownEnumerant",
+        &["UnknownEnumerant<", "UnknownEnumerant::"],
+    ),
+    ("PointerReader", &["PointerReader<", "PointerReader::"]),
+    ("StructReader", &["StructReader<", "StructReader::"]),
+    ("TextReader", &["TextReader<", "TextReader::"]),
     ("WrongKind", &["WrongKind>", "WrongKind<", "WrongKind::"]),
 ];
 
 /// The paths of the types of other libraries that the code of builders cites.
 const BUILDERS: [&str; 8] = [
-    "cp_builder::DraftFault",
-    "cp_builder::StructDraft",
-    "cp_builder::StructsDraft",
+    "cp_builder::BuildError",
+    "cp_builder::StructBuilder",
+    "cp_builder::StructListBuilder",
     "cp_tree::Whole",
     "std::alloc::AllocError",
     "std::alloc::Global",

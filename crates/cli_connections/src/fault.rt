@@ -36,7 +36,7 @@ pub(crate) enum CommandFault<'a> {
         error: io::Error,
     },
     /// The file of this path isn't a message.
-    Content {
+    PayloadBuilder {
         path: &'a str,
     },
     /// The connection can't be made, or a call of it failed.
@@ -87,7 +87,7 @@ impl CommandFault<'_> {
     /// The status after it was said.
     fn status(&self) -> u8 {
         match self {
-            CommandFault::Content { .. }
+            CommandFault::PayloadBuilder { .. }
             | CommandFault::Closed(_)
             | CommandFault::Unmade { .. }
             | CommandFault::Refused(_)
@@ -112,7 +112,7 @@ impl Display for CommandFault<'_> {
                 "{address}: not HOST:PORT, nor the path of a Unix socket, with a slash or after unix:"
             ),
             CommandFault::File { path, error } => device(f, path, error),
-            CommandFault::Content { path } => write!(f, "refused: {path} isn't a message"),
+            CommandFault::PayloadBuilder { path } => write!(f, "refused: {path} isn't a message"),
             CommandFault::Device { address, error } => device(f, address, error),
             CommandFault::Printing(error) => device(f, "can't write", error),
             CommandFault::Silent { address, seconds } => {

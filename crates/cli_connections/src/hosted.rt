@@ -5,7 +5,7 @@ use cp_commands::{ACCEPTED, BROKEN, ListenAddress, REFUSED, Service};
 use cp_servants::Sample;
 use cp_session::SessionLimits;
 use cp_words::Limits;
-use net_host::{Crowd, End, Host, HostLimits, HostPlan, News};
+use net_host::{End, Host, HostConfig, HostEvent, HostLimits, WhenFull};
 use net_sockets::{Listener, Peer};
 use std::alloc::{AllocGlobal, Global};
 use std::fs::Files;
@@ -38,19 +38,19 @@ where
 }
 
 /// The plan of a service's host.
-fn host_plan(service: &Service) -> HostPlan {
+fn host_plan(service: &Service) -> HostConfig {
     let standard = SessionLimits::standard();
     let idle = match service.idle {
         Some(seconds) => seconds as u64 * 1_000,
         None => standard.idle,
     };
-    HostPlan {
+    HostConfig {
         mode: service.mode,
         messages: Limits::standard(),
         limits: HostLimits {
             connections: service.at_once as usize,
             // Further connections wait, as they do at `serve`.
-            crowd: Crowd::Wait,
+            when_full: WhenFull::Wait,
             session: SessionLimits { idle, ..standard },
             ..HostLimits::standard()
         },
@@ -94,14 +94,19 @@ where
 
 /// Does what news of a connection asks, and gives the status that it leads to. One that can't be served has ended by that; the
 /// others go on.
-fn hear<E: Write>(alloc: Global, host: &mut Host<Vec<Sample>>, news: &News, err: &mut E) -> u8 {
+fn hear<E: Write>(
+    alloc: Global,
+    host: &mut Host<Vec<Sample>>,
+    news: &HostEvent,
+    err: &mut E,
+) -> u8 {
     match news {
-        News::Came { peer, .. } => match admit(alloc, host) {
+        HostEvent::Connected { peer, .. } => match admit(alloc, host) {
             Ok(()) => ACCEPTED,
             Err(error) => report(&End::Failed(error), *peer, err),
         },
-        News::Refused { .. } | News::Woken => ACCEPTED,
-        News::Ended { peer, end, .. } => report(end, *peer, err),
+        HostEvent::Refused { .. } | HostEvent::Woken => ACCEPTED,
+        HostEvent::Ended { peer, end, .. } => report(end, *peer, err),
     }
 }
 

@@ -279,7 +279,7 @@ fn stored<'w, N: Files + AllocGlobal>(rt: &N, path: &'w str) -> Result<Whole, Co
     drop(bytes);
     match content {
         Some(content) => Ok(content),
-        None => Err(CommandFault::Content { path }),
+        None => Err(CommandFault::PayloadBuilder { path }),
     }
 }
 

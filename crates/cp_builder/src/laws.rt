@@ -52,7 +52,7 @@ pub fn sections_stay()
     ensures number { (t : Node) (i : ℕ) (x : Node) (w j : ℕ) → plain (with_pointer t i x) w j ≡ plain t w j }
 {}
 
-/// A draft of a struct that was read has the fields that were read.
+/// A builder of a struct that was read has the fields that were read.
 #[tactic(auto, using(crate::proofs::Widened::number_kept, crate::proofs::Widened::pointer_kept))]
 pub fn fields_are_kept()
     ensures number { (d n : ℕ) (t : Node) (w i : ℕ) → plain (widened d n t) w i ≡ plain t w i }

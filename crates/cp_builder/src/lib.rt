@@ -10,15 +10,15 @@ mod parts;
 mod structure;
 mod views;
 
-pub use fault::DraftFault;
+pub use fault::BuildError;
 pub use laws::{
     bits_come_back, fields_are_kept, numbers_come_back, numbers_stay,
     numbers_with_defaults_come_back, pointers_come_back, pointers_stay, sections_stay,
     texts_come_back,
 };
-pub use lists::StructsDraft;
+pub use lists::StructListBuilder;
 pub use parts::{
     bits_of, bytes_of, cap_of, four_bytes_of, pointers_of, text_of, two_bytes_of, voids_of,
     words_of,
 };
-pub use structure::StructDraft;
+pub use structure::StructBuilder;

@@ -2,10 +2,10 @@
 
 ghost use Rattle.std.specs.Prelude.{◌≡◌, ◌<◌, ◌≤◌, ◌+◌, ◌*◌, ◌^◌, Err, OnOk, OnErr, IfErr};
 ghost use Rattle.cp_builder.specs.Drafts.{blank_list, with_last, HoldsOneMore};
-ghost use Rattle.cp_builder.specs.declared.fault.DraftFault.TheVariants.{TooLong};
+ghost use Rattle.cp_builder.specs.declared.fault.BuildError.TheVariants.{TooLong};
 
-use crate::fault::DraftFault;
-use crate::structure::StructDraft;
+use crate::fault::BuildError;
+use crate::structure::StructBuilder;
 use cp_tree::{Body, Tree, Whole};
 use std::alloc::{AllocError, Global};
 use std::marker::Model;
@@ -17,18 +17,18 @@ const MOST_ITEMS: usize = 0x4000_0000;
 const MOST_WORDS: usize = 0x2000_0000;
 
 /// A list of structs to be written, each of `W` data words and `P` pointers. Contracts see it as its tree.
-pub struct StructsDraft<const W: usize, const P: usize> {
+pub struct StructListBuilder<const W: usize, const P: usize> {
     items: Vec<Body>,
 }
 
 // Not derived: a crate that lets one go calls this function, and need not prove the drop of all that it holds.
-impl<const W: usize, const P: usize> Drop for StructsDraft<W, P> {
+impl<const W: usize, const P: usize> Drop for StructListBuilder<W, P> {
     fn drop(self) {
-        let StructsDraft { items: _ } = self;
+        let StructListBuilder { items: _ } = self;
     }
 }
 
-impl<const W: usize, const P: usize> Model for StructsDraft<W, P> {
+impl<const W: usize, const P: usize> Model for StructListBuilder<W, P> {
     ghost use Rattle.cp_tree.specs.Node.{Node};
     ghost use Rattle.cp_tree.specs.Code.{tree_code};
 
@@ -46,18 +46,18 @@ impl<const W: usize, const P: usize> Model for StructsDraft<W, P> {
     ghost invariant = { λ l. Shaped (structs W P (bodies_of (map body_of l.items.items))) };
 }
 
-impl<const W: usize, const P: usize> StructsDraft<W, P> {
+impl<const W: usize, const P: usize> StructListBuilder<W, P> {
     ghost use Rattle.std.specs.Prelude.{◌≡◌, ◌<◌, ◌≤◌, ◌+◌, ◌*◌, ◌^◌, Err, OnOk, OnErr};
     ghost use Rattle.cp_builder.specs.Drafts.{blank_list, with_last, HoldsOneMore};
-    ghost use Rattle.cp_builder.specs.declared.fault.DraftFault.TheVariants.{TooLong};
+    ghost use Rattle.cp_builder.specs.declared.fault.BuildError.TheVariants.{TooLong};
 
     /// No struct yet.
-    pub fn new(alloc: Global) -> StructsDraft<W, P>
+    pub fn new(alloc: Global) -> StructListBuilder<W, P>
         requires words { W < 2 ^ 16 }
         requires pointers { P < 2 ^ 16 }
         ensures { result ≡ blank_list W P }
     {
-        StructsDraft {
+        StructListBuilder {
             items: Vec::new(alloc),
         }
     }
@@ -66,14 +66,14 @@ impl<const W: usize, const P: usize> StructsDraft<W, P> {
     /// `TooLong` says that the list has no room for it: a list has fewer than 2^30 structs, which take fewer than
     /// 2^29 words together.
     #[tactic(auto, using(cp_tree::proofs::Trees::number_in))]
-    pub fn push(&mut self, item: StructDraft<W, P>) -> Result<(), DraftFault>
+    pub fn push(&mut self, item: StructBuilder<W, P>) -> Result<(), BuildError>
         ensures pushed { OnOk result (self.new ≡ with_last self.old item.entry) }
         ensures left { OnErr result (self.new ≡ self.old) }
         ensures long { result ≡ Err TooLong → ¬ (HoldsOneMore self.old (W + P)) }
     {
         let count = self.items.len() + 1;
         if count >= MOST_ITEMS || count * (W + P) >= MOST_WORDS {
-            return Err(DraftFault::TooLong);
+            return Err(BuildError::TooLong);
         }
         self.add(item)?;
         Ok(())
@@ -83,7 +83,7 @@ impl<const W: usize, const P: usize> StructsDraft<W, P> {
     pub fn into_whole(self) -> Whole
         ensures { result ≡ self.entry }
     {
-        let StructsDraft { items } = self;
+        let StructListBuilder { items } = self;
         Whole::from_shaped(Tree::Structs {
             words: W as u16,
             ptrs: P as u16,
@@ -93,12 +93,12 @@ impl<const W: usize, const P: usize> StructsDraft<W, P> {
 
     /// Adds a struct at the end of a list that has room for it.
     #[inline]
-    fn add(&mut self, item: StructDraft<W, P>) -> Result<(), AllocError>
+    fn add(&mut self, item: StructBuilder<W, P>) -> Result<(), AllocError>
         requires { HoldsOneMore self.old (W + P) }
         ensures pushed { OnOk result (self.new ≡ with_last self.old item.entry) }
         ensures left { OnErr result (self.new ≡ self.old) }
     {
-        self.items.push(item.into_item())?;
+        self.items.push(item.into_element())?;
         Ok(())
     }
 }

@@ -3,9 +3,9 @@
 ghost use Rattle.std.specs.Prelude.{◌≡◌, ◌<◌, ◌≤◌, ◌+◌, ◌^◌};
 ghost use Rattle.cp_builder.specs.Numbers.{put};
 
-use crate::structure::StructDraft;
+use crate::structure::StructBuilder;
 
-impl<const W: usize, const P: usize> StructDraft<W, P> {
+impl<const W: usize, const P: usize> StructBuilder<W, P> {
     ghost use Rattle.std.specs.Prelude.{◌≡◌, ◌<◌, ◌≤◌, ◌+◌, ◌*◌, ◌/◌, ◌%◌, ◌^◌};
     ghost use Rattle.cp_builder.specs.Numbers.{flag_bit};
     ghost use Rattle.cp_builder.specs.Drafts.{with_uint};

@@ -5,9 +5,9 @@ ghost use Rattle.cp_tree.specs.Node.{list, ptrs, voids, bytes, halves, quads, wo
 ghost use Rattle.cp_tree.specs.NodeOf.{node_of, nodes_of};
 ghost use Rattle.cp_tree.specs.Shaped.{ElementsFit, EachShaped};
 ghost use Rattle.cp_builder.specs.Drafts.{text_tree, bits_tree, bytes_tree, halves_tree, quads_tree, words_tree, cap_tree};
-ghost use Rattle.cp_builder.specs.declared.fault.DraftFault.TheVariants.{TooLong};
+ghost use Rattle.cp_builder.specs.declared.fault.BuildError.TheVariants.{TooLong};
 
-use crate::fault::DraftFault;
+use crate::fault::BuildError;
 use cp_tree::{Tree, Whole};
 use std::alloc::{AllocError, Global};
 
@@ -16,7 +16,7 @@ const MOST: usize = 0x2000_0000;
 
 /// A text: its bytes, and a zero byte after them.
 #[inline]
-pub fn text_of(alloc: Global, text: &str) -> Result<Whole, DraftFault>
+pub fn text_of(alloc: Global, text: &str) -> Result<Whole, BuildError>
     ensures text { IfOk result (λ whole. whole ≡ text_tree text.now) }
     ensures long { result ≡ Err TooLong → 2 ^ 29 ≤ length text.now + 1 }
 {
@@ -24,68 +24,68 @@ pub fn text_of(alloc: Global, text: &str) -> Result<Whole, DraftFault>
 }
 
 /// A list of this many elements without bits.
-pub fn voids_of(count: u32) -> Result<Whole, DraftFault>
+pub fn voids_of(count: u32) -> Result<Whole, BuildError>
     ensures list { IfOk result (λ whole. whole ≡ list (voids count)) }
     ensures long { IfErr result (λ fault. (fault ≡ TooLong) × (2 ^ 29 ≤ count)) }
 {
     if count as usize >= MOST {
-        return Err(DraftFault::TooLong);
+        return Err(BuildError::TooLong);
     }
     Ok(Whole::from_shaped(Tree::Voids(count)))
 }
 
 /// A list of bits.
-pub fn bits_of(items: Vec<bool>) -> Result<Whole, DraftFault>
+pub fn bits_of(items: Vec<bool>) -> Result<Whole, BuildError>
     ensures list { IfOk result (λ whole. whole ≡ bits_tree items.items) }
     ensures long { IfErr result (λ fault. (fault ≡ TooLong) × (2 ^ 29 ≤ length items.items)) }
 {
     if items.len() >= MOST {
-        return Err(DraftFault::TooLong);
+        return Err(BuildError::TooLong);
     }
     Ok(Whole::from_shaped(Tree::Bits(items)))
 }
 
 /// A list of bytes, or data.
 #[inline]
-pub fn bytes_of(items: Vec<u8>) -> Result<Whole, DraftFault>
+pub fn bytes_of(items: Vec<u8>) -> Result<Whole, BuildError>
     ensures list { IfOk result (λ whole. whole ≡ bytes_tree items.items) }
     ensures long { IfErr result (λ fault. (fault ≡ TooLong) × (2 ^ 29 ≤ length items.items)) }
 {
     if !are_bytes(&items) {
-        return Err(DraftFault::TooLong);
+        return Err(BuildError::TooLong);
     }
     Ok(Whole::from_shaped(Tree::Bytes(items)))
 }
 
 /// A list of numbers of 16 bits.
-pub fn two_bytes_of(items: Vec<u16>) -> Result<Whole, DraftFault>
+pub fn two_bytes_of(items: Vec<u16>) -> Result<Whole, BuildError>
     ensures list { IfOk result (λ whole. whole ≡ halves_tree items.items) }
     ensures long { IfErr result (λ fault. (fault ≡ TooLong) × (2 ^ 29 ≤ length items.items)) }
 {
     if !are_two_bytes(&items) {
-        return Err(DraftFault::TooLong);
+        return Err(BuildError::TooLong);
     }
     Ok(Whole::from_shaped(Tree::Halves(items)))
 }
 
 /// A list of numbers of 32 bits.
-pub fn four_bytes_of(items: Vec<u32>) -> Result<Whole, DraftFault>
+pub fn four_bytes_of(items: Vec<u32>) -> Result<Whole, BuildError>
     ensures list { IfOk result (λ whole. whole ≡ quads_tree items.items) }
     ensures long { IfErr result (λ fault. (fault ≡ TooLong) × (2 ^ 29 ≤ length items.items)) }
 {
     if !are_four_bytes(&items) {
-        return Err(DraftFault::TooLong);
+        return Err(BuildError::TooLong);
     }
     Ok(Whole::from_shaped(Tree::Quads(items)))
 }
 
 /// A list of numbers of 64 bits.
-pub fn words_of(items: Vec<u64>) -> Result<Whole, DraftFault>
+pub fn words_of(items: Vec<u64>) -> Result<Whole, BuildError>
     ensures list { IfOk result (λ whole. whole ≡ words_tree items.items) }
     ensures long { IfErr result (λ fault. (fault ≡ TooLong) × (2 ^ 29 ≤ length items.items)) }
 {
     if !are_words(&items) {
-        return Err(DraftFault::TooLong);
+        return Err(BuildError::TooLong);
     }
     Ok(Whole::from_shaped(Tree::Words(items)))
 }
@@ -98,12 +98,12 @@ pub fn cap_of(index: u32) -> Whole
 }
 
 /// A list of pointers: texts, data, lists, or structs of any kind.
-pub fn pointers_of(alloc: Global, items: Vec<Whole>) -> Result<Whole, DraftFault>
+pub fn pointers_of(alloc: Global, items: Vec<Whole>) -> Result<Whole, BuildError>
     ensures list { IfOk result (λ whole. whole ≡ ptrs (nodes_of items.items)) }
     ensures long { result ≡ Err TooLong → 2 ^ 29 ≤ length items.items }
 {
     if items.len() >= MOST {
-        return Err(DraftFault::TooLong);
+        return Err(BuildError::TooLong);
     }
     Ok(Whole::from_shaped(Tree::Ptrs(trees_of(alloc, items)?)))
 }

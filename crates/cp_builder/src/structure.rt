@@ -13,22 +13,22 @@ use std::marker::Model;
 /// the start of the data section. A message can hold it at any time. Contracts see it as its tree.
 /// It is a tree and not a run of words, though a run is built and written in less than half the time: requests and
 /// outcomes want owned trees, and each level of a run would copy what is below it.
-pub struct StructDraft<const W: usize, const P: usize> {
+pub struct StructBuilder<const W: usize, const P: usize> {
     pub(crate) words: Vec<u64>,
     pub(crate) pointers: Vec<Tree>,
 }
 
 // Not derived: a crate that lets one go calls this function, and need not prove the drop of all that it holds.
-impl<const W: usize, const P: usize> Drop for StructDraft<W, P> {
+impl<const W: usize, const P: usize> Drop for StructBuilder<W, P> {
     fn drop(self) {
-        let StructDraft {
+        let StructBuilder {
             words: _,
             pointers: _,
         } = self;
     }
 }
 
-impl<const W: usize, const P: usize> Model for StructDraft<W, P> {
+impl<const W: usize, const P: usize> Model for StructBuilder<W, P> {
     ghost use Rattle.cp_tree.specs.Node.{Node};
     ghost use Rattle.cp_tree.specs.Code.{tree_code};
 
@@ -46,7 +46,7 @@ impl<const W: usize, const P: usize> Model for StructDraft<W, P> {
     ghost invariant = { λ d. HasSizes (length d.words.items) (length d.pointers.items) × (W ≤ length d.words.items) × (P ≤ length d.pointers.items) × EachShaped (nodes_of (map node_of d.pointers.items)) };
 }
 
-impl<const W: usize, const P: usize> StructDraft<W, P> {
+impl<const W: usize, const P: usize> StructBuilder<W, P> {
     ghost use Rattle.std.specs.Prelude.{◌≡◌, ◌<◌, ◌^◌, [], ◌∷◌, IfOk};
     ghost use Rattle.cp_tree.specs.Node.{struct, structs, Bodies};
     ghost use Rattle.cp_tree.specs.NodeOf.{body_of, bodies_of};
@@ -54,7 +54,7 @@ impl<const W: usize, const P: usize> StructDraft<W, P> {
     ghost use Rattle.cp_builder.specs.Drafts.{blank, bodies_then, with_last, with_pointer};
 
     /// A struct whose fields are all as by default.
-    pub fn new(alloc: Global) -> Result<StructDraft<W, P>, AllocError>
+    pub fn new(alloc: Global) -> Result<StructBuilder<W, P>, AllocError>
         requires words { W < 2 ^ 16 }
         requires pointers { P < 2 ^ 16 }
         ensures { IfOk result (λ d. d ≡ blank W P) }
@@ -62,7 +62,7 @@ impl<const W: usize, const P: usize> StructDraft<W, P> {
         let words = vec![in alloc; 0; W]?;
         let mut pointers = Vec::with_capacity(alloc, P)?;
         push_nulls(&mut pointers, P)?;
-        Ok(StructDraft { words, pointers })
+        Ok(StructBuilder { words, pointers })
     }
 
     /// Sets what pointer `i` stands for.
@@ -76,12 +76,12 @@ impl<const W: usize, const P: usize> StructDraft<W, P> {
 
     /// The struct as an element of a list: the fields of the list's schema alone, since its elements are all of one size.
     #[inline]
-    pub(crate) fn into_item(self) -> Body
+    pub(crate) fn into_element(self) -> Body
         ensures added { (bs : Bodies) → with_last (structs W P bs) self.entry ≡ structs W P (bodies_then bs (body_of result).0 (body_of result).1) }
         ensures sizes { HasSizes W P }
         ensures even { EachEven W P (bodies_of (body_of result ∷ [])) }
     {
-        let StructDraft {
+        let StructBuilder {
             mut words,
             pointers: mut ptrs,
         } = self;
@@ -99,7 +99,7 @@ impl<const W: usize, const P: usize> StructDraft<W, P> {
         ensures body { struct (body_of result).0 (body_of result).1 ≡ self.entry }
         ensures shaped { Shaped self.entry }
     {
-        let StructDraft { words, pointers } = self;
+        let StructBuilder { words, pointers } = self;
         fit(&words);
         Body {
             words,

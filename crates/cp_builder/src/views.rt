@@ -5,21 +5,24 @@ ghost use Rattle.cp_tree.specs.Node.{null, struct};
 ghost use Rattle.cp_tree.specs.NodeOf.{node_of, body_of};
 ghost use Rattle.cp_tree.specs.Shaped.{Shaped};
 
-use crate::fault::DraftFault;
-use crate::structure::StructDraft;
-use cp_fields::StructView;
+use crate::fault::BuildError;
+use crate::structure::StructBuilder;
+use cp_fields::StructReader;
 use cp_tree::{Body, Object, Tree};
 use std::alloc::{AllocError, Global};
 
-impl<const W: usize, const P: usize> StructDraft<W, P> {
+impl<const W: usize, const P: usize> StructBuilder<W, P> {
     ghost use Rattle.std.specs.Prelude.{◌≡◌, ◌<◌, ◌^◌, Err, IfOk, OnOk};
     ghost use Rattle.cp_tree.specs.Shaped.{Shaped};
     ghost use Rattle.cp_builder.specs.Drafts.{widened};
-    ghost use Rattle.cp_builder.specs.declared.fault.DraftFault.TheVariants.{TooLong};
+    ghost use Rattle.cp_builder.specs.declared.fault.BuildError.TheVariants.{TooLong};
 
-    /// A draft of a struct that was read where it lies. `TooLong` says that it is owned, and no message can hold it.
+    /// A builder of a struct that was read where it lies. `TooLong` says that it is owned, and no message can hold it.
     /// It keeps all that the struct has, so that what a newer schema's program wrote goes on.
-    pub fn of_view(alloc: Global, view: &StructView<'_>) -> Result<StructDraft<W, P>, DraftFault>
+    pub fn of_view(
+        alloc: Global,
+        view: &StructReader<'_>,
+    ) -> Result<StructBuilder<W, P>, BuildError>
         requires words { W < 2 ^ 16 }
         requires pointers { P < 2 ^ 16 }
         ensures taken { IfOk result (λ d. d ≡ widened W P view.now) }
@@ -27,21 +30,21 @@ impl<const W: usize, const P: usize> StructDraft<W, P> {
         ensures long { result ≡ Err TooLong → ¬ (Shaped view.now) }
     {
         match Object::new(view.tree(alloc)?) {
-            Ok(object) => Ok(StructDraft::of_object(object)?),
+            Ok(object) => Ok(StructBuilder::of_object(object)?),
             // What is read in place always fits a message; an owned struct may not.
-            Err(_) => Err(DraftFault::TooLong),
+            Err(_) => Err(BuildError::TooLong),
         }
     }
 
-    /// A draft of a struct that was read and is owned. Nothing of it is copied.
-    pub fn of_object(object: Object) -> Result<StructDraft<W, P>, AllocError>
+    /// A builder of a struct that was read and is owned. Nothing of it is copied.
+    pub fn of_object(object: Object) -> Result<StructBuilder<W, P>, AllocError>
         requires words { W < 2 ^ 16 }
         requires pointers { P < 2 ^ 16 }
         ensures { IfOk result (λ d. d ≡ widened W P object) }
     {
         let body = body_in(object);
         let words = filled(body.words, W)?;
-        Ok(StructDraft {
+        Ok(StructBuilder {
             words,
             pointers: with_nulls(body.ptrs, P)?,
         })

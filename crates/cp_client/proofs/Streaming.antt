@@ -1,9 +1,9 @@
 -- How the questions of a stream end, one after another.
 use Rattle.std.proofs.Common.{◌≡◌, ℕ, List, [], ◌∷◌, ◌++◌, Option, Some, None, Result, Ok, Err, IfErr, refl, sym, ap, ◌∙◌, subst, append_assoc, drop, length, ◌<◌, is_none, true≢false, arith}
-use Rattle.cp_makers.specs.Hall.{HallKind}
+use Rattle.cp_objects.specs.ObjectTable.{ObjectTableKind}
 use Rattle.cp_client.specs.Conversation.{Conversation}
-use Rattle.cp_client.specs.declared.fault.StreamingFault.{StreamingFault}
-use Rattle.cp_client.specs.Streams.{Flow, Ends, EndsEach, IsFull, IsUnended, MakesRoom, due, oldest}
+use Rattle.cp_client.specs.declared.fault.CallError.{CallError}
+use Rattle.cp_client.specs.CallWindows.{Flow, Ends, EndsEach, IsFull, IsUnended, MakesRoom, due, oldest}
 
 abbrev or_else : ℕ → Option ℕ → ℕ
 or_else d None = d
@@ -29,15 +29,15 @@ pub popped : {f g : Flow} {left : List ℕ} → g ≡ f → left ≡ drop 1 g.un
 popped {f} {g} {left} view rest = subst (λ (h : Flow). left ≡ drop 1 h.under_way) view rest
 
 -- there is room for one more call of a stream as it is seen
-pub room_seen : {H : Type 0} {f g : Flow} (hall : HallKind H) (asked : List ℕ) (old new : Conversation H) (first : Option ℕ) → g ≡ f
-    → MakesRoom hall asked old first f.under_way new → MakesRoom hall asked old first g.under_way new
-room_seen {f = f} {g = g} hall asked old new first view room = subst (λ (h : Flow). MakesRoom hall asked old first h.under_way new) (sym view) room
+pub room_seen : {H : Type 0} {f g : Flow} (table : ObjectTableKind H) (asked : List ℕ) (old new : Conversation H) (first : Option ℕ) → g ≡ f
+    → MakesRoom table asked old first f.under_way new → MakesRoom table asked old first g.under_way new
+room_seen {f = f} {g = g} table asked old new first view room = subst (λ (h : Flow). MakesRoom table asked old first h.under_way new) (sym view) room
 
 -- there is no room where the question doesn't end that has to
-pub is_full : {H : Type 0} (hall : HallKind H) (flow : Flow) (old : Conversation H) (q : ℕ) (result : Result (Unit {0}) StreamingFault) (left : List ℕ) (new : Conversation H)
-    → due flow ≡ Some q → IfErr result (λ fault. IsUnended hall flow.under_way old q fault left new) → IfErr result (λ fault. IsFull hall flow old fault left new)
-is_full hall flow old q (Ok x) left new is h = h
-is_full hall flow old q (Err fault) left new is h = (q, is, h)
+pub is_full : {H : Type 0} (table : ObjectTableKind H) (flow : Flow) (old : Conversation H) (q : ℕ) (result : Result (Unit {0}) CallError) (left : List ℕ) (new : Conversation H)
+    → due flow ≡ Some q → IfErr result (λ fault. IsUnended table flow.under_way old q fault left new) → IfErr result (λ fault. IsFull table flow old fault left new)
+is_full table flow old q (Ok x) left new is h = h
+is_full table flow old q (Err fault) left new is h = (q, is, h)
 
 -- a question was noted last
 pub noted_last : (flow mid : Flow) (window : ℕ) (left new : List ℕ) (p q : ℕ) → ◌≡◌ {A = Flow} (record { window = window; under_way = left }) mid
@@ -55,7 +55,7 @@ moved all ended asked left q is first rest =
     ∙ sym (append_assoc ended (q ∷ []) left)
 
 -- questions ended, and then one more
-pub ends_last : {H : Type 0} {hall : HallKind H} (a : Conversation H) (ended : List ℕ) (b : Conversation H) (q : ℕ) (c : Conversation H) → EndsEach hall a ended b
-    → Ends hall b q c → EndsEach hall a (ended ++ q ∷ []) c
-ends_last {hall = hall} a [] b q c each last = (c, subst (λ s. Ends hall s q c) each last, refl)
+pub ends_last : {H : Type 0} {table : ObjectTableKind H} (a : Conversation H) (ended : List ℕ) (b : Conversation H) (q : ℕ) (c : Conversation H) → EndsEach table a ended b
+    → Ends table b q c → EndsEach table a (ended ++ q ∷ []) c
+ends_last {table = table} a [] b q c each last = (c, subst (λ s. Ends table s q c) each last, refl)
 ends_last a (x ∷ xs) b q c each last = (each.0, each.1, ends_last each.0 xs b q c each.2 last)

@@ -1,9 +1,9 @@
 -- How many events a session may have left to tell, and what a client knows whose questions are the same.
 use Rattle.std.proofs.Common.{◌≡◌, ◌∙◌, ◌<◌, ◌≤◌, ◌+◌, ℕ, Bool, true, false, if◌then◌else◌, Option, Some, None, refl, sym, ap, subst, length, arith, is_none, true≢false}
 use Rattle.cp_connection.specs.declared.fault.ConnectionFault.{ConnectionFault}
-use Rattle.cp_objects.specs.declared.notice.Notice.{Notice}
-use Rattle.cp_objects.specs.Rounds.{HandsOver}
-use Rattle.cp_objects.specs.Work.{Work}
+use Rattle.cp_dispatch.specs.declared.event.DispatchEvent.{DispatchEvent}
+use Rattle.cp_dispatch.specs.Rounds.{HandsOver}
+use Rattle.cp_dispatch.specs.Work.{Work}
 use Rattle.cp_session.specs.declared.event.SessionEvent.{SessionEvent}
 use Rattle.cp_session.specs.declared.event.SessionEvent.TheVariants as told
 use Rattle.cp_session.specs.declared.progress.Limit.{Limit}
@@ -35,7 +35,7 @@ untold_then (told.Limit limit) false = omega arith
 untold_then told.Ended true = omega arith
 untold_then told.Ended false = omega arith
 
--- an event that no notice brings wasn't told, and is the last
+-- an event that no event brings wasn't told, and is the last
 last_told : (b : Bool) (limit : Option Limit) (fault : Option ConnectionFault) (phase : Phase) (event : SessionEvent)
     → Some event ≡ (if b then None else ending_by limit fault phase) → (b ≡ false) × (knows_by (Some event) b ≡ true)
 last_told true limit fault phase event is = absurd (true≢false (sym (ap is_none is)))
@@ -46,7 +46,7 @@ last_told false None None phases.Serving event is = absurd (true≢false (sym (a
 last_told false None None phases.Ending event is = absurd (true≢false (sym (ap is_none is)))
 last_told false None None (phases.Draining since) event is = absurd (true≢false (sym (ap is_none is)))
 
-fewer_by : {H : Type 0} (old new : State H) (event : SessionEvent) (notice : Option Notice) (work : Work) → HandsOver old.service.work notice work → Some event ≡ told_of old notice
+fewer_by : {H : Type 0} (old new : State H) (event : SessionEvent) (notice : Option DispatchEvent) (work : Work) → HandsOver old.service.work notice work → Some event ≡ told_of old notice
     → events_left new ≡ length work.notices + untold (knows_by (Some event) old.progress.is_told) → events_left new < events_left old
 fewer_by old new event (Some notice) work hands is left = omega (arith, ap length hands.0, untold_then event old.progress.is_told, left)
 fewer_by old new event None work hands is left =

@@ -4,8 +4,8 @@ use Rattle.std.specs.FinMap.{insert, remove}
 use Rattle.std.specs.Global.{Vec}
 use Rattle.cp_refs.specs.declared.call.Request.{Request}
 use Rattle.cp_refs.specs.declared.cap.Cap.{Cap}
-use Rattle.cp_makers.specs.Hall.{HallKind}
-use Rattle.cp_makers.specs.declared.waker.Waker.{Waker}
+use Rattle.cp_objects.specs.ObjectTable.{ObjectTableKind}
+use Rattle.cp_objects.specs.declared.waker.Waker.{Waker}
 use Rattle.cp_vat_machine.specs.declared.event.Event.{Event}
 use Rattle.cp_vat_machine.specs.declared.event.Event.TheVariants as events
 use Rattle.cp_vat_machine.specs.declared.event.Value.{Value}
@@ -53,15 +53,15 @@ module _ {H : Type 0} where
 abbrev pub KeepsRest : {H : Type 0} → Conversation H → Conversation H → Type 0
 KeepsRest old new = sessions.KeepsRest old.session new.session × (new ≡ record old { session = new.session })
 
--- Of objects of one hall.
-module _ {H : Type 0} (hall : HallKind H) where
+-- Of objects of one table.
+module _ {H : Type 0} (table : ObjectTableKind H) where
   -- an object is woken, and nothing else is done
   abbrev pub Wakes : ℕ → Conversation H → Conversation H → Type 0
-  Wakes object old new = sessions.Wakes hall object old.session new.session × (new ≡ record old { session = new.session })
+  Wakes object old new = sessions.Wakes table object old.session new.session × (new ≡ record old { session = new.session })
 
   -- who is to be woken of another session is handed out, and nothing else is done
   abbrev pub HandsOn : Option Waker → Conversation H → Conversation H → Type 0
-  HandsOn waker old new = sessions.HandsOn hall waker old.session new.session × (new ≡ record old { session = new.session })
+  HandsOn waker old new = sessions.HandsOn table waker old.session new.session × (new ≡ record old { session = new.session })
 
 -- no object more is there, and nothing was done
 abbrev pub Rests : {A : Type 0} → Conversation (Vec A) → Conversation (Vec A) → Type 0

@@ -10,5 +10,5 @@ pub mod Kinds
 pub mod Questions
 pub mod Waits
 pub mod Contents
-pub mod Streams
+pub mod CallWindows
 pub mod Results

@@ -2,7 +2,7 @@
 use Rattle.std.specs.Prelude.{◌≡◌, ◌≢◌, ◌⊎◌, ℕ, Bool, true, false, [], drop, Some, None}
 use Rattle.std.specs.Io.KnownBytes.{Consumes, IsAtEnd}
 use Rattle.cp_connection.specs.declared.fault.ConnectionFault.{ConnectionFault}
-use Rattle.cp_makers.specs.Hall.{HallKind}
+use Rattle.cp_objects.specs.ObjectTable.{ObjectTableKind}
 use Rattle.cp_session.specs.Doing.{EndsBytes, EndsCut, IsUntaken, MayTake, Receives, fault_of}
 use Rattle.cp_session.specs.Progress.{IsDraining}
 use Rattle.cp_session.specs.State.{State}
@@ -45,16 +45,16 @@ module _ {H : Type 0} where
     pub unread : IsUnread fault old.from new.from
     pub same : new ≡ record old { from = new.from }
 
--- Of objects of one hall.
-module _ {H : Type 0} (hall : HallKind H) where
+-- Of objects of one table.
+module _ {H : Type 0} (table : ObjectTableKind H) where
   -- The bytes that were read are given to the session, which takes some of them; or it takes none for a fault of its own.
   pub data Takes (old new : Conversation H) : Type 0 where
-    takes : (count : ℕ) → Receives hall old.session old.left 0 count new.session → new ≡ record old { session = new.session; left = drop count old.left } → Takes old new
-    refuses : (fault : ConnectionFault) → IsUntaken hall old.session old.left 0 fault new.session → new ≡ record old { session = new.session } → Takes old new
+    takes : (count : ℕ) → Receives table old.session old.left 0 count new.session → new ≡ record old { session = new.session; left = drop count old.left } → Takes old new
+    refuses : (fault : ConnectionFault) → IsUntaken table old.session old.left 0 fault new.session → new ≡ record old { session = new.session } → Takes old new
 
   -- The session is told that the peer's bytes ended: well, or with a fault of its own.
   pub record Ends (old new : Conversation H) : Type 0 where
-    pub ends : EndsBytes hall old.session 0 new.session ⊎ ((fault : ConnectionFault) × EndsCut hall old.session 0 fault new.session)
+    pub ends : EndsBytes table old.session 0 new.session ⊎ ((fault : ConnectionFault) × EndsCut table old.session 0 fault new.session)
     pub same : new ≡ record old { session = new.session }
 
   -- bytes of the peer were taken, up to the end of a message, or of those that were read; or they ended

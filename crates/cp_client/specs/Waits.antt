@@ -4,7 +4,7 @@ use Rattle.std.specs.FinMap.{get, remove}
 use Rattle.cp_refs.specs.declared.call.Request.{Request}
 use Rattle.cp_refs.specs.declared.cap.Cap.{Cap}
 use Rattle.cp_refs.specs.declared.outcome.Outcome.{Outcome}
-use Rattle.cp_makers.specs.Hall.{HallKind}
+use Rattle.cp_objects.specs.ObjectTable.{ObjectTableKind}
 use Rattle.cp_vat_machine.specs.declared.event.Event.TheVariants as events
 use Rattle.cp_connection.specs.declared.fault.ConnectionFault.TheVariants.{OutOfMemory}
 use Rattle.cp_session.specs.Doing.{HasMore, HasNone, PollsOn, RunsOut}
@@ -25,22 +25,22 @@ module _ {H : Type 0} where
   abbrev pub IsAwaited : ℕ → Conversation H → Type 0
   IsAwaited q state = get state.asked q ≡ Some None
 
--- Of objects of one hall.
-module _ {H : Type 0} (hall : HallKind H) where
+-- Of objects of one table.
+module _ {H : Type 0} (table : ObjectTableKind H) where
   -- the objects went on, or memory ran out for that
   pub record Polls (old new : Conversation H) : Type 0 where
-    pub polls : PollsOn hall old.session 0 new.session ⊎ RunsOut hall old.session 0 new.session
+    pub polls : PollsOn table old.session 0 new.session ⊎ RunsOut table old.session 0 new.session
     pub same : new ≡ record old { session = new.session }
 
   -- All was written. Then the objects went on, where one may give more; or else bytes of the peer were taken.
   pub data Steps (old new : Conversation H) : Type 0 where
-    polls_on : (mid : Conversation H) → Flushes hall old mid → HasMore hall mid.session → Polls mid new → Steps old new
-    reads_on : (mid : Conversation H) → Flushes hall old mid → HasNone hall mid.session → GoesOn hall mid new → Steps old new
+    polls_on : (mid : Conversation H) → Flushes table old mid → HasMore table mid.session → Polls mid new → Steps old new
+    reads_on : (mid : Conversation H) → Flushes table old mid → HasNone table mid.session → GoesOn table mid new → Steps old new
 
   -- why a client doesn't go on: not all was written; or it was, the objects have no more to give, and no byte of the peer is taken
   pub data Fails (old : Conversation H) (fault : ClientFault) (new : Conversation H) : Type 0 where
-    unwritten : WritesPart hall old fault new → Fails old fault new
-    halts : (mid : Conversation H) → Flushes hall old mid → HasNone hall mid.session → Halts mid fault new → Fails old fault new
+    unwritten : WritesPart table old fault new → Fails old fault new
+    halts : (mid : Conversation H) → Flushes table old mid → HasNone table mid.session → Halts mid fault new → Fails old fault new
 
   -- The client went on, step by step. Before each step it knew all that its session had to tell, and this held.
   pub data GoesWhile (holds : Conversation H → Type 0) (old : Conversation H) : Conversation H → Type 0 where

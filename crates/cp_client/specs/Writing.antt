@@ -1,7 +1,7 @@
 -- How a client writes.
 use Rattle.std.specs.Prelude.{◌≡◌, ℕ, [], take}
 use Rattle.std.specs.Io.KnownBytes.{Appends}
-use Rattle.cp_makers.specs.Hall.{HallKind}
+use Rattle.cp_objects.specs.ObjectTable.{ObjectTableKind}
 use Rattle.cp_session.specs.Doing.{Writes}
 use Rattle.cp_session.specs.State.{link_of}
 use Rattle.cp_stream.specs.Read.{FailedOnce}
@@ -25,11 +25,11 @@ module _ {H : Type 0} where
     pub appended : Appends old.to.bytes new.to.bytes []
     pub same : new ≡ record old { to = new.to }
 
--- Of objects of one hall.
-module _ {H : Type 0} (hall : HallKind H) where
+-- Of objects of one table.
+module _ {H : Type 0} (table : ObjectTableKind H) where
   -- the writer took this many of the bytes that wait to be written, and the session was told so
   pub record WritesSome (old : Conversation H) (count : ℕ) (new : Conversation H) : Type 0 where
-    pub writes : Writes hall old.session count 0 new.session
+    pub writes : Writes table old.session count 0 new.session
     pub appended : Appends old.to.bytes new.to.bytes (take count (link_of old.session).unwritten)
     pub none_failed : new.to.failures ≡ old.to.failures
     pub same : new ≡ record old { session = new.session; to = new.to }

@@ -6,18 +6,18 @@ ghost use Rattle.cp_client.specs.Calls.{AsksOrNot};
 
 use crate::client::Client;
 use crate::fault::ClientFault;
-use cp_makers::Hall;
+use cp_interfaces::Caller;
+use cp_objects::ObjectTable;
 use cp_refs::{Cap, Request};
-use cp_stubs::Caller;
 use std::alloc::Global;
 use std::io::{Read, Write};
 
-impl<R: Read + Drop, W: Write + Drop, H: Hall> Caller for Client<R, W, H> {
+impl<R: Read + Drop, W: Write + Drop, H: ObjectTable> Caller for Client<R, W, H> {
     type Fault = ClientFault;
 
-    ghost asks = { λ old cap request result new. AsksOrNot (seen R.remaining W.contents old) cap request result (seen R.remaining W.contents new) };
+    ghost sends = { λ old cap request result new. AsksOrNot (seen R.remaining W.contents old) cap request result (seen R.remaining W.contents new) };
 
-    fn ask(&mut self, alloc: Global, cap: &Cap, request: Request) -> Result<u32, ClientFault> {
+    fn send(&mut self, alloc: Global, cap: &Cap, request: Request) -> Result<u32, ClientFault> {
         let cap = cap.copy(alloc)?;
         let question = self.call(cap, request)?;
         Ok(question.number)

@@ -18,9 +18,9 @@ use crate::nobody::Nobody;
 use crate::piece::Piece;
 use crate::question::Question;
 use crate::questions::Questions;
-use cp_connection::{ConnectionFault, Tally};
+use cp_connection::{ConnectionFault, ConnectionStats};
 use cp_frame::Mode;
-use cp_makers::{Family, Hall, Maker, Waker};
+use cp_objects::{ObjectTable, Objects, ServedObject, Waker};
 use cp_refs::{Cap, Outcome, Request};
 use cp_servants::Servant;
 use cp_session::{Session, SessionEvent, SessionLimits, SessionOptions};
@@ -38,12 +38,12 @@ const NOW: u64 = 0;
 ///
 /// # In which order calls are made
 ///
-/// 1. `new` makes it, or `with_objects`, or `with_family`.
+/// 1. `new` makes it, or `with_servants`, or `with_objects`.
 /// 2. `bootstrap` asks for the peer's object. Its question may be called at once, by `Question::cap`.
 /// 3. `call` calls a capability: what a question will give, at a path by `Question::at`, an import that an outcome named, or an
 ///    object of the client's. A call is sent when the client next waits, in one go with all that was called before. `export` adds an
 ///    object, whose capability a call's table may name.
-/// 4. `wait` waits for a question's outcome, and gives it out, once. `ask` is `call`, `wait` and `finish`.
+/// 4. `wait` waits for a question's outcome, and gives it out, once. `call_and_wait` is `call`, `wait` and `finish`.
 /// 5. `finish` gives a question up when none of its paths is needed any more, and `release` an import: till then the peer
 ///    keeps them. `flush` writes what is still to be sent, and `into_devices` ends the client.
 ///
@@ -52,10 +52,10 @@ const NOW: u64 = 0;
 ///
 /// # Its objects
 ///
-/// `H` is a list of objects that make none, of one type or of `Box<dyn Servant>`; or a `Family` of objects that may make others. Object
+/// `H` is a list of objects that make none, of one type or of `Box<dyn Servant>`; or `Objects` of objects that may make others. Object
 /// 0 is the one that was exported, or added, first. A call of an object that isn't there fails with `no such object`.
 ///
-/// An object of a family that wakes another of it has that polled before more is read. A client has no clock: nobody is woken by
+/// An object that wakes another of its connection has that polled before more is read. A client has no clock: nobody is woken by
 /// `wake_after`. Objects of other sessions are to be woken that `next_wake` names.
 ///
 /// An import that several objects were given is released when each of them gave it up. What the program was given isn't
@@ -110,13 +110,13 @@ impl<R: Read + Drop, W: Write + Drop> Client<R, W, Vec<Nobody>> {
         ensures begun { let at = seen R.remaining W.contents in at result ≡ new_conversation mode limits None (at result).session.objects (fresh (R.remaining from)) (fresh (W.contents to)) }
         ensures nobody { (seen R.remaining W.contents result).session.objects.items ≡ [] }
     {
-        Client::with_objects(alloc, from, to, mode, limits, None)
+        Client::with_servants(alloc, from, to, mode, limits, None)
     }
 }
 
 impl<R: Read + Drop, W: Write + Drop, O: Servant> Client<R, W, Vec<O>> {
     /// The same, that may have objects, of which the peer gets this one for its Bootstrap.
-    pub fn with_objects(
+    pub fn with_servants(
         alloc: Global,
         from: R,
         to: W,
@@ -153,16 +153,16 @@ impl<R: Read + Drop, W: Write + Drop, O: Servant> Client<R, W, Vec<O>> {
     }
 }
 
-impl<R: Read + Drop, W: Write + Drop, O: Maker<Makes = O>> Client<R, W, Family<O>> {
+impl<R: Read + Drop, W: Write + Drop, O: ServedObject<Makes = O>> Client<R, W, Objects<O>> {
     /// The same, with objects that may make others. The peer gets the first for its Bootstrap.
-    pub fn with_family(
+    pub fn with_objects(
         alloc: Global,
         from: R,
         to: W,
         mode: Mode,
         limits: Limits,
-        objects: Family<O>,
-    ) -> Client<R, W, Family<O>>
+        objects: Objects<O>,
+    ) -> Client<R, W, Objects<O>>
         ensures { seen R.remaining W.contents result ≡ new_conversation mode limits (Some 0) objects (fresh (R.remaining from)) (fresh (W.contents to)) }
     {
         let options = options(mode, limits, Some(0));
@@ -171,7 +171,7 @@ impl<R: Read + Drop, W: Write + Drop, O: Maker<Makes = O>> Client<R, W, Family<O
     }
 }
 
-impl<R: Read + Drop, W: Write + Drop, H: Hall> Client<R, W, H> {
+impl<R: Read + Drop, W: Write + Drop, H: ObjectTable> Client<R, W, H> {
     /// Asks for the peer's bootstrap capability. Refused as `Vat::bootstrap`.
     pub fn bootstrap(&mut self) -> Result<Question, ClientFault>
         ensures asks { let at = seen R.remaining W.contents in IfOk result (λ q. Asks (at self.old) events.Bootstrap q.number (at self.new)) }
@@ -196,8 +196,8 @@ impl<R: Read + Drop, W: Write + Drop, H: Hall> Client<R, W, H> {
     /// question until that is finished, and its imports until they are released. An outcome that comes for another
     /// question is kept for it.
     pub fn wait(&mut self, question: Question) -> Result<Outcome, ClientFault>
-        ensures waits { let at = seen R.remaining W.contents in IfOk result (λ outcome. Waits H.hall (at self.old) question.number outcome (at self.new)) }
-        ensures stops { let at = seen R.remaining W.contents in IfErr result (λ f. Stops H.hall (at self.old) question.number f (at self.new)) }
+        ensures waits { let at = seen R.remaining W.contents in IfOk result (λ outcome. Waits H.table (at self.old) question.number outcome (at self.new)) }
+        ensures stops { let at = seen R.remaining W.contents in IfErr result (λ f. Stops H.table (at self.old) question.number f (at self.new)) }
     {
         for _ in 0..u64::MAX {
             // The outcome is looked for before anything is written: one that has come needs no writer.
@@ -213,9 +213,9 @@ impl<R: Read + Drop, W: Write + Drop, H: Hall> Client<R, W, H> {
 
     /// Calls a capability, waits for the outcome, and finishes the question.
     /// Where memory runs out as the question is given up, the outcome is lost; `call`, `wait` and `finish` lose none.
-    pub fn ask(&mut self, cap: Cap, request: Request) -> Result<Outcome, ClientFault>
-        ensures answered { let at = seen R.remaining W.contents in IfOk result (λ outcome. IsAnswered H.hall (at self.old) cap request outcome (at self.new)) }
-        ensures unanswered { let at = seen R.remaining W.contents in IfErr result (λ f. IsUnanswered H.hall (at self.old) cap request f (at self.new)) }
+    pub fn call_and_wait(&mut self, cap: Cap, request: Request) -> Result<Outcome, ClientFault>
+        ensures answered { let at = seen R.remaining W.contents in IfOk result (λ outcome. IsAnswered H.table (at self.old) cap request outcome (at self.new)) }
+        ensures unanswered { let at = seen R.remaining W.contents in IfErr result (λ f. IsUnanswered H.table (at self.old) cap request f (at self.new)) }
     {
         let question = self.call(cap, request)?;
         let outcome = self.wait(question)?;
@@ -250,8 +250,8 @@ impl<R: Read + Drop, W: Write + Drop, H: Hall> Client<R, W, H> {
 
     /// Writes all that was sent, and waits for nothing.
     pub fn flush(&mut self) -> Result<(), ClientFault>
-        ensures flushes { let at = seen R.remaining W.contents in OnOk result (Flushes H.hall (at self.old) (at self.new)) }
-        ensures part { let at = seen R.remaining W.contents in IfErr result (λ f. WritesPart H.hall (at self.old) f (at self.new)) }
+        ensures flushes { let at = seen R.remaining W.contents in OnOk result (Flushes H.table (at self.old) (at self.new)) }
+        ensures part { let at = seen R.remaining W.contents in IfErr result (λ f. WritesPart H.table (at self.old) f (at self.new)) }
     {
         self.write()?;
         // The writer may keep bytes that the peer waits for.
@@ -261,8 +261,8 @@ impl<R: Read + Drop, W: Write + Drop, H: Hall> Client<R, W, H> {
 
     /// Takes the peer's messages until they end, while the objects answer.
     pub fn serve(&mut self) -> Result<(), ClientFault>
-        ensures serves { let at = seen R.remaining W.contents in OnOk result (ServesUntil H.hall (at self.old) Ended (at self.new)) }
-        ensures stops { let at = seen R.remaining W.contents in IfErr result (λ f. ServesUntil H.hall (at self.old) f (at self.new)) }
+        ensures serves { let at = seen R.remaining W.contents in OnOk result (ServesUntil H.table (at self.old) Ended (at self.new)) }
+        ensures stops { let at = seen R.remaining W.contents in IfErr result (λ f. ServesUntil H.table (at self.old) f (at self.new)) }
     {
         for _ in 0..u64::MAX {
             self.note();
@@ -277,7 +277,7 @@ impl<R: Read + Drop, W: Write + Drop, H: Hall> Client<R, W, H> {
 
     /// Has an object polled, if it is there, when the client next waits.
     pub fn wake(&mut self, object: u32) -> Result<(), AllocError>
-        ensures wakes { let at = seen R.remaining W.contents in OnOk result (Wakes H.hall object (at self.old) (at self.new)) }
+        ensures wakes { let at = seen R.remaining W.contents in OnOk result (Wakes H.table object (at self.old) (at self.new)) }
         ensures unwoken { let at = seen R.remaining W.contents in OnErr result (KeepsRest (at self.old) (at self.new)) }
     {
         self.session.wake(object)
@@ -285,7 +285,7 @@ impl<R: Read + Drop, W: Write + Drop, H: Hall> Client<R, W, H> {
 
     /// Takes out the first object of another session that an object here wants to be woken.
     pub fn next_wake(&mut self) -> Option<Waker>
-        ensures { let at = seen R.remaining W.contents in HandsOn H.hall result (at self.old) (at self.new) }
+        ensures { let at = seen R.remaining W.contents in HandsOn H.table result (at self.old) (at self.new) }
     {
         self.session.next_wake()
     }
@@ -298,10 +298,10 @@ impl<R: Read + Drop, W: Write + Drop, H: Hall> Client<R, W, H> {
     }
 
     /// How many bytes and messages were taken, and how many messages were sent.
-    pub fn tally(&self) -> Tally
-        ensures { result ≡ (seen R.remaining W.contents self.now).session.service.work.link.tally }
+    pub fn stats(&self) -> ConnectionStats
+        ensures { result ≡ (seen R.remaining W.contents self.now).session.service.work.link.stats }
     {
-        self.session.tally()
+        self.session.stats()
     }
 
     /// Ends the client, and gives its reader and its writer back. What is still to be sent isn't written then.
@@ -340,8 +340,8 @@ impl<R: Read + Drop, W: Write + Drop, H: Hall> Client<R, W, H> {
 
     /// Writes all that was sent. Then the objects go on where one may give more, or else bytes of the peer are taken.
     fn step(&mut self) -> Result<(), ClientFault>
-        ensures steps { let at = seen R.remaining W.contents in OnOk result (Steps H.hall (at self.old) (at self.new)) }
-        ensures fails { let at = seen R.remaining W.contents in IfErr result (λ f. Fails H.hall (at self.old) f (at self.new)) }
+        ensures steps { let at = seen R.remaining W.contents in OnOk result (Steps H.table (at self.old) (at self.new)) }
+        ensures fails { let at = seen R.remaining W.contents in IfErr result (λ f. Fails H.table (at self.old) f (at self.new)) }
     {
         self.flush()?;
         if self.session.has_more() {
@@ -353,14 +353,14 @@ impl<R: Read + Drop, W: Write + Drop, H: Hall> Client<R, W, H> {
 
     /// Has the objects go on. Where memory runs out `is_open` says so, once all is written.
     fn poll(&mut self)
-        ensures { let at = seen R.remaining W.contents in Polls H.hall (at self.old) (at self.new) }
+        ensures { let at = seen R.remaining W.contents in Polls H.table (at self.old) (at self.new) }
     {
         let _ = self.session.poll(NOW);
     }
 
     /// Takes bytes up to the end of a message, or of those that were read; or ends them.
     fn go_on(&mut self) -> Result<(), ClientFault>
-        ensures goes_on { let at = seen R.remaining W.contents in OnOk result (GoesOn H.hall (at self.old) (at self.new)) }
+        ensures goes_on { let at = seen R.remaining W.contents in OnOk result (GoesOn H.table (at self.old) (at self.new)) }
         ensures halts { let at = seen R.remaining W.contents in IfErr result (λ f. Halts (at self.old) f (at self.new)) }
     {
         self.is_open()?;
@@ -400,7 +400,7 @@ impl<R: Read + Drop, W: Write + Drop, H: Hall> Client<R, W, H> {
 
     /// Takes the bytes that were read, up to the end of a message. Where they can't be taken `is_open` says so, once all is written.
     fn take(&mut self)
-        ensures { let at = seen R.remaining W.contents in Takes H.hall (at self.old) (at self.new) }
+        ensures { let at = seen R.remaining W.contents in Takes H.table (at self.old) (at self.new) }
     {
         match self.session.receive(self.piece.bytes(), NOW) {
             Ok(count) => self.piece.took(count),
@@ -410,7 +410,7 @@ impl<R: Read + Drop, W: Write + Drop, H: Hall> Client<R, W, H> {
 
     /// Ends the peer's bytes. The objects still give what they owe. Once that is written, `is_open` says that the peer ended.
     fn end(&mut self)
-        ensures { let at = seen R.remaining W.contents in Ends H.hall (at self.old) (at self.new) }
+        ensures { let at = seen R.remaining W.contents in Ends H.table (at self.old) (at self.new) }
     {
         let _ = self.session.end(NOW);
     }
@@ -439,9 +439,9 @@ impl<R: Read + Drop, W: Write + Drop, H: Hall> Client<R, W, H> {
 
     /// Writes all that was sent.
     fn write(&mut self) -> Result<(), ClientFault>
-        ensures writes { let at = seen R.remaining W.contents in OnOk result (WritesOn H.hall (at self.old) (at self.new)) }
+        ensures writes { let at = seen R.remaining W.contents in OnOk result (WritesOn H.table (at self.old) (at self.new)) }
         ensures all { let at = seen R.remaining W.contents in OnOk result ((link_of (at self.new).session).unwritten ≡ []) }
-        ensures part { let at = seen R.remaining W.contents in IfErr result (λ f. WritesPart H.hall (at self.old) f (at self.new)) }
+        ensures part { let at = seen R.remaining W.contents in IfErr result (λ f. WritesPart H.table (at self.old) f (at self.new)) }
     {
         'writing: while !self.session.outgoing().is_empty() {
             self.write_some()?;
@@ -451,7 +451,7 @@ impl<R: Read + Drop, W: Write + Drop, H: Hall> Client<R, W, H> {
 
     /// Offers the writer what was sent, and notes how much it took.
     fn write_some(&mut self) -> Result<(), ClientFault>
-        ensures writes { let at = seen R.remaining W.contents in OnOk result ((count : ℕ) × (0 < count) × WritesSome H.hall (at self.old) count (at self.new)) }
+        ensures writes { let at = seen R.remaining W.contents in OnOk result ((count : ℕ) × (0 < count) × WritesSome H.table (at self.old) count (at self.new)) }
         ensures failed { let at = seen R.remaining W.contents in IfErr result (λ f. WriteFailed (at self.old) f (at self.new)) }
     {
         // Each count is noted, so that after a failed call it is known to the byte what was written.

@@ -6,11 +6,11 @@ ghost use Rattle.cp_connection.specs.declared.fault.ConnectionFault.TheVariants.
 ghost use Rattle.cp_stream.specs.Device.{of_error};
 ghost use Rattle.cp_client.specs.Faults.{of_draft};
 
-use cp_builder::DraftFault;
+use cp_builder::BuildError;
 use cp_connection::ConnectionFault;
+use cp_interfaces::NoResults;
 use cp_messages::ExceptionKind;
 use cp_stream::DeviceError;
-use cp_stubs::NoResults;
 use std::alloc::{AllocError, AllocFailed};
 use std::error::Error;
 use std::{fmt, io};
@@ -57,7 +57,7 @@ impl fmt::Display for ClientFault {
             ClientFault::Device(error) => write!(f, "a call of a device failed: {error}"),
             ClientFault::Ended => f.write_str("the peer's messages ended"),
             ClientFault::NotAsked => f.write_str("V1 UnknownQuestion"),
-            ClientFault::TooLong => DraftFault::TooLong.fmt(f),
+            ClientFault::TooLong => BuildError::TooLong.fmt(f),
             ClientFault::TooManyObjects => f.write_str("there are 2^32 objects already"),
             ClientFault::Connection(fault) => fault.fmt(f),
         }
@@ -82,13 +82,13 @@ impl From<ConnectionFault> for ClientFault {
     }
 }
 
-impl From<DraftFault> for ClientFault {
+impl From<BuildError> for ClientFault {
     ghost from_gives = { λ fault r. r ≡ of_draft fault };
 
-    fn from(fault: DraftFault) -> ClientFault {
+    fn from(fault: BuildError) -> ClientFault {
         match fault {
-            DraftFault::TooLong => ClientFault::TooLong,
-            DraftFault::OutOfMemory => ClientFault::Connection(ConnectionFault::OutOfMemory),
+            BuildError::TooLong => ClientFault::TooLong,
+            BuildError::OutOfMemory => ClientFault::Connection(ConnectionFault::OutOfMemory),
         }
     }
 }
@@ -110,7 +110,7 @@ impl<T: Drop> From<AllocFailed<T>> for ClientFault {
 }
 
 /// Why a stream doesn't go on.
-pub enum StreamingFault {
+pub enum CallError {
     /// Why the client gives nothing.
     Client(ClientFault),
     /// A call came to no results. It was finished, and is no longer under way.
@@ -118,49 +118,49 @@ pub enum StreamingFault {
 }
 
 // Not derived: a crate that lets one go calls this function, and need not prove the drop of all that it holds.
-impl Drop for StreamingFault {
+impl Drop for CallError {
     fn drop(self) {
         match self {
-            StreamingFault::Client(_) => {}
-            StreamingFault::NoResults(_) => {}
+            CallError::Client(_) => {}
+            CallError::NoResults(_) => {}
         }
     }
 }
 
-impl fmt::Display for StreamingFault {
+impl fmt::Display for CallError {
     fn fmt<W: fmt::Write>(&self, f: &mut fmt::Formatter<W>) -> fmt::Result {
         match self {
-            StreamingFault::Client(fault) => fault.fmt(f),
-            StreamingFault::NoResults(reason) => reason.fmt(f),
+            CallError::Client(fault) => fault.fmt(f),
+            CallError::NoResults(reason) => reason.fmt(f),
         }
     }
 }
 
 // Exceptions have no `Debug`.
-impl fmt::Debug for StreamingFault {
+impl fmt::Debug for CallError {
     fn fmt<W: fmt::Write>(&self, f: &mut fmt::Formatter<W>) -> fmt::Result {
         fmt::Display::fmt(self, f)
     }
 }
 
-impl Error for StreamingFault {}
+impl Error for CallError {}
 
-impl From<ClientFault> for StreamingFault {
-    ghost use Rattle.cp_client.specs.declared.fault.StreamingFault.TheVariants.{Client};
+impl From<ClientFault> for CallError {
+    ghost use Rattle.cp_client.specs.declared.fault.CallError.TheVariants.{Client};
 
     ghost from_gives = { λ fault r. r ≡ Client fault };
 
-    fn from(fault: ClientFault) -> StreamingFault {
-        StreamingFault::Client(fault)
+    fn from(fault: ClientFault) -> CallError {
+        CallError::Client(fault)
     }
 }
 
-impl<T: Drop> From<AllocFailed<T>> for StreamingFault {
-    ghost use Rattle.cp_client.specs.declared.fault.StreamingFault.TheVariants.{Client};
+impl<T: Drop> From<AllocFailed<T>> for CallError {
+    ghost use Rattle.cp_client.specs.declared.fault.CallError.TheVariants.{Client};
 
     ghost from_gives = { λ _ r. r ≡ Client (Connection OutOfMemory) };
 
-    fn from(_: AllocFailed<T>) -> StreamingFault {
-        StreamingFault::Client(ClientFault::Connection(ConnectionFault::OutOfMemory))
+    fn from(_: AllocFailed<T>) -> CallError {
+        CallError::Client(ClientFault::Connection(ConnectionFault::OutOfMemory))
     }
 }

@@ -2,6 +2,7 @@
 //! answer its peer's calls meanwhile.
 #![tactic(auto)]
 
+mod call_window;
 mod caller;
 mod client;
 mod contents;
@@ -11,11 +12,10 @@ mod piece;
 mod question;
 mod questions;
 mod results;
-mod stream;
 
+pub use call_window::CallWindow;
 pub use client::Client;
 pub use contents::{request_of, word_at};
-pub use fault::{ClientFault, StreamingFault};
+pub use fault::{CallError, ClientFault};
 pub use nobody::Nobody;
 pub use question::Question;
-pub use stream::Stream;

@@ -7,22 +7,22 @@ ghost use Rattle.cp_client.specs.Results.{GivesNone};
 ghost use Rattle.cp_client.specs.Waits.{Waits};
 
 use crate::client::Client;
-use crate::fault::StreamingFault;
+use crate::fault::CallError;
 use crate::question::Question;
-use cp_makers::Hall;
-use cp_stubs::{ResultPayload, payload_of};
+use cp_interfaces::{ResultPayload, payload_of};
+use cp_objects::ObjectTable;
 use std::io::{Read, Write};
 
-impl<R: Read + Drop, W: Write + Drop, H: Hall> Client<R, W, H> {
+impl<R: Read + Drop, W: Write + Drop, H: ObjectTable> Client<R, W, H> {
     /// Waits for the results of a question, by the number that a typed call's promise has. As `wait`, and a call that failed is an error.
-    pub fn results(&mut self, question: u32) -> Result<ResultPayload, StreamingFault>
-        ensures came { let at = seen R.remaining W.contents in IfOk result (λ r. Waits H.hall (at self.old) question (Results r.content r.caps) (at self.new)) }
-        ensures none { let at = seen R.remaining W.contents in IfErr result (λ f. GivesNone H.hall (at self.old) question f (at self.new)) }
+    pub fn results(&mut self, question: u32) -> Result<ResultPayload, CallError>
+        ensures came { let at = seen R.remaining W.contents in IfOk result (λ r. Waits H.table (at self.old) question (Results r.content r.caps) (at self.new)) }
+        ensures none { let at = seen R.remaining W.contents in IfErr result (λ f. GivesNone H.table (at self.old) question f (at self.new)) }
     {
         let outcome = self.wait(Question { number: question })?;
         match payload_of(outcome) {
             Ok(results) => Ok(results),
-            Err(reason) => Err(StreamingFault::NoResults(reason)),
+            Err(reason) => Err(CallError::NoResults(reason)),
         }
     }
 }

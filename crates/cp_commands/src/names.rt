@@ -42,7 +42,7 @@ impl Names {
             interface: call.interface_id,
             method: call.method_id,
         };
-        let params = call.params.content.again();
+        let params = call.params.content.reborrow();
         Ok(call_line(alloc, &self.schema, number, plain, params)?)
     }
 
@@ -65,7 +65,7 @@ impl Names {
         let ReturnedView::Results(payload) = &answer.returned else {
             return Ok(None);
         };
-        let results = payload.content.again();
+        let results = payload.content.reborrow();
         Ok(return_line(alloc, &self.schema, number, plain, results)?)
     }
 }

@@ -14,7 +14,7 @@ use Rattle.cp_connection.specs.Noting.{Notes, Stays}
 -- with this agenda a connection lets go what it keeps
 gone : (p r : Parts) (agenda : Agenda) (fault : ConnectionFault) → LetsGo (record p { agenda = agenda }) fault r → agenda.mode ≡ p.agenda.mode
     → agenda.happened.items ≡ p.agenda.happened.items
-    → link_of r ≡ record (let_go (link_of p) fault) { unwritten = agenda.outgoing; tally = record (link_of p).tally { sent = agenda.sent } }
+    → link_of r ≡ record (let_go (link_of p) fault) { unwritten = agenda.outgoing; stats = record (link_of p).stats { sent = agenda.sent } }
 gone p r agenda fault goes mode happened = ap link_of goes.same ∙ rw (goes.frames, mode, happened) refl
 
 pub aborts_told : (p r : Parts) (agenda : Agenda) (excess : Excess) → (link_of p).vat.is_closed ≡ false → Notes p.agenda (effects.Send (abort_of excess) ∷ []) agenda
@@ -22,7 +22,7 @@ pub aborts_told : (p r : Parts) (agenda : Agenda) (excess : Excess) → (link_of
 aborts_told p r agenda excess open_ notes goes =
     tells notes.bytes agenda.sent open_ notes.frames notes.counts
     (gone p r agenda faults.Closed goes notes.same_mode (notes.happens ∙ append-nil p.agenda.happened.items)
-    ∙ ap (λ (b : List ℕ). record (let_go (link_of p) faults.Closed) { unwritten = b; tally = record (link_of p).tally { sent = agenda.sent } }) notes.goes_out)
+    ∙ ap (λ (b : List ℕ). record (let_go (link_of p) faults.Closed) { unwritten = b; stats = record (link_of p).stats { sent = agenda.sent } }) notes.goes_out)
 
 pub aborts_untold : (p r : Parts) (agenda : Agenda) (excess : Excess) → (link_of p).vat.is_closed ≡ false → Stays p.agenda agenda
     → LetsGo (record p { agenda = agenda }) faults.OutOfMemory r → Aborts (link_of p) excess (link_of r)

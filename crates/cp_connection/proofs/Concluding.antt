@@ -15,8 +15,8 @@ use Rattle.cp_vat_machine.specs.declared.fault.VatFault.{VatFault}
 use Rattle.cp_vat_machine.specs.declared.fault.VatFault.TheVariants as refusals
 use Rattle.cp_tail_calls.specs.Serving.{Served, Goes, Serves, calls, refuses, comes_of, is_message, moment, trigger_of}
 use Rattle.cp_tail_calls.specs.Tails.{Tails}
-use Rattle.cp_tail_calls.specs.declared.owed.Trigger.{Trigger}
-use Rattle.cp_tail_calls.specs.declared.owed.Trigger.TheVariants as triggers
+use Rattle.cp_tail_calls.specs.declared.forwarding.Trigger.{Trigger}
+use Rattle.cp_tail_calls.specs.declared.forwarding.Trigger.TheVariants as triggers
 use Rattle.cp_connection.specs.declared.agenda.Agenda.{Agenda}
 use Rattle.cp_connection.specs.declared.fault.ConnectionFault.{ConnectionFault}
 use Rattle.cp_connection.specs.declared.fault.ConnectionFault.TheVariants as faults
@@ -106,7 +106,7 @@ module _ (p : Parts) (before : State) (first : Option Tails) (event : Event) (op
     goes_out = noted.goes_out;
     happens = noted.happens;
     counts = noted.counts;
-    same_tally = refl;
+    same_stats = refl;
     ends = ends;
     same_mode = noted.same_mode;
     same_limits = refl;
@@ -131,7 +131,7 @@ module _ (p : Parts) (before : State) (first : Option Tails) (event : Event) (op
     goes_out = lost.stays.same_bytes ∙ sym (append-nil p.agenda.outgoing);
     happens = lost.stays.same_happenings ∙ sym (append-nil p.agenda.happened.items);
     counts = λ n is. lost.stays.same_count ∙ none_more p.agenda.sent n is;
-    same_tally = refl;
+    same_stats = refl;
     ends = refl;
     same_mode = lost.stays.same_mode;
     same_limits = refl;
@@ -162,7 +162,7 @@ module _ (p : Parts) (before : State) (first : Option Tails) (event : Event) (op
       goes_out = sym (append-nil p.agenda.outgoing);
       happens = sym (append-nil p.agenda.happened.items);
       counts = none_more p.agenda.sent;
-      same_tally = refl;
+      same_stats = refl;
       ends = ends;
       same_mode = refl;
       same_limits = refl;

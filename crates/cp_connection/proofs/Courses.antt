@@ -6,7 +6,7 @@ use Rattle.cp_vat_machine.specs.State.{State}
 use Rattle.cp_connection.specs.declared.excess.Excess.{Excess}
 use Rattle.cp_connection.specs.declared.fault.ConnectionFault.{ConnectionFault}
 use Rattle.cp_connection.specs.declared.fault.ConnectionFault.TheVariants as faults
-use Rattle.cp_connection.specs.declared.happening.Happening.{Happening}
+use Rattle.cp_connection.specs.declared.event.ConnectionEvent.{ConnectionEvent}
 use Rattle.cp_connection.specs.Doing.{Aborts, tells, runs_out, was_closed, first_fault}
 use Rattle.cp_connection.specs.Effects.{AreFramesOf, happened}
 use Rattle.cp_connection.specs.Link.{Link, new_link, new_link_with_tails}
@@ -16,14 +16,14 @@ use Rattle.cp_connection.proofs.Living.{lives_move, run_of, run_behind}
 use Rattle.cp_connection.proofs.Moving.{moves_both}
 
 -- once a connection ended nothing is done, but that what was left is written and handed out
-record IsLeft (mid : Link) (taken written : List ℕ) (handed : List Happening) (last : Link) (fault : ConnectionFault) : Type 0 where
+record IsLeft (mid : Link) (taken written : List ℕ) (handed : List ConnectionEvent) (last : Link) (fault : ConnectionFault) : Type 0 where
   none_taken : taken ≡ []
   goes_out : mid.unwritten ≡ written ++ last.unwritten
   happens : mid.happened ≡ handed ++ last.happened
   same_vat : last.vat ≡ mid.vat
   ended : last.fault ≡ Some fault
 
-left : {mid last : Link} {taken written : List ℕ} {handed : List Happening} (fault : ConnectionFault) → mid.fault ≡ Some fault → Moves mid taken written handed last
+left : {mid last : Link} {taken written : List ℕ} {handed : List ConnectionEvent} (fault : ConnectionFault) → mid.fault ≡ Some fault → Moves mid taken written handed last
     → IsLeft mid taken written handed last fault
 left {mid = mid} {last = last} fault is moves =
     let still = moves.stays fault is in
@@ -37,7 +37,7 @@ left {mid = mid} {last = last} fault is moves =
     }
 
 -- an abort, of what was so
-aborted_now : {WasSo : List ℕ → List Happening → Link → Type 0} {written : List ℕ} {handed : List Happening} (before aborted : Link) (excess : Excess) (fault : ConnectionFault)
+aborted_now : {WasSo : List ℕ → List ConnectionEvent → Link → Type 0} {written : List ℕ} {handed : List ConnectionEvent} (before aborted : Link) (excess : Excess) (fault : ConnectionFault)
     → WasSo written handed before → before.vat.is_closed ≡ false → Aborts before excess aborted → aborted.vat.is_closed ≡ true → aborted.fault ≡ Some fault
     → IsAborted written handed aborted WasSo
 aborted_now {written = written} {handed = handed} before aborted excess fault was_so open_ aborts_ closed ended = record {
@@ -57,7 +57,7 @@ aborted_now {written = written} {handed = handed} before aborted excess fault wa
 }
 
 -- and what is done then
-aborted_on : {WasSo : List ℕ → List Happening → Link → Type 0} {taken written further : List ℕ} {handed others : List Happening} {mid last : Link} (a : IsAborted written handed mid WasSo)
+aborted_on : {WasSo : List ℕ → List ConnectionEvent → Link → Type 0} {taken written further : List ℕ} {handed others : List ConnectionEvent} {mid last : Link} (a : IsAborted written handed mid WasSo)
     → IsLeft mid taken further others last a.fault → IsAborted (written ++ further) (handed ++ others) last WasSo
 aborted_on {written = written} {further = further} {handed = handed} {others = others} {last = last} a is_left = record {
   gone = a.gone;
@@ -69,14 +69,14 @@ aborted_on {written = written} {further = further} {handed = handed} {others = o
   aborted = a.aborted;
   aborts = a.aborts;
   goes_out = a.goes_out ∙ ap (λ (x : List ℕ). written ++ x) is_left.goes_out ∙ sym (append_assoc written further last.unwritten);
-  happens = a.happens ∙ ap (λ (x : List Happening). handed ++ x) is_left.happens ∙ sym (append_assoc handed others last.happened);
+  happens = a.happens ∙ ap (λ (x : List ConnectionEvent). handed ++ x) is_left.happens ∙ sym (append_assoc handed others last.happened);
   stays_closed = ap (λ (s : State). s.is_closed) is_left.same_vat ∙ a.stays_closed;
   fault = a.fault;
   ended = is_left.ended;
 }
 
 -- what follows of what was so
-aborted_as : {WasSo IsSo : List ℕ → List Happening → Link → Type 0} {written : List ℕ} {handed : List Happening} {last : Link} (a : IsAborted written handed last WasSo)
+aborted_as : {WasSo IsSo : List ℕ → List ConnectionEvent → Link → Type 0} {written : List ℕ} {handed : List ConnectionEvent} {last : Link} (a : IsAborted written handed last WasSo)
     → IsSo a.gone a.out a.before → IsAborted written handed last IsSo
 aborted_as a is_so = record {
   gone = a.gone;
@@ -95,10 +95,10 @@ aborted_as a is_so = record {
 }
 
 -- a connection moved, up to its abort, if it was aborted
-abbrev Moved : Link → List ℕ → List ℕ → List Happening → Link → Type 0
+abbrev Moved : Link → List ℕ → List ℕ → List ConnectionEvent → Link → Type 0
 Moved first taken written handed last = Moves first taken written handed last ⊎ IsAborted written handed last (Moves first taken)
 
-module _ {taken more written further : List ℕ} {handed others : List Happening} (first mid aborted last : Link) (excess : Excess) (then_ : Moves aborted more further others last) where
+module _ {taken more written further : List ℕ} {handed others : List ConnectionEvent} (first mid aborted last : Link) (excess : Excess) (then_ : Moves aborted more further others last) where
   moved_on : IsAborted written handed aborted (Moves first taken) → Moved first (taken ++ more) (written ++ further) (handed ++ others) last
   moved_on a =
       let is_left = left a.fault a.ended then_ in
@@ -121,7 +121,7 @@ module _ {taken more written further : List ℕ} {handed others : List Happening
   moved_by (inr a) (runs_out open_ is) = absurd (true≢false (sym a.stays_closed ∙ open_))
   moved_by (inr a) (was_closed closed is) = moved_on (subst (λ (l : Link). IsAborted written handed l (Moves first taken)) (sym is) a)
 
-course_moves : {first last : Link} {taken written : List ℕ} {handed : List Happening} → Course first taken written handed last → Moved first taken written handed last
+course_moves : {first last : Link} {taken written : List ℕ} {handed : List ConnectionEvent} → Course first taken written handed last → Moved first taken written handed last
 course_moves (lives life) = inl (lives_move life)
 course_moves {first = first} {last = last} (aborts {mid = mid} {aborted = aborted} excess before aborts_ life e f g) =
     rw (e, f, g) (moved_by first mid aborted last excess (lives_move life) (course_moves before) aborts_)

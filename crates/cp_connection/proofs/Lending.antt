@@ -17,14 +17,14 @@ use Rattle.cp_vat_machine.specs.declared.event.Value.TheVariants as values
 use Rattle.cp_vat_machine.specs.declared.fault.VatFault.{VatFault}
 use Rattle.cp_vat.specs.Lending.{deliveries, effects_lending}
 use Rattle.cp_vat.specs.Stepping as vat
-use Rattle.cp_vat.specs.declared.lent.Lent.{Lent}
+use Rattle.cp_vat.specs.declared.borrowed_call.BorrowedCall.{BorrowedCall}
 use Rattle.cp_tail_calls.specs.Serving.{Settles, Goes, Serves, closes, comes_of, moment}
 use Rattle.cp_tail_calls.specs.Tails.{Tails}
-use Rattle.cp_tail_calls.specs.declared.owed.Trigger.TheVariants as triggers
+use Rattle.cp_tail_calls.specs.declared.forwarding.Trigger.TheVariants as triggers
 use Rattle.cp_connection.specs.declared.agenda.Agenda.{Agenda}
 use Rattle.cp_connection.specs.declared.fault.ConnectionFault.{ConnectionFault}
 use Rattle.cp_connection.specs.declared.fault.ConnectionFault.TheVariants as faults
-use Rattle.cp_connection.specs.declared.happening.Happening.{Happening}
+use Rattle.cp_connection.specs.declared.event.ConnectionEvent.{ConnectionEvent}
 use Rattle.cp_connection.specs.declared.parts.Parts.{Parts}
 use Rattle.cp_connection.specs.Doing.{Does, Refuses}
 use Rattle.cp_connection.specs.Effects.{happening_by}
@@ -89,7 +89,7 @@ pub none_by : {X : Type 0} (items : List X) (n : ℕ) (b : Bool) → n ≡ lengt
 none_by items n b long is holds = nil_from_length items (sym long ∙ zero_by n (sym is ∙ holds))
 
 -- what comes of a delivery, and of those after it
-comes_deliver : (t : Option Tails) (lent : Lent) (more : List Effect)
+comes_deliver : (t : Option Tails) (lent : BorrowedCall) (more : List Effect)
     → comes_of triggers.Message t (deliveries (Some lent) ++ more) ≡ (deliveries (Some lent) ++ (comes_of triggers.Message t more).0, (comes_of triggers.Message t more).1)
 comes_deliver None lent more = refl
 comes_deliver (Some t) lent more = refl
@@ -99,7 +99,7 @@ module _ (p : Parts) (t : Option Tails) (v : State) (m : Message) (open_ : p.fau
   after = got p t v m open_ kept
 
   -- the vat lent a call, and what follows was noted
-  goes_lent : (x : Message) (lent : Lent) (by : List Effect) (q : Parts) → Step p.vat (events.Receive x) (Ok values.Nothing) (deliveries (Some lent) ++ by) v → (f : Follows after triggers.Message by q)
+  goes_lent : (x : Message) (lent : BorrowedCall) (by : List Effect) (q : Parts) → Step p.vat (events.Receive x) (Ok values.Nothing) (deliveries (Some lent) ++ by) v → (f : Follows after triggers.Message by q)
       → Goes is_supported_to_caller stage_of (record { vat = p.vat; tails = t }) (events.Receive x) values.Nothing (moment (events.Receive x) (Ok values.Nothing) (deliveries (Some lent) ++ by) ∷ f.later)
       (deliveries (Some lent) ++ ((comes_of triggers.Message t by).0 ++ f.rest)) (behind q)
   goes_lent x lent by q step f =
@@ -118,7 +118,7 @@ module _ (p : Parts) (t : Option Tails) (v : State) (m : Message) (open_ : p.fau
       }
 
   -- a call that was lent happened first
-  lent_at : (lent : Lent) (history : List Moment) (out : List Effect) (a : Agenda) (w : State) (u : Option Tails) (f : Option ConnectionFault)
+  lent_at : (lent : BorrowedCall) (history : List Moment) (out : List Effect) (a : Agenda) (w : State) (u : Option Tails) (f : Option ConnectionFault)
       → Serves is_supported_to_caller stage_of (record { vat = p.vat; tails = p.tails }) (events.Receive m) (Ok values.Nothing) history (deliveries (Some lent) ++ out) (record { vat = w; tails = u })
       → Notes p.agenda out a → f ≡ closed_by out → DoesLending (link_of p) (events.Receive m) (Some lent) (link_of (record after { agenda = a; vat = w; tails = u; fault = f }))
   lent_at lent history out a w u f serves noted ends = (
@@ -135,10 +135,10 @@ module _ (p : Parts) (t : Option Tails) (v : State) (m : Message) (open_ : p.fau
       are_frames = noted.frames;
       goes_out = noted.goes_out;
       happens =
-          ap (λ (h : List Happening). delivered lent ∷ h) (noted.happens ∙ ap (λ (h : List Happening). h ++ happening_by out) none)
-          ∙ sym (ap (λ (h : List Happening). h ++ (delivered lent ∷ happening_by out)) none);
+          ap (λ (h : List ConnectionEvent). delivered lent ∷ h) (noted.happens ∙ ap (λ (h : List ConnectionEvent). h ++ happening_by out) none)
+          ∙ sym (ap (λ (h : List ConnectionEvent). h ++ (delivered lent ∷ happening_by out)) none);
       counts = noted.counts;
-      same_tally = refl;
+      same_stats = refl;
       ends = ends;
       same_mode = noted.same_mode;
       same_limits = refl;
@@ -147,7 +147,7 @@ module _ (p : Parts) (t : Option Tails) (v : State) (m : Message) (open_ : p.fau
     (refl, refl),
   )
 
-  lends_value : (x : Message) (value : Option Lent) (by : List Effect) (q : Parts) → GetsTo p m (Some x) t → Step p.vat (events.Receive x) (Ok values.Nothing) (deliveries value ++ by) v
+  lends_value : (x : Message) (value : Option BorrowedCall) (by : List Effect) (q : Parts) → GetsTo p m (Some x) t → Step p.vat (events.Receive x) (Ok values.Nothing) (deliveries value ++ by) v
       → Follows after triggers.Message by q → DoesLending (link_of p) (events.Receive m) value (link_of q)
   lends_value x None by q is step f = (
     _,
@@ -162,17 +162,17 @@ module _ (p : Parts) (t : Option Tails) (v : State) (m : Message) (open_ : p.fau
       (does_take p t v m open_ kept x (deliveries (Some lent) ++ by) _ _ q is step (goes_lent x lent by q step f)) f.noted f.ended)
 
   -- what was lent
-  pub lends : (x : Message) (acted : Result (Acted (Option Lent)) VatFault) (result : Result (Option Lent) ConnectionFault) (q : Parts) → GetsTo p m (Some x) t
+  pub lends : (x : Message) (acted : Result (Acted (Option BorrowedCall)) VatFault) (result : Result (Option BorrowedCall) ConnectionFault) (q : Parts) → GetsTo p m (Some x) t
       → Step p.vat (events.Receive x) (vat.answered (λ _. values.Nothing) acted) (effects_lending acted) v → NotesAll after triggers.Message acted result q
       → IfOk result (λ lent. DoesLending (link_of p) (events.Receive m) lent (link_of q))
   lends x (Ok acted) (Ok lent) q is step noted =
-      subst (λ (value : Option Lent). DoesLending (link_of p) (events.Receive m) value (link_of q)) (sym noted.0) (lends_value x acted.value acted.effects q is step noted.1)
+      subst (λ (value : Option BorrowedCall). DoesLending (link_of p) (events.Receive m) value (link_of q)) (sym noted.0) (lends_value x acted.value acted.effects q is step noted.1)
   lends x (Ok acted) (Err fault) q is step noted = tt
   lends x (Err refusal) (Ok lent) q is step noted = absurd noted
   lends x (Err refusal) (Err fault) q is step noted = tt
 
   -- why nothing was
-  pub lends_not : (x : Message) (acted : Result (Acted (Option Lent)) VatFault) (result : Result (Option Lent) ConnectionFault) (q : Parts) → GetsTo p m (Some x) t
+  pub lends_not : (x : Message) (acted : Result (Acted (Option BorrowedCall)) VatFault) (result : Result (Option BorrowedCall) ConnectionFault) (q : Parts) → GetsTo p m (Some x) t
       → Step p.vat (events.Receive x) (vat.answered (λ _. values.Nothing) acted) (effects_lending acted) v → NotesAll after triggers.Message acted result q
       → IfErr result (λ fault. Refuses (link_of p) (events.Receive m) fault (link_of q))
   lends_not x (Ok acted) (Ok lent) q is step noted = tt
@@ -188,7 +188,7 @@ module _ (p : Parts) (t : Option Tails) (v : State) (m : Message) (open_ : p.fau
 -- ---- the same, as functions say it
 
 module _ (p q r : Parts) (m : Message) (on : Option Message) (open_ : p.fault ≡ None) (kept : p.is_lost ≡ false) (none : p.agenda.happened.items ≡ []) (given : GetsFor p m on q) (v : State) (x : Message)
-    (acted : Result (Acted (Option Lent)) VatFault) (result : Result (Option Lent) ConnectionFault) (is : on ≡ Some x) (step : Step q.vat (events.Receive x) (vat.answered (λ _. values.Nothing) acted) (effects_lending acted) v)
+    (acted : Result (Acted (Option BorrowedCall)) VatFault) (result : Result (Option BorrowedCall) ConnectionFault) (is : on ≡ Some x) (step : Step q.vat (events.Receive x) (vat.answered (λ _. values.Nothing) acted) (effects_lending acted) v)
     (noted : NotesAll (record q { vat = v }) triggers.Message acted result r) where
   same : q ≡ record p { tails = q.tails }
   same = gets_same p q m on given

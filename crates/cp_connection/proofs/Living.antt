@@ -9,7 +9,7 @@ use Rattle.cp_stream.proofs.Runs.{is_one_stream}
 use Rattle.cp_vat_laws.proofs.writable.Stepping.{runs_write}
 use Rattle.cp_tail_calls.specs.Bridging.{messages_of}
 use Rattle.cp_tail_calls.specs.Tails.{none}
-use Rattle.cp_connection.specs.declared.happening.Happening.{Happening}
+use Rattle.cp_connection.specs.declared.event.ConnectionEvent.{ConnectionEvent}
 use Rattle.cp_connection.specs.Effects.{AreFramesOf}
 use Rattle.cp_connection.specs.Link.{Link, new_link, new_link_with_tails}
 use Rattle.cp_connection.specs.Moves.{Moves}
@@ -17,22 +17,22 @@ use Rattle.cp_connection.specs.Lives.{Calls, receives, receives_none, ends, ends
 use Rattle.cp_connection.proofs.Keeping.{nothing_stands}
 use Rattle.cp_connection.proofs.Moving.{moves_both, moves_same, moves_received, moves_unreceived, moves_ended, moves_cut, moves_acted, moves_wrote, moves_handed}
 
-pub calls_move : {old new : Link} {taken written : List ℕ} {out : List Happening} → Calls old taken written out new → Moves old taken written out new
+pub calls_move : {old new : Link} {taken written : List ℕ} {out : List ConnectionEvent} → Calls old taken written out new → Moves old taken written out new
 calls_move {old = old} {new = new} (receives piece count h e) = subst (λ (x : List ℕ). Moves old x [] [] new) (sym e) (moves_received old new piece count h)
 calls_move {old = old} {new = new} {taken = taken} (receives_none piece fault h) = moves_unreceived old new piece taken fault h
 calls_move {old = old} {new = new} (ends h) = moves_ended old new h
 calls_move {old = old} {new = new} (ends_inside fault h) = moves_cut old new fault h
 calls_move {old = old} {new = new} (acts event result call h) = moves_acted old new event result call h
 calls_move {old = old} {new = new} (writes count h e) = subst (λ (x : List ℕ). Moves old [] x [] new) (sym e) (moves_wrote old new count h)
-calls_move {old = old} {new = new} (hands first h e) = subst (λ (x : List Happening). Moves old [] [] x new) (sym e) (moves_handed old new first h)
+calls_move {old = old} {new = new} (hands first h e) = subst (λ (x : List ConnectionEvent). Moves old [] [] x new) (sym e) (moves_handed old new first h)
 
-pub lives_move : {first last : Link} {taken written : List ℕ} {out : List Happening} → Life first taken written out last → Moves first taken written out last
+pub lives_move : {first last : Link} {taken written : List ℕ} {out : List ConnectionEvent} → Life first taken written out last → Moves first taken written out last
 lives_move {first = first} begins = moves_same first first refl
 lives_move {first = first} {last = last} (goes_on {mid = mid} before call e f g) =
     rw (e, f, g) (moves_both first mid last (lives_move before) (calls_move call))
 
 module _ (mode : Mode) (limits : Bounds) where
-  pub run_of : (bootstrap : Option ℕ) (taken written : List ℕ) (handed : List Happening) (last : Link) → Moves (new_link mode limits bootstrap) taken written handed last
+  pub run_of : (bootstrap : Option ℕ) (taken written : List ℕ) (handed : List ConnectionEvent) (last : Link) → Moves (new_link mode limits bootstrap) taken written handed last
       → IsRunOf mode limits bootstrap taken written handed last
   run_of bootstrap taken written handed last h =
       let all = h.takes [] (nothing_stands mode limits) in
@@ -50,7 +50,7 @@ module _ (mode : Mode) (limits : Bounds) where
         happens = h.happens;
       }
 
-  pub run_behind : (bootstrap : Option ℕ) (taken written : List ℕ) (handed : List Happening) (last : Link) → Moves (new_link_with_tails mode limits bootstrap) taken written handed last
+  pub run_behind : (bootstrap : Option ℕ) (taken written : List ℕ) (handed : List ConnectionEvent) (last : Link) → Moves (new_link_with_tails mode limits bootstrap) taken written handed last
       → IsRunBehind mode limits bootstrap taken written handed last
   run_behind bootstrap taken written handed last h =
       let all = h.takes [] (nothing_stands mode limits) in

@@ -20,7 +20,7 @@ use Rattle.cp_tail_calls.specs.Bridging.{HaveDone, message_of, messages_of, sent
 use Rattle.cp_tail_calls.specs.Runs.{Turn}
 use Rattle.cp_tail_calls.proofs.VatRuns.{runs_behind}
 use Rattle.cp_connection.specs.declared.fault.ConnectionFault.{ConnectionFault}
-use Rattle.cp_connection.specs.declared.happening.Happening.{Happening}
+use Rattle.cp_connection.specs.declared.event.ConnectionEvent.{ConnectionEvent}
 use Rattle.cp_connection.specs.Effects.{happening_by, AreFramesOf, happened}
 use Rattle.cp_connection.specs.Link.{Link, HasCome}
 use Rattle.cp_connection.specs.Doing.{Does, Refuses, Acts, served}
@@ -50,7 +50,7 @@ sent_all (m ∷ a) b = ap (λ (x : List Message). sent_of m.effects ++ x) (sent_
 happened_both : (a b : List Moment) → happened (a ++ b) ≡ happened a ++ happened b
 happened_both [] b = refl
 happened_both (m ∷ a) b =
-    ap (λ (x : List Happening). happening_by m.effects ++ x) (happened_both a b) ∙ sym (append_assoc (happening_by m.effects) (happened a) (happened b))
+    ap (λ (x : List ConnectionEvent). happening_by m.effects ++ x) (happened_both a b) ∙ sym (append_assoc (happening_by m.effects) (happened a) (happened b))
 
 messages_both : (mode : Mode) (limits : Bounds) (a b : List Message) (x y rest last : List ℕ) → Messages mode limits x a rest → Messages mode limits (rest ++ y) b last
     → Messages mode limits (x ++ y) (a ++ b) last
@@ -65,7 +65,7 @@ chain o m n front next first more h k =
 
 -- ---- one move after another
 
-module _ {a b x y : List ℕ} {out others : List Happening} (old mid new : Link) (h : Moves old a x out mid) (k : Moves mid b y others new) where
+module _ {a b x y : List ℕ} {out others : List ConnectionEvent} (old mid new : Link) (h : Moves old a x out mid) (k : Moves mid b y others new) where
   -- the second takes up what came with the first
   takes_more : (rest : List ℕ) (first : Takes old a h.came mid rest) → HasCome mid first.left → Takes old (a ++ b) (h.came ++ k.came) new rest
   takes_more rest first came =
@@ -146,7 +146,7 @@ module _ {a b x y : List ℕ} {out others : List Happening} (old mid new : Link)
     are_frames = frames_both old.mode h.went k.went h.bytes k.bytes h.are_frames (subst (λ (m : Mode). AreFramesOf m k.went k.bytes) h.same_mode k.are_frames);
     goes_out = chain old.unwritten mid.unwritten new.unwritten x y h.bytes k.bytes h.goes_out k.goes_out;
     happens =
-        ap (λ (z : List Happening). old.happened ++ z) (happened_both h.history k.history)
+        ap (λ (z : List ConnectionEvent). old.happened ++ z) (happened_both h.history k.history)
         ∙ chain old.happened mid.happened new.happened out others (happened h.history) (happened k.history) h.happens k.happens;
     alone = λ none. alone_both (h.alone none) mid.fault refl;
     turns = turns_more;
@@ -160,7 +160,7 @@ module _ {a b x y : List ℕ} {out others : List Happening} (old mid new : Link)
 -- no event is done, and what came of the open frame stays, unless the connection ends
 module _ (old new : Link) (vat : new.vat ≡ old.vat) (mode : new.mode ≡ old.mode) (limits : new.limits ≡ old.limits)
     (tails : new.tails ≡ old.tails) (came : (rest : List ℕ) → HasCome old rest → new.fault ≡ None → HasCome new rest) (stays : (fault : ConnectionFault) → old.fault ≡ Some fault → new.fault ≡ Some fault) where
-  pub moves_quietly : {written : List ℕ} {handed : List Happening} → old.unwritten ≡ written ++ new.unwritten → old.happened ≡ handed ++ new.happened → Moves old [] written handed new
+  pub moves_quietly : {written : List ℕ} {handed : List ConnectionEvent} → old.unwritten ≡ written ++ new.unwritten → old.happened ≡ handed ++ new.happened → Moves old [] written handed new
   moves_quietly goes_out happens = record {
     history = [];
     steps = vat;
@@ -219,7 +219,7 @@ module _ (old mid new : Link) (event : Event) (result : Result Value VatFault) (
     are_frames = rw (← mode) d.are_frames;
     goes_out = ap (λ (x : List ℕ). x ++ d.bytes) (sym unwritten) ∙ sym d.goes_out;
     happens =
-        ap (λ (x : List Happening). x ++ happened d.history) (sym happened_) ∙ ap (λ (x : List Happening). mid.happened ++ x) (serves_happen d.serves) ∙ sym d.happens;
+        ap (λ (x : List ConnectionEvent). x ++ happened d.history) (sym happened_) ∙ ap (λ (x : List ConnectionEvent). mid.happened ++ x) (serves_happen d.serves) ∙ sym d.happens;
     alone = alone_one;
     turns = λ past done kept. tells_event result d.serves past (done.0, tails ∙ done.1, done.2) kept;
     stays = λ f is. none_some old.fault (sym fault ∙ d.was_open) is;
@@ -339,7 +339,7 @@ moves_wrote old new count e =
     (sym (take-append-drop count old.unwritten) ∙ ap (λ (x : List ℕ). take count old.unwritten ++ x) (sym (ap (λ (l : Link). l.unwritten) e)))
     (sym (ap (λ (l : Link). l.happened) e))
 
-pub moves_handed : (old new : Link) (first : Option Happening) → HandsOut old first new → Moves old [] [] (option_to_list first) new
+pub moves_handed : (old new : Link) (first : Option ConnectionEvent) → HandsOut old first new → Moves old [] [] (option_to_list first) new
 moves_handed old new None h = moves_same old new h.1
 moves_handed old new (Some first) h =
     let e = h.1 in

@@ -9,11 +9,11 @@ use Rattle.cp_tail_calls.specs.Bridging.{sent_of}
 use Rattle.cp_tail_calls.specs.Sending.{sent}
 use Rattle.cp_tail_calls.specs.Serving.{closes, comes_of, passed_on, sends_first, with_tails}
 use Rattle.cp_tail_calls.specs.Tails.{Tails}
-use Rattle.cp_tail_calls.specs.declared.owed.Trigger.{Trigger}
+use Rattle.cp_tail_calls.specs.declared.forwarding.Trigger.{Trigger}
 use Rattle.cp_connection.specs.declared.agenda.Agenda.{Agenda}
 use Rattle.cp_connection.specs.declared.agenda.Mark.{Mark}
-use Rattle.cp_connection.specs.declared.happening.Happening.{Happening}
-use Rattle.cp_connection.specs.declared.happening.Happening.TheVariants as happenings
+use Rattle.cp_connection.specs.declared.event.ConnectionEvent.{ConnectionEvent}
+use Rattle.cp_connection.specs.declared.event.ConnectionEvent.TheVariants as happenings
 use Rattle.cp_connection.specs.Effects.{happening_by, AreFramesOf}
 use Rattle.cp_connection.specs.Noting.{Notes, Grows, Stays, Marks, GoesBack}
 
@@ -44,8 +44,8 @@ sent_both (effects.Closed reason ∷ a) b h = absurd (true≢false h)
 pub happening_both : (a b : List Effect) → closes a ≡ false → happening_by (a ++ b) ≡ happening_by a ++ happening_by b
 happening_both [] b h = refl
 happening_both (effects.Send m ∷ a) b h = happening_both a b h
-happening_both (effects.Deliver object origin ticket call ∷ a) b h = ap (λ (x : List Happening). happenings.Delivered object origin ticket call ∷ x) (happening_both a b h)
-happening_both (effects.Settled question outcome ∷ a) b h = ap (λ (x : List Happening). happenings.Settled question outcome ∷ x) (happening_both a b h)
+happening_both (effects.Deliver object origin ticket call ∷ a) b h = ap (λ (x : List ConnectionEvent). happenings.Delivered object origin ticket call ∷ x) (happening_both a b h)
+happening_both (effects.Settled question outcome ∷ a) b h = ap (λ (x : List ConnectionEvent). happenings.Settled question outcome ∷ x) (happening_both a b h)
 happening_both (effects.Closed reason ∷ a) b h = absurd (true≢false h)
 
 -- ---- one after another
@@ -62,8 +62,8 @@ notes_both a b c first more still h k = record {
       (frames_both a.mode (sent_of first) (sent_of more) h.bytes k.bytes h.frames (subst (λ (m : Mode). AreFramesOf m (sent_of more) k.bytes) h.same_mode k.frames));
   goes_out = k.goes_out ∙ ap (λ (x : List ℕ). x ++ k.bytes) h.goes_out ∙ append_assoc a.outgoing h.bytes k.bytes;
   happens =
-      k.happens ∙ ap (λ (x : List Happening). x ++ happening_by more) h.happens ∙ append_assoc a.happened.items (happening_by first) (happening_by more)
-      ∙ ap (λ (x : List Happening). a.happened.items ++ x) (sym (happening_both first more still));
+      k.happens ∙ ap (λ (x : List ConnectionEvent). x ++ happening_by more) h.happens ∙ append_assoc a.happened.items (happening_by first) (happening_by more)
+      ∙ ap (λ (x : List ConnectionEvent). a.happened.items ++ x) (sym (happening_both first more still));
   counts =
       counts_sum a.sent b.sent c.sent (length (sent_of first)) (length (sent_of more)) (length (sent_of (first ++ more))) h.counts k.counts
       (ap length (sent_both first more still) ∙ length-append (sent_of first) (sent_of more));
@@ -187,7 +187,7 @@ grows_both a b c h k = record {
   bytes = h.bytes ++ k.bytes;
   goes_out = k.goes_out ∙ ap (λ (x : List ℕ). x ++ k.bytes) h.goes_out ∙ append_assoc a.outgoing h.bytes k.bytes;
   more = h.more ++ k.more;
-  happens = k.happens ∙ ap (λ (x : List Happening). x ++ k.more) h.happens ∙ append_assoc a.happened.items h.more k.more;
+  happens = k.happens ∙ ap (λ (x : List ConnectionEvent). x ++ k.more) h.happens ∙ append_assoc a.happened.items h.more k.more;
   same_mode = k.same_mode ∙ h.same_mode;
 }
 
@@ -200,6 +200,6 @@ pub stays_back : (a b c : Agenda) (mark : Mark) → Marks a mark → Grows a b �
 stays_back a b c mark m g back = record {
   same_mode = back.same_mode ∙ g.same_mode;
   same_bytes = back.bytes ∙ cut_back a.outgoing b.outgoing g.bytes mark.unwritten m.bytes g.goes_out;
-  same_happenings = back.happenings ∙ cut_back a.happened.items b.happened.items g.more mark.happened m.happenings g.happens;
+  same_happenings = back.events ∙ cut_back a.happened.items b.happened.items g.more mark.happened m.events g.happens;
   same_count = back.count ∙ m.count;
 }

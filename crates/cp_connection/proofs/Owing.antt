@@ -20,9 +20,9 @@ use Rattle.cp_tail_calls.specs.Receiving.{Passed, received, receive_call, receiv
 use Rattle.cp_tail_calls.specs.Sending.{sent, send_return_of, next_of, resolution_for}
 use Rattle.cp_tail_calls.specs.Serving.{comes_of, passed_on, sends_first}
 use Rattle.cp_tail_calls.specs.Tails.{Tails}
-use Rattle.cp_tail_calls.specs.declared.owed.Owed.{Owed}
-use Rattle.cp_tail_calls.specs.declared.owed.Trigger.{Trigger}
-use Rattle.cp_tail_calls.specs.declared.owed.Trigger.TheVariants as triggers
+use Rattle.cp_tail_calls.specs.declared.forwarding.ForwardedMessage.{ForwardedMessage}
+use Rattle.cp_tail_calls.specs.declared.forwarding.Trigger.{Trigger}
+use Rattle.cp_tail_calls.specs.declared.forwarding.Trigger.TheVariants as triggers
 use Rattle.cp_tail_calls.specs.declared.progress.Progress.{Progress}
 use Rattle.cp_tail_calls.specs.declared.progress.Progress.TheVariants as progress
 use Rattle.cp_tail_calls.specs.declared.progress.Taker.{Taker}
@@ -69,7 +69,7 @@ sent_written t trigger (messages.Other which body) h = h
 
 -- ---- what is owed
 
-owes_both : (a b : List Owed) → AreSendable a → AreSendable b → AreSendable (a ++ b)
+owes_both : (a b : List ForwardedMessage) → AreSendable a → AreSendable b → AreSendable (a ++ b)
 owes_both [] b h k = k
 owes_both (first ∷ a) b h k = (h.0, owes_both a b h.1 k)
 
@@ -183,11 +183,11 @@ comes_owes trigger None by h = tt
 comes_owes trigger (Some t) by h = passed_owes trigger by t h
 
 -- as what is owed is passed on
-abbrev pub FirstSendable : Option Owed → Type 0
+abbrev pub FirstSendable : Option ForwardedMessage → Type 0
 FirstSendable None = Unit {0}
 FirstSendable (Some first) = IsSendable first
 
-pub next_owes : (stage : ℕ → Option Stage) (t : Tails) (all : List Owed) → AreSendable all → AreSendable t.owed
+pub next_owes : (stage : ℕ → Option Stage) (t : Tails) (all : List ForwardedMessage) → AreSendable all → AreSendable t.owed
     → FirstSendable (next_of stage t all).0 × AreSendable (next_of stage t all).1.owed
 next_owes stage t [] h k = (tt, k)
 next_owes stage t (first ∷ rest) h k = (h.0, h.1)
@@ -198,10 +198,10 @@ pub sends_writable : (t u : Tails) (trigger : Trigger) (m x : Message) (on : Opt
 sends_writable t u trigger m x on h e is =
     subst (λ (o : Option Message). IfSome o IsWritable) (ap (λ (r : Passed). r.0) e ∙ is) (sent_written t trigger m h)
 
-pub rest_owes : (stage : ℕ → Option Stage) (t mid : Tails) (on : Option Owed) → AreSendable t.owed → next_of stage t t.owed ≡ (on, mid) → AreSendable mid.owed
+pub rest_owes : (stage : ℕ → Option Stage) (t mid : Tails) (on : Option ForwardedMessage) → AreSendable t.owed → next_of stage t t.owed ≡ (on, mid) → AreSendable mid.owed
 rest_owes stage t mid on h e =
-    subst (λ (x : Tails). AreSendable x.owed) (ap (λ (r : Option Owed × Tails). r.1) e) (next_owes stage t t.owed h h).1
+    subst (λ (x : Tails). AreSendable x.owed) (ap (λ (r : Option ForwardedMessage × Tails). r.1) e) (next_owes stage t t.owed h h).1
 
-pub first_sendable : (stage : ℕ → Option Stage) (t mid : Tails) (on : Option Owed) (first : Owed) → AreSendable t.owed → next_of stage t t.owed ≡ (on, mid) → on ≡ Some first → IsSendable first
+pub first_sendable : (stage : ℕ → Option Stage) (t mid : Tails) (on : Option ForwardedMessage) (first : ForwardedMessage) → AreSendable t.owed → next_of stage t t.owed ≡ (on, mid) → on ≡ Some first → IsSendable first
 first_sendable stage t mid on first h e is =
-    subst FirstSendable (ap (λ (r : Option Owed × Tails). r.0) e ∙ is) (next_owes stage t t.owed h h).0
+    subst FirstSendable (ap (λ (r : Option ForwardedMessage × Tails). r.0) e ∙ is) (next_owes stage t t.owed h h).0

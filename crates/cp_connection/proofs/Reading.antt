@@ -13,7 +13,7 @@ use Rattle.cp_stream.specs.declared.fault.Refusal.TheVariants as refusals
 use Rattle.cp_stream.specs.Stream.{Holds, HoldsNone, HasFault}
 use Rattle.cp_stream.proofs.Only.{open_nil}
 use Rattle.cp_connection.specs.declared.fault.ConnectionFault.TheVariants as faults
-use Rattle.cp_connection.specs.declared.happening.Tally.{Tally}
+use Rattle.cp_connection.specs.declared.event.ConnectionStats.{ConnectionStats}
 use Rattle.cp_connection.specs.declared.parts.Parts.{Parts}
 use Rattle.cp_connection.specs.Link.{HasCome}
 use Rattle.cp_connection.specs.LinkOf.{link_of, GoesOn, unread_at}
@@ -71,7 +71,7 @@ module _ (p : Parts) (on : GoesOn p) where
       fresh_new : HasCome (link_of (record p { frames = r; bytes = bytes; messages = messages })) []
       fresh_new = (reads_again p.agenda.mode p.limits r.state stood (open_nil p.agenda.mode p.limits), stood)
 
-      tallied : {n : ℕ} → taken ≡ n → ◌≡◌ {A = Tally} (record { bytes = bytes; messages = messages; sent = p.agenda.sent }) (counted (link_of p).tally n)
+      tallied : {n : ℕ} → taken ≡ n → ◌≡◌ {A = ConnectionStats} (record { bytes = bytes; messages = messages; sent = p.agenda.sent }) (counted (link_of p).stats n)
       tallied e = cc (more, one, e)
 
   -- none was, and the piece goes on

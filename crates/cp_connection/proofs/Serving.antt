@@ -14,13 +14,13 @@ use Rattle.cp_vat_machine.specs.declared.fault.VatFault.TheVariants as refusals
 use Rattle.cp_tail_calls.specs.Sending.{sent}
 use Rattle.cp_tail_calls.specs.Serving.{Served, Settles, has_closed, nothing_owed, to_peer, to_vat, Goes, Serves, calls, takes, keeps, refuses, IsStep, closes, comes_of, gets, passed_on, sends_first, trigger_of}
 use Rattle.cp_tail_calls.specs.Tails.{Tails}
-use Rattle.cp_tail_calls.specs.declared.owed.Trigger.{Trigger}
-use Rattle.cp_tail_calls.specs.declared.owed.Trigger.TheVariants as triggers
+use Rattle.cp_tail_calls.specs.declared.forwarding.Trigger.{Trigger}
+use Rattle.cp_tail_calls.specs.declared.forwarding.Trigger.TheVariants as triggers
 use Rattle.cp_vat_machine.proofs.Basics.{ok_out}
 use Rattle.cp_tail_calls.proofs.VatRuns.{serves_alone}
 use Rattle.cp_connection.specs.declared.fault.ConnectionFault.{ConnectionFault}
-use Rattle.cp_connection.specs.declared.happening.Happening.{Happening}
-use Rattle.cp_connection.specs.declared.happening.Happening.TheVariants as happenings
+use Rattle.cp_connection.specs.declared.event.ConnectionEvent.{ConnectionEvent}
+use Rattle.cp_connection.specs.declared.event.ConnectionEvent.TheVariants as happenings
 use Rattle.cp_connection.specs.Doing.{Does, ended_by, served}
 use Rattle.cp_connection.specs.Effects.{happening_by, happened}
 use Rattle.cp_connection.specs.Link.{Link}
@@ -39,8 +39,8 @@ comes_happen trigger (Some t) by = passes t by
     passes : (t : Tails) (by : List Effect) → happening_by (passed_on trigger t by).0 ≡ happening_by by
     passes t [] = refl
     passes t (effects.Send m ∷ more) = first (sent t trigger m).0 (passed_on trigger (sent t trigger m).1 more) ∙ passes (sent t trigger m).1 more
-    passes t (effects.Deliver object origin ticket call ∷ more) = ap (λ (h : List Happening). happenings.Delivered object origin ticket call ∷ h) (passes t more)
-    passes t (effects.Settled question outcome ∷ more) = ap (λ (h : List Happening). happenings.Settled question outcome ∷ h) (passes t more)
+    passes t (effects.Deliver object origin ticket call ∷ more) = ap (λ (h : List ConnectionEvent). happenings.Delivered object origin ticket call ∷ h) (passes t more)
+    passes t (effects.Settled question outcome ∷ more) = ap (λ (h : List ConnectionEvent). happenings.Settled question outcome ∷ h) (passes t more)
     passes t (effects.Closed reason ∷ more) = refl
 
 -- once the vat closed, nothing is passed on
@@ -59,7 +59,7 @@ happens_then trigger t by history out {old = old} {new = new} settles h = split 
         ap (λ (ms : List Moment). happening_by by ++ happened ms) none.0 ∙ append-nil (happening_by by) ∙ sym (comes_happen trigger t by)
         ∙ sym (ap happening_by (append-nil (comes_of trigger t by).0)) ∙ sym (ap (λ (es : List Effect). happening_by ((comes_of trigger t by).0 ++ es)) none.1)
     split false still =
-        ap (λ (x : List Happening). x ++ happened history) (sym (comes_happen trigger t by)) ∙ ap (λ (x : List Happening). happening_by (comes_of trigger t by).0 ++ x) h
+        ap (λ (x : List ConnectionEvent). x ++ happened history) (sym (comes_happen trigger t by)) ∙ ap (λ (x : List ConnectionEvent). happening_by (comes_of trigger t by).0 ++ x) h
         ∙ sym (happening_both (comes_of trigger t by).0 out (closes_comes trigger t by ∙ still))
 
 settles_happen : {closed : Bool} {old new : Served} {history : List Moment} {out : List Effect} → Settles is_supported_to_caller stage_of closed old history out new

@@ -14,10 +14,10 @@ use Rattle.cp_vat_machine.specs.declared.event.Value.TheVariants as values
 use Rattle.cp_tail_calls.specs.Sending.{next_of}
 use Rattle.cp_tail_calls.specs.Serving.{Served, Settles, has_closed, nothing_owed, to_peer, to_vat, closes, comes_of, moment, owed_by}
 use Rattle.cp_tail_calls.specs.Tails.{Tails}
-use Rattle.cp_tail_calls.specs.declared.owed.Owed.{Owed}
-use Rattle.cp_tail_calls.specs.declared.owed.Owed.TheVariants as owed
-use Rattle.cp_tail_calls.specs.declared.owed.Trigger.{Trigger}
-use Rattle.cp_tail_calls.specs.declared.owed.Trigger.TheVariants as triggers
+use Rattle.cp_tail_calls.specs.declared.forwarding.ForwardedMessage.{ForwardedMessage}
+use Rattle.cp_tail_calls.specs.declared.forwarding.ForwardedMessage.TheVariants as owed
+use Rattle.cp_tail_calls.specs.declared.forwarding.Trigger.{Trigger}
+use Rattle.cp_tail_calls.specs.declared.forwarding.Trigger.TheVariants as triggers
 use Rattle.cp_connection.specs.declared.agenda.Agenda.{Agenda}
 use Rattle.cp_connection.specs.declared.agenda.Mark.{Mark}
 use Rattle.cp_connection.specs.declared.fault.ConnectionFault.{ConnectionFault}
@@ -122,7 +122,7 @@ passes_both a b c h open_ k =
     }
 
 -- what was owed first
-pub passes_owed : (p r : Parts) (t mid : Tails) (first : Owed) → p.tails ≡ Some t → p.fault ≡ None → next_of (stage_of p.vat) t t.owed ≡ (Some first, mid) → AreSendable mid.owed
+pub passes_owed : (p r : Parts) (t mid : Tails) (first : ForwardedMessage) → p.tails ≡ Some t → p.fault ≡ None → next_of (stage_of p.vat) t t.owed ≡ (Some first, mid) → AreSendable mid.owed
     → Passes (record p { tails = Some mid }) first r → PassesOn p r
 passes_owed p r t mid (owed.ToPeer m) is open_ next owes h =
     let same : behind r ≡ record { vat = p.vat; tails = Some mid } = ap behind h.1 in
@@ -185,23 +185,23 @@ ends_turn a b c false e h k = settles_all a b c h k
 pub may_turn : (a b c : Parts) → PassesOn a b → MayNote b c → MayNote a c
 may_turn a b c h k = may_both a b c (may_by a b h) k
 
-next_none : (stage : ℕ → Option Stage) (t mid : Tails) (all : List Owed) → next_of stage t all ≡ (None, mid) → (all ≡ []) × (mid ≡ t)
-next_none stage t mid [] e = (refl, sym (ap (λ (x : Option Owed × Tails). x.1) e))
-next_none stage t mid (first ∷ rest) e = absurd (true≢false (ap is_none (sym (ap (λ (x : Option Owed × Tails). x.0) e))))
+next_none : (stage : ℕ → Option Stage) (t mid : Tails) (all : List ForwardedMessage) → next_of stage t all ≡ (None, mid) → (all ≡ []) × (mid ≡ t)
+next_none stage t mid [] e = (refl, sym (ap (λ (x : Option ForwardedMessage × Tails). x.1) e))
+next_none stage t mid (first ∷ rest) e = absurd (true≢false (ap is_none (sym (ap (λ (x : Option ForwardedMessage × Tails). x.0) e))))
 
 -- nothing was owed
-pub passes_nothing : (p : Parts) (t mid : Tails) (on : Option Owed) → p.tails ≡ Some t → next_of (stage_of p.vat) t t.owed ≡ (on, mid) → on ≡ None → PassesIf false p (record p { tails = Some mid })
+pub passes_nothing : (p : Parts) (t mid : Tails) (on : Option ForwardedMessage) → p.tails ≡ Some t → next_of (stage_of p.vat) t t.owed ≡ (on, mid) → on ≡ None → PassesIf false p (record p { tails = Some mid })
 passes_nothing p t mid on is next none_ =
-    let none = next_none (stage_of p.vat) t mid t.owed (next ∙ ap (λ (o : Option Owed). (o, mid)) none_) in (
+    let none = next_none (stage_of p.vat) t mid t.owed (next ∙ ap (λ (o : Option ForwardedMessage). (o, mid)) none_) in (
       λ open_. nothing_owed (ap owed_by is ∙ none.0),
       ap (λ (x : Option Tails). record p { tails = x }) (ap (λ (x : Tails). Some x) none.1 ∙ sym is),
     )
 
 -- what was owed first was passed on
-pub passes_first : (p r : Parts) (t mid : Tails) (on : Option Owed) (first : Owed) → p.tails ≡ Some t → p.fault ≡ None → OwesSendable p.tails → next_of (stage_of p.vat) t t.owed ≡ (on, mid) → on ≡ Some first
+pub passes_first : (p r : Parts) (t mid : Tails) (on : Option ForwardedMessage) (first : ForwardedMessage) → p.tails ≡ Some t → p.fault ≡ None → OwesSendable p.tails → next_of (stage_of p.vat) t t.owed ≡ (on, mid) → on ≡ Some first
     → Passes (record p { tails = Some mid }) first r → PassesOn p r
 passes_first p r t mid on first is open_ owes next some h =
-    passes_owed p r t mid first is open_ (next ∙ ap (λ (o : Option Owed). (o, mid)) some)
+    passes_owed p r t mid first is open_ (next ∙ ap (λ (o : Option ForwardedMessage). (o, mid)) some)
     (rest_owes (stage_of p.vat) t mid on (subst OwesSendable is owes) next) h
 
 pub passes_unserved : (p : Parts) → p.tails ≡ None → PassesIf false p p

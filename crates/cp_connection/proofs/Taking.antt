@@ -16,7 +16,7 @@ use Rattle.cp_vat.specs.Stepping as vat
 use Rattle.cp_tail_calls.specs.Receiving.{Passed, received}
 use Rattle.cp_tail_calls.specs.Serving.{Served, Goes, Serves, takes, keeps, gets}
 use Rattle.cp_tail_calls.specs.Tails.{Tails}
-use Rattle.cp_tail_calls.specs.declared.owed.Trigger.TheVariants as triggers
+use Rattle.cp_tail_calls.specs.declared.forwarding.Trigger.TheVariants as triggers
 use Rattle.cp_connection.specs.declared.fault.ConnectionFault.{ConnectionFault}
 use Rattle.cp_connection.specs.declared.fault.ConnectionFault.TheVariants as faults
 use Rattle.cp_connection.specs.declared.parts.Parts.{Parts}

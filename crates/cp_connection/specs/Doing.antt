@@ -42,8 +42,8 @@ pub record Does (old : Link) (event : Event) (result : Result Value VatFault) (n
   pub are_frames : AreFramesOf old.mode (sent_of effects) bytes
   pub goes_out : new.unwritten ≡ old.unwritten ++ bytes
   pub happens : new.happened ≡ old.happened ++ happening_by effects
-  pub counts : CountsMore old.tally.sent (length (sent_of effects)) new.tally.sent
-  pub same_tally : new.tally ≡ record old.tally { sent = new.tally.sent }
+  pub counts : CountsMore old.stats.sent (length (sent_of effects)) new.stats.sent
+  pub same_stats : new.stats ≡ record old.stats { sent = new.stats.sent }
   pub ends : new.fault ≡ ended_by result effects
   pub same_mode : new.mode ≡ old.mode
   pub same_limits : new.limits ≡ old.limits
@@ -80,8 +80,8 @@ let_go link fault = record link {
 -- A connection is aborted: its vat is closed, and what that keeps goes. The frame of the Abort that says what is too much comes after the bytes that weren't
 -- written; where memory ran out for it, it isn't sent. Where the vat was closed, nothing changes.
 pub data Aborts (old : Link) (excess : Excess) (new : Link) : Type 0 where
-  tells : (bytes : List ℕ) (sent : ℕ) → old.vat.is_closed ≡ false → AreFramesOf old.mode (abort_of excess ∷ []) bytes → CountsMore old.tally.sent 1 sent
-      → new ≡ record (let_go old faults.Closed) { unwritten = old.unwritten ++ bytes; tally = record old.tally { sent = sent } } → Aborts old excess new
+  tells : (bytes : List ℕ) (sent : ℕ) → old.vat.is_closed ≡ false → AreFramesOf old.mode (abort_of excess ∷ []) bytes → CountsMore old.stats.sent 1 sent
+      → new ≡ record (let_go old faults.Closed) { unwritten = old.unwritten ++ bytes; stats = record old.stats { sent = sent } } → Aborts old excess new
   runs_out : old.vat.is_closed ≡ false → new ≡ let_go old faults.OutOfMemory → Aborts old excess new
   was_closed : old.vat.is_closed ≡ true → new ≡ old → Aborts old excess new
 

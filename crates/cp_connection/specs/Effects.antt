@@ -7,11 +7,11 @@ use Rattle.cp_stream.specs.Write.{IsWrittenAs}
 use Rattle.cp_vat_machine.specs.Run.{Moment}
 use Rattle.cp_vat_machine.specs.declared.effect.Effect.{Effect}
 use Rattle.cp_vat_machine.specs.declared.effect.Effect.TheVariants as effects
-use Rattle.cp_connection.specs.declared.happening.Happening.{Happening}
-use Rattle.cp_connection.specs.declared.happening.Happening.TheVariants as happenings
+use Rattle.cp_connection.specs.declared.event.ConnectionEvent.{ConnectionEvent}
+use Rattle.cp_connection.specs.declared.event.ConnectionEvent.TheVariants as happenings
 
 -- what happens by effects, in order
-abbrev pub happening_by : List Effect → List Happening
+abbrev pub happening_by : List Effect → List ConnectionEvent
 happening_by [] = []
 happening_by (effects.Send m ∷ more) = happening_by more
 happening_by (effects.Deliver object origin ticket call ∷ more) = happenings.Delivered object origin ticket call ∷ happening_by more
@@ -29,6 +29,6 @@ AreFramesOf mode (m ∷ more) b =
     (front : List ℕ) × (back : List ℕ) × (b ≡ front ++ back) × IsWrittenAs mode standard standard.frame_words 1 m front × AreFramesOf mode more back
 
 -- what happened, in order
-abbrev pub happened : List Moment → List Happening
+abbrev pub happened : List Moment → List ConnectionEvent
 happened [] = []
 happened (moment ∷ more) = happening_by moment.effects ++ happened more

@@ -6,8 +6,8 @@ use Rattle.cp_frame.specs.Reader as frames
 use Rattle.cp_vat_machine.specs.State.{State, new_state}
 use Rattle.cp_tail_calls.specs.Tails.{Tails, none}
 use Rattle.cp_connection.specs.declared.fault.ConnectionFault.{ConnectionFault}
-use Rattle.cp_connection.specs.declared.happening.Happening.{Happening}
-use Rattle.cp_connection.specs.declared.happening.Tally.{Tally}
+use Rattle.cp_connection.specs.declared.event.ConnectionEvent.{ConnectionEvent}
+use Rattle.cp_connection.specs.declared.event.ConnectionStats.{ConnectionStats}
 
 -- The form and the limits of its frames, how they are read, its vat, the tail calls before that, if they are served, the bytes that weren't written, what
 -- happened and wasn't taken, what was counted, and why it ended.
@@ -18,8 +18,8 @@ pub record Link : Type 0 where
   pub vat : State
   pub tails : Option Tails
   pub unwritten : List ℕ
-  pub happened : List Happening
-  pub tally : Tally
+  pub happened : List ConnectionEvent
+  pub stats : ConnectionStats
   pub fault : Option ConnectionFault
 
 -- these bytes of the open frame came
@@ -36,7 +36,7 @@ new_link mode limits bootstrap = record {
   tails = None;
   unwritten = [];
   happened = [];
-  tally = record { bytes = 0; messages = 0; sent = 0 };
+  stats = record { bytes = 0; messages = 0; sent = 0 };
   fault = None;
 }
 

@@ -13,10 +13,10 @@ use Rattle.cp_tail_calls.specs.Tails.{Tails}
 use Rattle.cp_tail_calls.specs.TailsCode.{tails_code}
 use Rattle.cp_connection.specs.declared.fault.ConnectionFault.{ConnectionFault}
 use Rattle.cp_connection.specs.contracts.fault.ConnectionFault as fault
-use Rattle.cp_connection.specs.declared.happening.Happening.{Happening}
-use Rattle.cp_connection.specs.contracts.happening.Happening as happening
-use Rattle.cp_connection.specs.declared.happening.Tally.{Tally}
-use Rattle.cp_connection.specs.contracts.happening.Tally as tally
+use Rattle.cp_connection.specs.declared.event.ConnectionEvent.{ConnectionEvent}
+use Rattle.cp_connection.specs.contracts.event.ConnectionEvent as event
+use Rattle.cp_connection.specs.declared.event.ConnectionStats.{ConnectionStats}
+use Rattle.cp_connection.specs.contracts.event.ConnectionStats as stats
 use Rattle.cp_connection.specs.Link.{Link}
 
 abbrev pub bounds_code : Coded Bounds
@@ -55,9 +55,9 @@ reading_code =
 abbrev pub link_code : Coded Link
 link_code =
     code_by
-    (Mode × (Bounds × (frames.State × (State × (Option Tails × (List ℕ × (List Happening × (Tally × Option ConnectionFault))))))))
-    (coded× mode.the_row.coded (coded× bounds_code (coded× reading_code (coded× state_code (coded× (coded_option tails_code) (coded× (coded_list coded_ℕ) (coded× (coded_list happening.the_row.coded) (coded× tally.the_row.coded (coded_option fault.the_row.coded)))))))))
-    (λ l. (l.mode, (l.limits, (l.reading, (l.vat, (l.tails, (l.unwritten, (l.happened, (l.tally, l.fault)))))))))
+    (Mode × (Bounds × (frames.State × (State × (Option Tails × (List ℕ × (List ConnectionEvent × (ConnectionStats × Option ConnectionFault))))))))
+    (coded× mode.the_row.coded (coded× bounds_code (coded× reading_code (coded× state_code (coded× (coded_option tails_code) (coded× (coded_list coded_ℕ) (coded× (coded_list event.the_row.coded) (coded× stats.the_row.coded (coded_option fault.the_row.coded)))))))))
+    (λ l. (l.mode, (l.limits, (l.reading, (l.vat, (l.tails, (l.unwritten, (l.happened, (l.stats, l.fault)))))))))
     (λ parts. record {
       mode = parts.0;
       limits = parts.1.0;
@@ -66,7 +66,7 @@ link_code =
       tails = parts.1.1.1.1.0;
       unwritten = parts.1.1.1.1.1.0;
       happened = parts.1.1.1.1.1.1.0;
-      tally = parts.1.1.1.1.1.1.1.0;
+      stats = parts.1.1.1.1.1.1.1.0;
       fault = parts.1.1.1.1.1.1.1.1;
     })
     (λ _. refl)

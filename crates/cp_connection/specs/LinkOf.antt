@@ -36,7 +36,7 @@ link_of p = record {
   tails = tails_if p.is_lost p.tails;
   unwritten = p.agenda.outgoing;
   happened = p.agenda.happened.items;
-  tally = record { bytes = p.bytes; messages = p.messages; sent = p.agenda.sent };
+  stats = record { bytes = p.bytes; messages = p.messages; sent = p.agenda.sent };
   fault = p.fault;
 }
 

@@ -14,7 +14,7 @@ use Rattle.cp_messages.specs.declared.message.Message.{Message}
 use Rattle.cp_tail_calls.specs.Bridging.{messages_of, sent_in}
 use Rattle.cp_connection.specs.declared.excess.Excess.{Excess}
 use Rattle.cp_connection.specs.declared.fault.ConnectionFault.{ConnectionFault}
-use Rattle.cp_connection.specs.declared.happening.Happening.{Happening}
+use Rattle.cp_connection.specs.declared.event.ConnectionEvent.{ConnectionEvent}
 use Rattle.cp_connection.specs.Effects.{AreFramesOf, happened}
 use Rattle.cp_connection.specs.Link.{Link, new_link, new_link_with_tails}
 use Rattle.cp_connection.specs.Doing.{Aborts, Acts, served}
@@ -26,34 +26,34 @@ abbrev pub IsCall : Event → Type 0
 IsCall (events.Receive m) = ⊥
 IsCall call = Unit {0}
 
--- One call of a connection other than an abort, which takes these bytes of the peer, is told that those were written, and hands these happenings out.
-pub data Calls (old : Link) : List ℕ → List ℕ → List Happening → Link → Type 0 where
+-- One call of a connection other than an abort, which takes these bytes of the peer, is told that those were written, and hands these events out.
+pub data Calls (old : Link) : List ℕ → List ℕ → List ConnectionEvent → Link → Type 0 where
   receives : {taken : List ℕ} {new : Link} (piece : List ℕ) (count : ℕ) → Receives old piece count new → taken ≡ take count piece → Calls old taken [] [] new
   receives_none : {taken : List ℕ} {new : Link} (piece : List ℕ) (fault : ConnectionFault) → IsUnreceived old piece taken fault new → Calls old taken [] [] new
   ends : {new : Link} → EndsWell old new → Calls old [] [] [] new
   ends_inside : {new : Link} (fault : ConnectionFault) → EndsBadly old fault new → Calls old [] [] [] new
   acts : {new : Link} (event : Event) (result : Result Value ConnectionFault) → IsCall event → Acts old event result new → Calls old [] [] [] new
   writes : {written : List ℕ} {new : Link} (count : ℕ) → Wrote old count new → written ≡ take count old.unwritten → Calls old [] written [] new
-  hands : {out : List Happening} {new : Link} (first : Option Happening) → HandsOut old first new → out ≡ option_to_list first → Calls old [] [] out new
+  hands : {out : List ConnectionEvent} {new : Link} (first : Option ConnectionEvent) → HandsOut old first new → out ≡ option_to_list first → Calls old [] [] out new
 
--- Calls of a connection other than aborts, one after another, which together take these bytes, are told that those were written, and hand these happenings out.
-pub data Life (first : Link) : List ℕ → List ℕ → List Happening → Link → Type 0 where
+-- Calls of a connection other than aborts, one after another, which together take these bytes, are told that those were written, and hand these events out.
+pub data Life (first : Link) : List ℕ → List ℕ → List ConnectionEvent → Link → Type 0 where
   begins : Life first [] [] [] first
-  goes_on : {taken more all written further gone : List ℕ} {handed others out : List Happening} {mid new : Link} → Life first taken written handed mid
+  goes_on : {taken more all written further gone : List ℕ} {handed others out : List ConnectionEvent} {mid new : Link} → Life first taken written handed mid
       → Calls mid more further others new → all ≡ taken ++ more → gone ≡ written ++ further → out ≡ handed ++ others → Life first all gone out new
 
 -- All that is done with a connection: calls, and aborts among them.
-pub data Course (first : Link) : List ℕ → List ℕ → List Happening → Link → Type 0 where
-  lives : {taken written : List ℕ} {handed : List Happening} {last : Link} → Life first taken written handed last → Course first taken written handed last
-  aborts : {taken more all written further gone : List ℕ} {handed others out : List Happening} {mid aborted last : Link} (excess : Excess)
+pub data Course (first : Link) : List ℕ → List ℕ → List ConnectionEvent → Link → Type 0 where
+  lives : {taken written : List ℕ} {handed : List ConnectionEvent} {last : Link} → Life first taken written handed last → Course first taken written handed last
+  aborts : {taken more all written further gone : List ℕ} {handed others out : List ConnectionEvent} {mid aborted last : Link} (excess : Excess)
       → Course first taken written handed mid → Aborts mid excess aborted → Life aborted more further others last → all ≡ taken ++ more → gone ≡ written ++ further
       → out ≡ handed ++ others → Course first all gone out last
 
 -- A connection was aborted while its vat was open. Until then this was so of it, and no byte was taken since. What was written since and what wasn't are the
 -- bytes that weren't then, and then the frame of that one Abort, which goes out unless memory ran out for it; and nothing happened since.
-pub record IsAborted (written : List ℕ) (handed : List Happening) (last : Link) (WasSo : List ℕ → List Happening → Link → Type 0) : Type 0 where
+pub record IsAborted (written : List ℕ) (handed : List ConnectionEvent) (last : Link) (WasSo : List ℕ → List ConnectionEvent → Link → Type 0) : Type 0 where
   pub gone : List ℕ
-  pub out : List Happening
+  pub out : List ConnectionEvent
   pub before : Link
   pub was_so : WasSo gone out before
   pub was_open : before.vat.is_closed ≡ false
@@ -69,7 +69,7 @@ pub record IsAborted (written : List ℕ) (handed : List Happening) (last : Link
 -- A new vat did this history, and it is a run of it. Of these bytes, which were taken, it received the messages; a rest of them is an open frame. The frames
 -- of what it sent are the bytes that were written and then those that weren't, and nothing else; each can be written. What happened by it was handed out,
 -- or is still to be, in order, and nothing else.
-pub record IsRunOf (mode : Mode) (limits : Bounds) (bootstrap : Option ℕ) (taken written : List ℕ) (handed : List Happening) (last : Link) : Type 0 where
+pub record IsRunOf (mode : Mode) (limits : Bounds) (bootstrap : Option ℕ) (taken written : List ℕ) (handed : List ConnectionEvent) (last : Link) : Type 0 where
   pub history : List Moment
   pub steps : Steps (new_state bootstrap) history last.vat
   pub rest : List ℕ
@@ -84,20 +84,20 @@ pub record IsRunOf (mode : Mode) (limits : Bounds) (bootstrap : Option ℕ) (tak
 -- whatever is done with a connection but aborts
 abbrev pub LivesRun : Type 0
 LivesRun =
-    (mode : Mode) (limits : Bounds) (bootstrap : Option ℕ) (taken written : List ℕ) (handed : List Happening) (last : Link)
+    (mode : Mode) (limits : Bounds) (bootstrap : Option ℕ) (taken written : List ℕ) (handed : List ConnectionEvent) (last : Link)
     → Life (new_link mode limits bootstrap) taken written handed last → IsRunOf mode limits bootstrap taken written handed last
 
 -- whatever is done with a connection, up to its abort, if it was aborted
 abbrev pub LivesUntilAbort : Type 0
 LivesUntilAbort =
-    (mode : Mode) (limits : Bounds) (bootstrap : Option ℕ) (taken written : List ℕ) (handed : List Happening) (last : Link)
+    (mode : Mode) (limits : Bounds) (bootstrap : Option ℕ) (taken written : List ℕ) (handed : List ConnectionEvent) (last : Link)
     → Course (new_link mode limits bootstrap) taken written handed last
     → IsRunOf mode limits bootstrap taken written handed last ⊎ IsAborted written handed last (IsRunOf mode limits bootstrap taken)
 
 -- however the bytes come in pieces, and whatever else is done, the messages that the vat received are the same, and so is what came of the open frame
 abbrev pub AnyCut : Type 0
 AnyCut =
-    (mode : Mode) (limits : Bounds) (bootstrap other : Option ℕ) (taken written gone : List ℕ) (handed out : List Happening) (last end : Link)
+    (mode : Mode) (limits : Bounds) (bootstrap other : Option ℕ) (taken written gone : List ℕ) (handed out : List ConnectionEvent) (last end : Link)
     (one : IsRunOf mode limits bootstrap taken written handed last) (two : IsRunOf mode limits other taken gone out end)
     → (messages_of one.history ≡ messages_of two.history) × (one.rest ≡ two.rest)
 
@@ -105,7 +105,7 @@ AnyCut =
 -- frames of what went out are the bytes that were written and then those that weren't, and nothing else. What happened by the history was handed out, or is
 -- still to be, in order, and nothing else. Unless memory ran out, what came, what the vat got and answered, and what went out are what turns of tail calls
 -- say: so what is shown of turns holds.
-pub record IsRunBehind (mode : Mode) (limits : Bounds) (bootstrap : Option ℕ) (taken written : List ℕ) (handed : List Happening) (last : Link) : Type 0 where
+pub record IsRunBehind (mode : Mode) (limits : Bounds) (bootstrap : Option ℕ) (taken written : List ℕ) (handed : List ConnectionEvent) (last : Link) : Type 0 where
   pub history : List Moment
   pub steps : Steps (new_state bootstrap) history last.vat
   pub came : List Message
@@ -122,12 +122,12 @@ pub record IsRunBehind (mode : Mode) (limits : Bounds) (bootstrap : Option ℕ) 
 -- whatever is done with a connection that serves tail calls, but aborts
 abbrev pub LivesBehind : Type 0
 LivesBehind =
-    (mode : Mode) (limits : Bounds) (bootstrap : Option ℕ) (taken written : List ℕ) (handed : List Happening) (last : Link)
+    (mode : Mode) (limits : Bounds) (bootstrap : Option ℕ) (taken written : List ℕ) (handed : List ConnectionEvent) (last : Link)
     → Life (new_link_with_tails mode limits bootstrap) taken written handed last → IsRunBehind mode limits bootstrap taken written handed last
 
 -- the same up to its abort, if it was aborted
 abbrev pub LivesBehindUntilAbort : Type 0
 LivesBehindUntilAbort =
-    (mode : Mode) (limits : Bounds) (bootstrap : Option ℕ) (taken written : List ℕ) (handed : List Happening) (last : Link)
+    (mode : Mode) (limits : Bounds) (bootstrap : Option ℕ) (taken written : List ℕ) (handed : List ConnectionEvent) (last : Link)
     → Course (new_link_with_tails mode limits bootstrap) taken written handed last
     → IsRunBehind mode limits bootstrap taken written handed last ⊎ IsAborted written handed last (IsRunBehind mode limits bootstrap taken)

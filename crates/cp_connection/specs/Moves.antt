@@ -7,7 +7,7 @@ use Rattle.cp_vat_machine.specs.Run.{Moment, Steps}
 use Rattle.cp_tail_calls.specs.Bridging.{HaveDone, messages_of, sent_in}
 use Rattle.cp_tail_calls.specs.Runs.{Turn}
 use Rattle.cp_connection.specs.declared.fault.ConnectionFault.{ConnectionFault}
-use Rattle.cp_connection.specs.declared.happening.Happening.{Happening}
+use Rattle.cp_connection.specs.declared.event.ConnectionEvent.{ConnectionEvent}
 use Rattle.cp_connection.specs.Doing.{served}
 use Rattle.cp_connection.specs.Effects.{AreFramesOf, happened}
 use Rattle.cp_connection.specs.Link.{Link, HasCome}
@@ -38,7 +38,7 @@ pub record IsAlone (came : List Message) (history : List Moment) (went : List Me
 -- after the bytes that weren't written, are those that were written and then those that weren't. What happened by the history, after what wasn't taken, is
 -- what was handed out and then what wasn't taken. What tail calls did is what their turns say, unless
 -- memory ran out.
-pub record Moves (old : Link) (taken written : List ℕ) (handed : List Happening) (new : Link) : Type 0 where
+pub record Moves (old : Link) (taken written : List ℕ) (handed : List ConnectionEvent) (new : Link) : Type 0 where
   pub history : List Moment
   pub steps : Steps old.vat history new.vat
   pub came : List Message

@@ -5,7 +5,7 @@ use Rattle.cp_vat_machine.specs.declared.effect.Effect.{Effect}
 use Rattle.cp_tail_calls.specs.Bridging.{sent_of}
 use Rattle.cp_connection.specs.declared.agenda.Agenda.{Agenda}
 use Rattle.cp_connection.specs.declared.agenda.Mark.{Mark}
-use Rattle.cp_connection.specs.declared.happening.Happening.{Happening}
+use Rattle.cp_connection.specs.declared.event.ConnectionEvent.{ConnectionEvent}
 use Rattle.cp_connection.specs.Counting.{CountsMore}
 use Rattle.cp_connection.specs.Effects.{happening_by, AreFramesOf}
 
@@ -19,7 +19,7 @@ pub record Notes (old : Agenda) (effects : List Effect) (new : Agenda) : Type 0 
   pub same_mode : new.mode ≡ old.mode
 
 -- The effect sends nothing, and this happens by it.
-pub record IsTold (effect : Effect) (happening : Happening) : Type 0 where
+pub record IsTold (effect : Effect) (happening : ConnectionEvent) : Type 0 where
   pub none_sent : sent_of (effect ∷ []) ≡ []
   pub happens : happening_by (effect ∷ []) ≡ happening ∷ []
 
@@ -27,7 +27,7 @@ pub record IsTold (effect : Effect) (happening : Happening) : Type 0 where
 pub record Grows (old new : Agenda) : Type 0 where
   pub bytes : List ℕ
   pub goes_out : new.outgoing ≡ old.outgoing ++ bytes
-  pub more : List Happening
+  pub more : List ConnectionEvent
   pub happens : new.happened.items ≡ old.happened.items ++ more
   pub same_mode : new.mode ≡ old.mode
 
@@ -41,14 +41,14 @@ pub record Stays (old new : Agenda) : Type 0 where
 -- so much was noted
 pub record Marks (agenda : Agenda) (mark : Mark) : Type 0 where
   pub bytes : mark.unwritten ≡ length agenda.outgoing
-  pub happenings : mark.happened ≡ length agenda.happened.items
+  pub events : mark.happened ≡ length agenda.happened.items
   pub count : mark.sent ≡ agenda.sent
 
 -- What was noted after this is taken back.
 pub record GoesBack (old : Agenda) (mark : Mark) (new : Agenda) : Type 0 where
   pub same_mode : new.mode ≡ old.mode
   pub bytes : new.outgoing ≡ take mark.unwritten old.outgoing
-  pub happenings : new.happened.items ≡ take mark.happened old.happened.items
+  pub events : new.happened.items ≡ take mark.happened old.happened.items
   pub count : new.sent ≡ mark.sent
 
 -- Nothing is to be done.

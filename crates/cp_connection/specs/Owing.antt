@@ -2,15 +2,15 @@
 use Rattle.std.specs.Prelude.{List, [], ◌∷◌, Option, Some, None}
 use Rattle.cp_vat_laws.specs.Sizes.{IsWritable}
 use Rattle.cp_tail_calls.specs.Tails.{Tails}
-use Rattle.cp_tail_calls.specs.declared.owed.Owed.{Owed}
-use Rattle.cp_tail_calls.specs.declared.owed.Owed.TheVariants as owed
+use Rattle.cp_tail_calls.specs.declared.forwarding.ForwardedMessage.{ForwardedMessage}
+use Rattle.cp_tail_calls.specs.declared.forwarding.ForwardedMessage.TheVariants as owed
 
 -- a message to the peer can be written
-abbrev pub IsSendable : Owed → Type 0
+abbrev pub IsSendable : ForwardedMessage → Type 0
 IsSendable (owed.ToPeer m) = IsWritable m
 IsSendable (owed.ToVat m) = Unit {0}
 
-abbrev pub AreSendable : List Owed → Type 0
+abbrev pub AreSendable : List ForwardedMessage → Type 0
 AreSendable [] = Unit {0}
 AreSendable (first ∷ more) = IsSendable first × AreSendable more
 

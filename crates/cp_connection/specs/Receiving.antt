@@ -8,22 +8,22 @@ use Rattle.cp_vat_machine.specs.declared.event.Event.TheVariants as events
 use Rattle.cp_vat_machine.specs.declared.event.Value.TheVariants as values
 use Rattle.cp_connection.specs.declared.fault.ConnectionFault.{ConnectionFault}
 use Rattle.cp_connection.specs.declared.fault.ConnectionFault.TheVariants as faults
-use Rattle.cp_connection.specs.declared.happening.Tally.{Tally}
-use Rattle.cp_connection.specs.declared.happening.Happening.{Happening}
+use Rattle.cp_connection.specs.declared.event.ConnectionStats.{ConnectionStats}
+use Rattle.cp_connection.specs.declared.event.ConnectionEvent.{ConnectionEvent}
 use Rattle.cp_connection.specs.Link.{Link, HasCome}
 use Rattle.cp_connection.specs.Doing.{HadEnded, Refuses, Does}
 
 -- these counts and one message more, whose frame has this many bytes
-abbrev pub counted : Tally → ℕ → Tally
-counted tally n = record tally { bytes = min (tally.bytes + n) (2 ^ 64 - 1); messages = min (tally.messages + 1) (2 ^ 64 - 1) }
+abbrev pub counted : ConnectionStats → ℕ → ConnectionStats
+counted stats n = record stats { bytes = min (stats.bytes + n) (2 ^ 64 - 1); messages = min (stats.messages + 1) (2 ^ 64 - 1) }
 
 -- A front of the piece ends the frame of a message. The message was read and is counted, and nothing of another frame came.
 pub record Reads (old : Link) (front : List ℕ) (message : Message) (mid : Link) : Type 0 where
   pub was_open : old.fault ≡ None
   pub is_frame : (rest : List ℕ) → HasCome old rest → IsFrameOf old.mode old.limits (rest ++ front) message
-  pub counts : (rest : List ℕ) → HasCome old rest → mid.tally ≡ counted old.tally (length (rest ++ front))
+  pub counts : (rest : List ℕ) → HasCome old rest → mid.stats ≡ counted old.stats (length (rest ++ front))
   pub fresh : HasCome mid []
-  pub same : mid ≡ record old { reading = mid.reading; tally = mid.tally }
+  pub same : mid ≡ record old { reading = mid.reading; stats = mid.stats }
 
 -- No frame ends in the piece.
 pub record ReadsOn (old : Link) (piece : List ℕ) (new : Link) : Type 0 where
@@ -46,7 +46,7 @@ pub record Fails (old : Link) (fault : ConnectionFault) (new : Link) : Type 0 wh
 -- why a piece isn't read: its bytes, after those that came, have a fault, which names the bytes before them; or memory ran out for a frame
 abbrev pub IsUnread : Link → List ℕ → ConnectionFault → Type 0
 IsUnread old piece (faults.Unreadable at refusal) =
-    (at ≡ old.tally.bytes) × ((rest : List ℕ) → HasCome old rest → HasFault old.mode old.limits (rest ++ piece) refusal)
+    (at ≡ old.stats.bytes) × ((rest : List ℕ) → HasCome old rest → HasFault old.mode old.limits (rest ++ piece) refusal)
 IsUnread old piece faults.OutOfMemory = Unit {0}
 IsUnread old piece fault = ⊥
 
@@ -69,13 +69,13 @@ pub record EndsWell (old new : Link) : Type 0 where
 abbrev pub EndsBadly : Link → ConnectionFault → Link → Type 0
 EndsBadly old fault new =
     HadEnded old fault new
-    ⊎ ((fault ≡ faults.Unreadable old.tally.bytes (refusals.Frame frames.Truncated)) × Fails old fault new × ((rest : List ℕ) → HasCome old rest → rest ≢ []))
+    ⊎ ((fault ≡ faults.Unreadable old.stats.bytes (refusals.Frame frames.Truncated)) × Fails old fault new × ((rest : List ℕ) → HasCome old rest → rest ≢ []))
 
 -- the first of the bytes that weren't written were
 abbrev pub Wrote : Link → ℕ → Link → Type 0
 Wrote old count new = new ≡ record old { unwritten = drop count old.unwritten }
 
 -- what happened first and wasn't taken is handed out, if anything is there
-abbrev pub HandsOut : Link → Option Happening → Link → Type 0
+abbrev pub HandsOut : Link → Option ConnectionEvent → Link → Type 0
 HandsOut old (Some first) new = (old.happened ≡ first ∷ new.happened) × (new ≡ record old { happened = new.happened })
 HandsOut old None new = (old.happened ≡ []) × (new ≡ old)

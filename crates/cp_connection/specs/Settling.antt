@@ -16,10 +16,10 @@ use Rattle.cp_vat_machine.specs.declared.event.Value.TheVariants as values
 use Rattle.cp_vat_machine.specs.declared.fault.VatFault.{VatFault}
 use Rattle.cp_vat.specs.Stepping as vat
 use Rattle.cp_tail_calls.specs.Serving.{Served, Settles, closes, comes_of, gets, is_message}
-use Rattle.cp_tail_calls.specs.declared.owed.Owed.{Owed}
-use Rattle.cp_tail_calls.specs.declared.owed.Owed.TheVariants as owed
-use Rattle.cp_tail_calls.specs.declared.owed.Trigger.{Trigger}
-use Rattle.cp_tail_calls.specs.declared.owed.Trigger.TheVariants as triggers
+use Rattle.cp_tail_calls.specs.declared.forwarding.ForwardedMessage.{ForwardedMessage}
+use Rattle.cp_tail_calls.specs.declared.forwarding.ForwardedMessage.TheVariants as owed
+use Rattle.cp_tail_calls.specs.declared.forwarding.Trigger.{Trigger}
+use Rattle.cp_tail_calls.specs.declared.forwarding.Trigger.TheVariants as triggers
 use Rattle.cp_connection.specs.declared.fault.ConnectionFault.{ConnectionFault}
 use Rattle.cp_connection.specs.declared.fault.ConnectionFault.TheVariants as faults
 use Rattle.cp_connection.specs.declared.parts.Parts.{Parts}
@@ -55,7 +55,7 @@ GivesVat old m new =
     (by : List Effect) × Step old.vat (events.Receive m) (Ok values.Nothing) by new.vat × NotesEvent (record old { vat = new.vat }) triggers.Message by new
 
 -- What was owed first was passed on.
-abbrev pub Passes : Parts → Owed → Parts → Type 0
+abbrev pub Passes : Parts → ForwardedMessage → Parts → Type 0
 Passes old (owed.ToPeer m) new = Notes old.agenda (effects.Send m ∷ []) new.agenda × (new ≡ record old { agenda = new.agenda })
 Passes old (owed.ToVat m) new = GivesVat old m new
 

@@ -8,8 +8,8 @@ ghost use Rattle.cp_vat_machine.specs.declared.effect.Effect.{Effect};
 ghost use Rattle.cp_vat_machine.specs.declared.effect.Effect.TheVariants.{Send};
 ghost use Rattle.cp_vat_laws.specs.Sizes.{AreWritable, IsWritable, IsWritten};
 
+use crate::event::ConnectionEvent;
 use crate::excess::Excess;
-use crate::happening::Happening;
 use crate::outgoing::Outgoing;
 use cp_frame::Mode;
 use cp_rpc::Message;
@@ -24,7 +24,7 @@ pub(crate) struct Agenda {
     pub mode: Mode,
     pub outgoing: Outgoing,
     /// What happened and wasn't taken, in order.
-    pub happened: VecDeque<Happening>,
+    pub happened: VecDeque<ConnectionEvent>,
     /// The messages that were sent, at most `u64::MAX`.
     pub sent: u64,
 }
@@ -113,16 +113,16 @@ impl Agenda {
                 origin,
                 ticket,
                 call,
-            } => self.add(Happening::Delivered {
+            } => self.add(ConnectionEvent::Delivered {
                 object,
                 origin,
                 ticket,
                 call,
             }),
             Effect::Settled { question, outcome } => {
-                self.add(Happening::Settled { question, outcome })
+                self.add(ConnectionEvent::Settled { question, outcome })
             }
-            Effect::Closed(reason) => self.add(Happening::Closed(reason)),
+            Effect::Closed(reason) => self.add(ConnectionEvent::Closed(reason)),
         }
     }
 
@@ -171,7 +171,7 @@ impl Agenda {
     }
 
     /// Adds what happened last.
-    fn add(&mut self, happening: Happening) -> Result<(), AllocError>
+    fn add(&mut self, happening: ConnectionEvent) -> Result<(), AllocError>
         ensures noted { OnOk result ((effect : Effect) → IsTold effect happening → Notes self.old (effect ∷ []) self.new) }
         ensures same { OnErr result (Stays self.old self.new) }
     {

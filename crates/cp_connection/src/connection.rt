@@ -1,13 +1,13 @@
 //! A connection without devices.
 
+use crate::event::{ConnectionEvent, ConnectionStats, Held, event_memory};
 use crate::excess::Excess;
 use crate::fault::ConnectionFault;
-use crate::happening::{Happening, Held, Tally, happened_memory};
 use crate::parts::Parts;
 use cp_frame::Mode;
 use cp_refs::{Cap, Origin, Outcome, PromiseId, Request};
 use cp_tail_calls::{TailCalls, Trigger};
-use cp_vat::Lent;
+use cp_vat::BorrowedCall;
 use cp_vat_machine::Idle;
 use cp_words::{Limits, Segments};
 use std::alloc::Global;
@@ -26,7 +26,7 @@ use std::marker::Model;
 ///    device took.
 /// 5. `call` and the other calls of the application may come between any two of these.
 ///
-/// # What each happening asks
+/// # What each event asks
 ///
 /// - `Delivered`: hand this call to the object, and `answer` it by its origin, once, now or later.
 /// - `Settled`: a question came to this outcome. `finish` it when none of its paths is needed any more.
@@ -80,7 +80,7 @@ impl Connection {
     ghost use Rattle.cp_vat_machine.specs.InUse.{is_object_used};
     ghost use Rattle.cp_refs.specs.Memory.{counted};
     ghost use Rattle.cp_vat.specs.Kept.{entries_of};
-    ghost use Rattle.cp_connection.specs.Contents.{happened_memory, kept_contents};
+    ghost use Rattle.cp_connection.specs.Contents.{event_memory, kept_contents};
     ghost use Rattle.cp_connection.specs.Link.{HasCome, new_link, new_link_with_tails};
     ghost use Rattle.cp_connection.specs.Doing.{Aborts, Acts, answered};
     ghost use Rattle.cp_connection.specs.Receiving.{Receives, IsUnreceived, EndsWell, EndsBadly, Wrote, HandsOut};
@@ -139,7 +139,7 @@ impl Connection {
         &mut self,
         piece: &[u8],
         frame: &'f mut Segments,
-    ) -> Result<(usize, Option<Lent<'f>>), ConnectionFault>
+    ) -> Result<(usize, Option<BorrowedCall<'f>>), ConnectionFault>
         ensures received { IfOk result (λ r. ReceivesLending self.old piece.now r.0 r.1 self.new) }
         ensures goes_on { IfOk result (λ r. 0 < length piece.now → 0 < r.0) }
         ensures unreceived { IfErr result (λ fault. (taken : List ℕ) × IsUnreceived self.old piece.now taken fault self.new) }
@@ -181,7 +181,7 @@ impl Connection {
     }
 
     /// Hands out what happened first of what wasn't taken.
-    pub fn next(&mut self) -> Option<Happening>
+    pub fn next(&mut self) -> Option<ConnectionEvent>
         ensures { HandsOut self.old result self.new }
     {
         self.parts.agenda.happened.pop_front()
@@ -276,7 +276,7 @@ impl Connection {
         self.parts.abort(excess);
     }
 
-    /// Whether the vat refers to this object, as `Vat::uses_object` says. A happening that wasn't taken may name it too.
+    /// Whether the vat refers to this object, as `Vat::uses_object` says. An event that wasn't taken may name it too.
     pub fn uses_object(&self, object: u32) -> bool
         ensures { result ≡ is_object_used self.now.vat object }
     {
@@ -291,10 +291,10 @@ impl Connection {
     }
 
     /// How many bytes and messages were taken, and how many messages were sent.
-    pub fn tally(&self) -> Tally
-        ensures { result ≡ self.now.tally }
+    pub fn stats(&self) -> ConnectionStats
+        ensures { result ≡ self.now.stats }
     {
-        Tally {
+        ConnectionStats {
             bytes: self.parts.bytes,
             messages: self.parts.messages,
             sent: self.parts.agenda.sent,
@@ -305,7 +305,7 @@ impl Connection {
     pub fn held(&self) -> Held
         ensures came { result.came ≡ taken_of self.now.reading }
         ensures unwritten { result.unwritten ≡ length self.now.unwritten }
-        ensures happenings { result.happenings ≡ length self.now.happened }
+        ensures events { result.events ≡ length self.now.happened }
         ensures entries { result.entries ≡ entries_of self.now.vat }
         ensures imports { result.imports ≡ map.len self.now.vat.counts.imports }
         ensures promises { result.promises ≡ map.len self.now.vat.values.promises }
@@ -314,7 +314,7 @@ impl Connection {
         Held {
             came: self.parts.frames.taken(),
             unwritten: self.parts.agenda.outgoing.len(),
-            happenings: self.parts.agenda.happened.len(),
+            events: self.parts.agenda.happened.len(),
             entries: self.parts.vat.entries(),
             imports: self.parts.vat.imports(),
             promises: self.parts.vat.promises(),
@@ -323,9 +323,9 @@ impl Connection {
     }
 
     /// The bytes of memory that the contents of what happened and wasn't taken take. It goes over these, and `held` over nothing.
-    pub fn happened_memory(&self) -> u64
-        ensures { result ≡ counted (happened_memory self.now.happened) }
+    pub fn event_memory(&self) -> u64
+        ensures { result ≡ counted (event_memory self.now.happened) }
     {
-        happened_memory(&self.parts.agenda.happened)
+        event_memory(&self.parts.agenda.happened)
     }
 }

@@ -20,7 +20,7 @@ pub enum ConnectionFault {
     /// The peer's bytes can't be read on: what is wrong with them, and how many bytes the frames of the
     /// messages before them took, at most `u64::MAX`.
     Unreadable { at: u64, refusal: Refusal },
-    /// The vat closed: as `Happening::Closed` says, or by `Connection::abort`.
+    /// The vat closed: as `ConnectionEvent::Closed` says, or by `Connection::abort`.
     Closed,
     /// V10: memory ran out.
     OutOfMemory,

@@ -5,15 +5,15 @@
 mod agenda;
 mod behind;
 mod connection;
+mod event;
 mod excess;
 mod fault;
-mod happening;
 mod laws;
 mod outgoing;
 mod parts;
 
 pub use connection::Connection;
+pub use event::{ConnectionEvent, ConnectionStats, Held};
 pub use excess::Excess;
 pub use fault::ConnectionFault;
-pub use happening::{Happening, Held, Tally};
 pub use laws::{any_cut, lives, lives_behind, lives_behind_until_abort, lives_until_abort};

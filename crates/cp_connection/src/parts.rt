@@ -27,8 +27,8 @@ use crate::fault::ConnectionFault;
 use cp_frame::{FrameFault, FrameReader, Mode};
 use cp_rpc::{Message, MessageView};
 use cp_stream::{Refusal, view_in};
-use cp_tail_calls::{Owed, TailCalls, Trigger};
-use cp_vat::{Lent, Vat};
+use cp_tail_calls::{ForwardedMessage, TailCalls, Trigger};
+use cp_vat::{BorrowedCall, Vat};
 use cp_vat_machine::{Acted, Effects, VatFault};
 use cp_words::{Limits, Segments};
 use std::alloc::{AllocError, Global};
@@ -118,7 +118,7 @@ impl Parts {
         &mut self,
         piece: &[u8],
         frame: &'f mut Segments,
-    ) -> Result<(usize, Option<Lent<'f>>), ConnectionFault>
+    ) -> Result<(usize, Option<BorrowedCall<'f>>), ConnectionFault>
         requires keeps { KeepsUp self.old }
         ensures keeps { KeepsUp self.new }
         ensures received { IfOk result (λ r. ReceivesLending (link_of self.old) piece.now r.0 r.1 (link_of self.new)) }
@@ -278,15 +278,15 @@ impl Parts {
     }
 
     /// Passes on what was owed.
-    fn pass(&mut self, owed: Owed) -> Result<(), AllocError>
+    fn pass(&mut self, owed: ForwardedMessage) -> Result<(), AllocError>
         requires is_open { self.old.fault ≡ None }
         requires sendable { IsSendable owed }
         ensures passes { OnOk result (Passes self.old owed self.new) }
         ensures grown { OnErr result (MayNote self.old self.new) }
     {
         match owed {
-            Owed::ToPeer(message) => self.agenda.send(message),
-            Owed::ToVat(message) => self.give_to_vat(message),
+            ForwardedMessage::ToPeer(message) => self.agenda.send(message),
+            ForwardedMessage::ToVat(message) => self.give_to_vat(message),
         }
     }
 
@@ -363,7 +363,7 @@ impl Parts {
     fn take_in_lending<'a>(
         &mut self,
         message: MessageView<'a>,
-    ) -> Result<Option<Lent<'a>>, ConnectionFault>
+    ) -> Result<Option<BorrowedCall<'a>>, ConnectionFault>
         requires is_open { self.old.fault ≡ None }
         requires keeps { KeepsUp self.old }
         requires none_happened { self.old.agenda.happened.items ≡ [] }

@@ -5,8 +5,8 @@ use Rattle.cp_tree.specs.Node.{Node, null, Nodes, no_nodes, node, IsStruct}
 use Rattle.cp_tree.specs.NodeOf.{node_of, body_of}
 use Rattle.cp_fields.specs.Constants.{constant_of, constant_body_of}
 use Rattle.cp_fields.specs.Pointers.{pointers_of}
-use Rattle.cp_fields.specs.declared.pointee.Part.{Part}
-use Rattle.cp_fields.specs.declared.pointee.Part.TheVariants as parts
+use Rattle.cp_fields.specs.declared.pointer_reader.Part.{Part}
+use Rattle.cp_fields.specs.declared.pointer_reader.Part.TheVariants as parts
 use Rattle.cp_fields.specs.declared.bytes.BorrowedBytes.{BorrowedBytes}
 use Rattle.cp_fields.specs.declared.bytes.BorrowedBytes.TheVariants as lents
 use Rattle.cp_fields.specs.declared.structure.Data.{Data}

@@ -9,7 +9,7 @@ ghost use Rattle.cp_fields.specs.Pointers.{data_field, ends_in_zero};
 use crate::constant::Constant;
 use crate::data::number_at;
 use crate::kind::{Kind, WrongKind};
-use crate::pointee::{Part, Pointee};
+use crate::pointer_reader::{Part, PointerReader};
 use crate::utf8;
 use cp_reading::View;
 use cp_tree::{ListRef, Shape, Tree};
@@ -26,11 +26,11 @@ pub(crate) enum BorrowedBytes<'a> {
 
 /// The bytes of a field of the type Data, where they lie. Contracts see it as its bytes.
 #[derive(Drop)]
-pub struct DataView<'a> {
+pub struct DataReader<'a> {
     bytes: BorrowedBytes<'a>,
 }
 
-impl<'a> Model for DataView<'a> {
+impl<'a> Model for DataReader<'a> {
     ghost use Rattle.std.specs.Prelude.{ℕ, List};
 
     ghost Value = { List ℕ };
@@ -42,7 +42,7 @@ impl<'a> Model for DataView<'a> {
     ghost invariant = { λ d. IsLent d.bytes };
 }
 
-impl<'a> DataView<'a> {
+impl<'a> DataReader<'a> {
     ghost use Rattle.std.specs.Prelude.{◌≡◌, ◌==◌, ◌<◌, ◌≤◌, ◌-◌, ◌^◌, ◌↔◌, if◌then◌else◌, Some, None, length, take, slice_index, IfOk, IsTrue, IsUtf8};
     ghost use Rattle.cp_tree.specs.Elements.{numbers};
     ghost use Rattle.cp_fields.specs.Pointers.{data_field, ends_in_zero};
@@ -50,14 +50,14 @@ impl<'a> DataView<'a> {
     /// The bytes that a pointer stands for; null stands for the default.
     #[inline(always)]
     #[tactic(auto, using(crate::proofs::Pointed::no_data))]
-    pub fn of(at: Pointee<'a>, default: &'a [u8]) -> Result<DataView<'a>, WrongKind>
+    pub fn of(at: PointerReader<'a>, default: &'a [u8]) -> Result<DataReader<'a>, WrongKind>
         ensures { result ≡ data_field default.now at.entry }
     {
         match bytes_at(&at) {
             Some(bytes) => Ok(bytes),
             None => {
                 if at.is_null() {
-                    Ok(DataView::of_slice(default))
+                    Ok(DataReader::of_slice(default))
                 } else {
                     Err(at.wrong(Kind::Data))
                 }
@@ -67,10 +67,10 @@ impl<'a> DataView<'a> {
 
     /// Bytes that a program has.
     #[inline(always)]
-    pub fn of_slice(bytes: &'a [u8]) -> DataView<'a>
+    pub fn of_slice(bytes: &'a [u8]) -> DataReader<'a>
         ensures { result ≡ bytes.now }
     {
-        DataView {
+        DataReader {
             bytes: BorrowedBytes::Slice(bytes),
         }
     }
@@ -126,15 +126,15 @@ impl<'a> DataView<'a> {
     }
 
     /// The same once more.
-    pub fn again(&self) -> DataView<'a>
+    pub fn reborrow(&self) -> DataReader<'a>
         ensures { result ≡ self.now }
     {
-        DataView { bytes: self.bytes }
+        DataReader { bytes: self.bytes }
     }
 
     /// The bytes but for the last, if that is zero.
     #[inline(always)]
-    pub(crate) fn before_zero(&self) -> Option<DataView<'a>>
+    pub(crate) fn before_zero(&self) -> Option<DataReader<'a>>
         ensures { result ≡ (if ends_in_zero self.now then Some (take (length self.now - 1) self.now) else None) }
     {
         let count = self.len();
@@ -149,23 +149,23 @@ impl<'a> DataView<'a> {
 
     /// The first bytes, this many.
     #[inline(always)]
-    fn front(&self, count: usize) -> DataView<'a>
+    fn front(&self, count: usize) -> DataReader<'a>
         requires { count ≤ length self.now }
         ensures { result ≡ take count self.now }
     {
         match self.bytes {
-            BorrowedBytes::Words(words, _) => DataView::of_words(words, count),
-            BorrowedBytes::Slice(bytes) => DataView::of_slice(&bytes[..count]),
+            BorrowedBytes::Words(words, _) => DataReader::of_words(words, count),
+            BorrowedBytes::Slice(bytes) => DataReader::of_slice(&bytes[..count]),
         }
     }
 
     /// The first bytes that words hold, this many.
     #[inline(always)]
-    fn of_words(words: &'a [u64], count: usize) -> DataView<'a>
+    fn of_words(words: &'a [u64], count: usize) -> DataReader<'a>
         requires { count < 2 ^ 32 }
         ensures { result ≡ numbers words.now 8 count }
     {
-        DataView {
+        DataReader {
             bytes: BorrowedBytes::Words(words, count),
         }
     }
@@ -173,18 +173,18 @@ impl<'a> DataView<'a> {
 
 /// The bytes of a list of bytes. `None` is anything else.
 #[inline(always)]
-pub(crate) fn bytes_at<'a>(at: &Pointee<'a>) -> Option<DataView<'a>>
+pub(crate) fn bytes_at<'a>(at: &PointerReader<'a>) -> Option<DataReader<'a>>
     ensures { MatchOption result ((bs : List ℕ) → at.now ≡ list (bytes bs) → ⊥) (λ d. at.now ≡ list (bytes d)) }
 {
     match &at.part {
         Part::Null => None,
         Part::View(view) => bytes_in_place(view),
         Part::Tree(tree) => match tree {
-            Tree::Bytes(bytes) => Some(DataView::of_slice(bytes)),
+            Tree::Bytes(bytes) => Some(DataReader::of_slice(bytes)),
             _ => None,
         },
         Part::Constant(tree) => match tree {
-            Constant::List(ListRef::Bytes(bytes)) => Some(DataView::of_slice(bytes)),
+            Constant::List(ListRef::Bytes(bytes)) => Some(DataReader::of_slice(bytes)),
             _ => None,
         },
     }
@@ -193,12 +193,12 @@ pub(crate) fn bytes_at<'a>(at: &Pointee<'a>) -> Option<DataView<'a>>
 /// The bytes of a list of bytes that is read in place. `None` is anything else.
 #[inline(always)]
 #[tactic(auto, using(crate::proofs::Pointed::bytes_read, crate::proofs::Pointed::bytes_shape))]
-fn bytes_in_place<'a>(view: &View<'a>) -> Option<DataView<'a>>
+fn bytes_in_place<'a>(view: &View<'a>) -> Option<DataReader<'a>>
     ensures { MatchOption result ((bs : List ℕ) → view.now ≡ list (bytes bs) → ⊥) (λ d. view.now ≡ list (bytes d)) }
 {
     match view.shape() {
         Shape::List { size, count } => match size {
-            ElementSize::Byte => Some(DataView::of_words(view.words(), count as usize)),
+            ElementSize::Byte => Some(DataReader::of_words(view.words(), count as usize)),
             _ => None,
         },
         _ => None,

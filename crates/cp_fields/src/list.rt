@@ -13,9 +13,9 @@ ghost use Rattle.cp_fields.specs.Pointers.{list_field};
 ghost use Rattle.cp_fields.specs.declared.kind.Kind.TheVariants as kinds;
 
 use crate::constant::Constant;
-use crate::item::Item;
+use crate::element::Element;
 use crate::kind::{Kind, WrongKind, reads_from, reads_from_structs};
-use crate::pointee::{Part, Pointee};
+use crate::pointer_reader::{Part, PointerReader};
 use crate::row::Elements;
 use cp_reading::View;
 use cp_tree::{Shape, Tree};
@@ -72,14 +72,14 @@ impl<'a, T> List<'a, T> {
     }
 }
 
-impl<'a, T: Item<'a>> List<'a, T> {
+impl<'a, T: Element<'a>> List<'a, T> {
     ghost use Rattle.std.specs.Prelude.{◌≡◌, ◌<◌, length, slice_index_or};
     ghost use Rattle.cp_tree.specs.Node.{null};
     ghost use Rattle.cp_fields.specs.Pointers.{list_field};
 
     /// The list that a pointer stands for; null stands for the empty list.
     #[inline(always)]
-    pub fn of(at: Pointee<'a>) -> Result<List<'a, T>, WrongKind>
+    pub fn of(at: PointerReader<'a>) -> Result<List<'a, T>, WrongKind>
         ensures { result ≡ list_field T.SIZE at.entry }
     {
         Ok(List {
@@ -94,18 +94,18 @@ impl<'a, T: Item<'a>> List<'a, T> {
         requires { i < length self.now }
         ensures { result ≡ T.read (slice_index_or self.now i null) }
     {
-        T::of_item(self.elements.get(i))
+        T::of_element(self.elements.get(i))
     }
 }
 
-impl<'a, T: Item<'a>> IntoIterator for List<'a, T> {
+impl<'a, T: Element<'a>> IntoIterator for List<'a, T> {
     type Item = T;
 
-    type IntoIter = Items<'a, T>;
+    type IntoIter = ListIter<'a, T>;
 
     #[inline(always)]
-    fn into_iter(self) -> Items<'a, T> {
-        Items {
+    fn into_iter(self) -> ListIter<'a, T> {
+        ListIter {
             list: self,
             next: 0,
         }
@@ -113,20 +113,20 @@ impl<'a, T: Item<'a>> IntoIterator for List<'a, T> {
 }
 
 /// The elements of a list that are left, one after another.
-pub struct Items<'a, T> {
+pub struct ListIter<'a, T> {
     list: List<'a, T>,
     next: usize,
 }
 
 // Not derived: a crate that lets one go calls this function, and need not prove the drop of all that it holds.
-impl<'a, T> Drop for Items<'a, T> {
+impl<'a, T> Drop for ListIter<'a, T> {
     #[inline(always)]
     fn drop(self) {
-        let Items { list: _, next: _ } = self;
+        let ListIter { list: _, next: _ } = self;
     }
 }
 
-impl<'a, T: Item<'a>> Iterator for Items<'a, T> {
+impl<'a, T: Element<'a>> Iterator for ListIter<'a, T> {
     type Item = T;
 
     ghost next_gives = { YieldsFirst (λ it. map T.read (drop it.next it.list)) };
@@ -146,7 +146,7 @@ impl<'a, T: Item<'a>> Iterator for Items<'a, T> {
 
 /// The elements of a list, where elements of a size are wanted.
 #[inline(always)]
-fn elements_of(at: Pointee<'_>, wanted: ElementSize) -> Result<Elements<'_>, WrongKind>
+fn elements_of(at: PointerReader<'_>, wanted: ElementSize) -> Result<Elements<'_>, WrongKind>
     ensures { result ≡ list_field wanted at.entry }
 {
     match at.into_part() {
@@ -165,7 +165,7 @@ fn elements_in_place<'a>(view: View<'a>, wanted: ElementSize) -> Result<Elements
     if reads_shape(wanted, view.shape()) {
         Ok(Elements::of_view(view))
     } else {
-        Err(Pointee::of_view(view).wrong(Kind::List(wanted)))
+        Err(PointerReader::of_view(view).wrong(Kind::List(wanted)))
     }
 }
 
@@ -187,7 +187,7 @@ fn reads_shape(wanted: ElementSize, shape: Shape) -> bool
 fn elements_owned(tree: &Tree, wanted: ElementSize) -> Result<Elements<'_>, WrongKind>
     ensures { result ≡ list_field wanted (node_of tree.now) }
 {
-    let at = Pointee::of_tree(tree);
+    let at = PointerReader::of_tree(tree);
     let reads = match tree {
         Tree::Null => true,
         Tree::Structs { words, ptrs, .. } => reads_from_structs(wanted, *words, *ptrs),
@@ -210,7 +210,7 @@ fn elements_constant<'a>(
 ) -> Result<Elements<'a>, WrongKind>
     ensures { result ≡ list_field wanted (constant_of tree.now) }
 {
-    let at = Pointee::of_constant(tree);
+    let at = PointerReader::of_constant(tree);
     let reads = match tree {
         Constant::Null => true,
         Constant::Structs { words, ptrs, .. } => reads_from_structs(wanted, *words, *ptrs),

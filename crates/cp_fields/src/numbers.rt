@@ -6,10 +6,10 @@ ghost use Rattle.std.specs.Int.{cast_signed, w8, w16, w32, w64};
 ghost use Rattle.std.specs.Float.{binary32, binary64};
 ghost use Rattle.cp_fields.specs.Numbers.{plain, uint, flag};
 
-use crate::structure::StructView;
+use crate::structure::StructReader;
 use std::num::{f32_from_bits_with_nan, f64_from_bits_with_nan};
 
-impl<'a> StructView<'a> {
+impl<'a> StructReader<'a> {
     /// Bit `i`.
     #[inline]
     pub fn bit(&self, i: u32) -> bool

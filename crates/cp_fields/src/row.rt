@@ -10,8 +10,8 @@ ghost use Rattle.cp_fields.specs.Rows.{tree_item, body_item};
 use crate::constant::{Constant, ConstantBody, bit_value, list_count, list_number};
 use crate::data::packed_at;
 use crate::kind::element_bits;
-use crate::pointee::Pointee;
-use crate::structure::StructView;
+use crate::pointer_reader::PointerReader;
+use crate::structure::StructReader;
 use cp_reading::View;
 use cp_tree::{ListRef, Shape, Tree};
 use cp_words::ElementSize;
@@ -137,17 +137,19 @@ impl<'a> Elements<'a> {
 
     /// Element `i`.
     #[inline(always)]
-    pub(crate) fn get(&self, i: usize) -> StructView<'a>
+    pub(crate) fn get(&self, i: usize) -> StructReader<'a>
         requires { i < length self.now }
         ensures { result ≡ slice_index_or self.now i null }
     {
         match &self.row {
-            Row::Zeros => StructView::of_number(0),
-            Row::Packed(words, width) => StructView::of_number(packed_at(words, *width, i)),
-            Row::Pointers(view) => StructView::of_pointer(Pointee::of_view(view.child(i as u32))),
-            Row::Structs(view) => StructView::of_struct(view.child(i as u32)),
+            Row::Zeros => StructReader::of_number(0),
+            Row::Packed(words, width) => StructReader::of_number(packed_at(words, *width, i)),
+            Row::Pointers(view) => StructReader::of_pointer(PointerReader::of_view(view.child(
+                i as u32,
+            ))),
+            Row::Structs(view) => StructReader::of_struct(view.child(i as u32)),
             Row::Owned(tree) => owned_item(tree, i),
-            Row::Numbers(items) => StructView::of_number(list_number(items, i)),
+            Row::Numbers(items) => StructReader::of_number(list_number(items, i)),
             Row::Trees(items) => constant_pointer(items, i),
             Row::Bodies(items) => constant_struct(items, i),
         }
@@ -172,36 +174,36 @@ fn owned_count(tree: &Tree) -> usize
 }
 
 /// Element `i` of a list that is owned.
-fn owned_item(tree: &Tree, i: usize) -> StructView<'_>
+fn owned_item(tree: &Tree, i: usize) -> StructReader<'_>
     requires { i < length (items_of (node_of tree.now)) }
     ensures { result ≡ slice_index_or (items_of (node_of tree.now)) i null }
 {
     match tree {
-        Tree::Voids(_) => StructView::of_number(0),
-        Tree::Bits(items) => StructView::of_number(bit_value(items[i])),
-        Tree::Bytes(items) => StructView::of_number(items[i] as u64),
-        Tree::Halves(items) => StructView::of_number(items[i] as u64),
-        Tree::Quads(items) => StructView::of_number(items[i] as u64),
-        Tree::Words(items) => StructView::of_number(items[i]),
-        Tree::Ptrs(items) => StructView::of_pointer(Pointee::of_tree(&items[i])),
-        Tree::Structs { items, .. } => StructView::of_body(&items[i]),
+        Tree::Voids(_) => StructReader::of_number(0),
+        Tree::Bits(items) => StructReader::of_number(bit_value(items[i])),
+        Tree::Bytes(items) => StructReader::of_number(items[i] as u64),
+        Tree::Halves(items) => StructReader::of_number(items[i] as u64),
+        Tree::Quads(items) => StructReader::of_number(items[i] as u64),
+        Tree::Words(items) => StructReader::of_number(items[i]),
+        Tree::Ptrs(items) => StructReader::of_pointer(PointerReader::of_tree(&items[i])),
+        Tree::Structs { items, .. } => StructReader::of_body(&items[i]),
         // These have no elements.
         Tree::Null | Tree::Cap(_) | Tree::Struct(_) => unreachable!(),
     }
 }
 
 /// Element `i` of a list of pointers that is a constant.
-fn constant_pointer<'a>(items: &'a [Constant<'a>], i: usize) -> StructView<'a>
+fn constant_pointer<'a>(items: &'a [Constant<'a>], i: usize) -> StructReader<'a>
     requires { i < length (map tree_item items.now) }
     ensures { result ≡ slice_index_or (map tree_item items.now) i null }
 {
-    StructView::of_pointer(Pointee::of_constant(&items[i]))
+    StructReader::of_pointer(PointerReader::of_constant(&items[i]))
 }
 
 /// Element `i` of a list of structs that is a constant.
-fn constant_struct<'a>(items: &'a [ConstantBody<'a>], i: usize) -> StructView<'a>
+fn constant_struct<'a>(items: &'a [ConstantBody<'a>], i: usize) -> StructReader<'a>
     requires { i < length (map body_item items.now) }
     ensures { result ≡ slice_index_or (map body_item items.now) i null }
 {
-    StructView::of_constant_body(&items[i])
+    StructReader::of_constant_body(&items[i])
 }

@@ -10,13 +10,13 @@ ghost use Rattle.cp_fields.specs.Items.{number_item, pointer_item};
 ghost use Rattle.cp_fields.specs.Parts.{data_in, pointers_in, HaveStruct};
 ghost use Rattle.cp_fields.specs.Pointers.{pointers_of, struct_field, text_field, data_field, cap_field, list_field, or_default};
 
-use crate::bytes::DataView;
+use crate::bytes::DataReader;
 use crate::constant::{Constant, ConstantBody, pointers_copy};
-use crate::item::Item;
+use crate::element::Element;
 use crate::kind::{Kind, WrongKind};
 use crate::list::List;
-use crate::pointee::{Part, Pointee};
-use crate::text::TextView;
+use crate::pointer_reader::{Part, PointerReader};
+use crate::text::TextReader;
 use cp_reading::View;
 use cp_tree::{Body, Shape, Tree, TreeRef, tree_copy};
 use std::alloc::{AllocError, Global};
@@ -36,29 +36,29 @@ pub(crate) enum Pointers<'a> {
     View(View<'a>),
     Body(&'a Body),
     Constant(&'a ConstantBody<'a>),
-    Only(Pointee<'a>),
+    Only(PointerReader<'a>),
 }
 
 /// A struct, where it lies. Its fields are read by their places: number `i` of a width counts numbers of
 /// that width from the start of the data section, and what lies past the end is zero or null. Contracts
 /// see it as its tree.
-pub struct StructView<'a> {
+pub struct StructReader<'a> {
     data: Data<'a>,
     pointers: Pointers<'a>,
 }
 
 // Not derived: a crate that lets one go calls this function, and need not prove the drop of all that it holds.
-impl<'a> Drop for StructView<'a> {
+impl<'a> Drop for StructReader<'a> {
     #[inline(always)]
     fn drop(self) {
-        let StructView {
+        let StructReader {
             data: _,
             pointers: _,
         } = self;
     }
 }
 
-impl<'a> Model for StructView<'a> {
+impl<'a> Model for StructReader<'a> {
     ghost use Rattle.cp_tree.specs.Node.{Node, struct};
     ghost use Rattle.cp_tree.specs.Code.{tree_code};
 
@@ -73,7 +73,7 @@ impl<'a> Model for StructView<'a> {
     ghost invariant = { λ s. HaveStruct s.pointers };
 }
 
-impl<'a> StructView<'a> {
+impl<'a> StructReader<'a> {
     ghost use Rattle.std.specs.Prelude.{◌≡◌, ◌<◌, ◌^◌, [], slice_index, IfOk};
     ghost use Rattle.cp_tree.specs.Elements.{element};
     ghost use Rattle.cp_tree.specs.Node.{struct, data_of, no_nodes, IsStruct};
@@ -86,11 +86,11 @@ impl<'a> StructView<'a> {
     /// The struct that a pointer stands for. Null stands for the struct whose fields are all as by
     /// default.
     #[inline(always)]
-    pub fn of(at: Pointee<'a>) -> Result<StructView<'a>, WrongKind>
+    pub fn of(at: PointerReader<'a>) -> Result<StructReader<'a>, WrongKind>
         ensures { result ≡ struct_field at.entry }
     {
         match at.into_part() {
-            Part::Null => Ok(StructView::empty()),
+            Part::Null => Ok(StructReader::empty()),
             Part::View(view) => of_view(view),
             Part::Tree(tree) => of_tree(tree),
             Part::Constant(tree) => of_constant(tree),
@@ -98,18 +98,18 @@ impl<'a> StructView<'a> {
     }
 
     /// The struct whose fields are all as by default.
-    pub fn empty() -> StructView<'a>
+    pub fn empty() -> StructReader<'a>
         ensures { result ≡ struct [] no_nodes }
     {
-        StructView::of_data(&[])
+        StructReader::of_data(&[])
     }
 
     /// The same once more.
-    pub fn again(&self) -> StructView<'a>
+    pub fn reborrow(&self) -> StructReader<'a>
         ensures { result ≡ self.now }
     {
         let pointers = pointers_again(&self.pointers);
-        StructView {
+        StructReader {
             data: self.data,
             pointers,
         }
@@ -117,25 +117,25 @@ impl<'a> StructView<'a> {
 
     /// What pointer `i` stands for.
     #[inline(always)]
-    pub fn pointer(&self, i: u32) -> Pointee<'a>
+    pub fn pointer(&self, i: u32) -> PointerReader<'a>
         ensures { result ≡ pointee_of self.now i }
     {
         match &self.pointers {
-            Pointers::Nulls => Pointee::null(),
-            Pointers::View(view) => Pointee::of_view(view.child(i)),
+            Pointers::Nulls => PointerReader::null(),
+            Pointers::View(view) => PointerReader::of_view(view.child(i)),
             Pointers::Body(body) => match body.pointer(i) {
-                Some(tree) => Pointee::of_tree(tree),
-                None => Pointee::null(),
+                Some(tree) => PointerReader::of_tree(tree),
+                None => PointerReader::null(),
             },
             Pointers::Constant(body) => match body.pointer(i) {
-                Some(tree) => Pointee::of_constant(tree),
-                None => Pointee::null(),
+                Some(tree) => PointerReader::of_constant(tree),
+                None => PointerReader::null(),
             },
             Pointers::Only(only) => {
                 if i == 0 {
-                    only.again()
+                    only.reborrow()
                 } else {
-                    Pointee::null()
+                    PointerReader::null()
                 }
             }
         }
@@ -143,18 +143,18 @@ impl<'a> StructView<'a> {
 
     /// What pointer `i` stands for; null stands for the default.
     #[inline]
-    pub fn pointer_or(&self, i: u32, default: &'a Constant<'a>) -> Pointee<'a>
+    pub fn pointer_or(&self, i: u32, default: &'a Constant<'a>) -> PointerReader<'a>
         ensures { result ≡ or_default (pointee_of self.now i) (constant_of default.now) }
     {
-        self.pointer(i).or(Pointee::of_constant(default))
+        self.pointer(i).or(PointerReader::of_constant(default))
     }
 
     /// The struct at pointer `i`.
     #[inline]
-    pub fn structure(&self, i: u32) -> Result<StructView<'a>, WrongKind>
+    pub fn structure(&self, i: u32) -> Result<StructReader<'a>, WrongKind>
         ensures { result ≡ struct_field (pointee_of self.now i) }
     {
-        StructView::of(self.pointer(i))
+        StructReader::of(self.pointer(i))
     }
 
     /// The struct at pointer `i`; null is the default.
@@ -163,47 +163,47 @@ impl<'a> StructView<'a> {
         &self,
         i: u32,
         default: &'a Constant<'a>,
-    ) -> Result<StructView<'a>, WrongKind>
+    ) -> Result<StructReader<'a>, WrongKind>
         ensures { result ≡ struct_field (or_default (pointee_of self.now i) (constant_of default.now)) }
     {
-        StructView::of(self.pointer_or(i, default))
+        StructReader::of(self.pointer_or(i, default))
     }
 
     /// The text at pointer `i`; null is the empty text.
     #[inline]
-    pub fn text(&self, i: u32) -> Result<TextView<'a>, WrongKind>
+    pub fn text(&self, i: u32) -> Result<TextReader<'a>, WrongKind>
         ensures { result ≡ text_field [] (pointee_of self.now i) }
     {
-        TextView::of(self.pointer(i), "")
+        TextReader::of(self.pointer(i), "")
     }
 
     /// The text at pointer `i`; null is the default.
     #[inline]
-    pub fn text_or(&self, i: u32, default: &'a str) -> Result<TextView<'a>, WrongKind>
+    pub fn text_or(&self, i: u32, default: &'a str) -> Result<TextReader<'a>, WrongKind>
         ensures { result ≡ text_field default.now (pointee_of self.now i) }
     {
-        TextView::of(self.pointer(i), default)
+        TextReader::of(self.pointer(i), default)
     }
 
     /// The data at pointer `i`; null is no bytes.
     #[inline]
-    pub fn data(&self, i: u32) -> Result<DataView<'a>, WrongKind>
+    pub fn data(&self, i: u32) -> Result<DataReader<'a>, WrongKind>
         ensures { result ≡ data_field [] (pointee_of self.now i) }
     {
-        DataView::of(self.pointer(i), &[])
+        DataReader::of(self.pointer(i), &[])
     }
 
     /// The data at pointer `i`; null is the default.
     #[inline]
-    pub fn data_or(&self, i: u32, default: &'a [u8]) -> Result<DataView<'a>, WrongKind>
+    pub fn data_or(&self, i: u32, default: &'a [u8]) -> Result<DataReader<'a>, WrongKind>
         ensures { result ≡ data_field default.now (pointee_of self.now i) }
     {
-        DataView::of(self.pointer(i), default)
+        DataReader::of(self.pointer(i), default)
     }
 
     /// The list at pointer `i`; null is the empty list.
     #[inline]
-    pub fn list<T: Item<'a>>(&self, i: u32) -> Result<List<'a, T>, WrongKind>
+    pub fn list<T: Element<'a>>(&self, i: u32) -> Result<List<'a, T>, WrongKind>
         ensures { result ≡ list_field T.SIZE (pointee_of self.now i) }
     {
         List::of(self.pointer(i))
@@ -211,7 +211,7 @@ impl<'a> StructView<'a> {
 
     /// The list at pointer `i`; null is the default.
     #[inline]
-    pub fn list_or<T: Item<'a>>(
+    pub fn list_or<T: Element<'a>>(
         &self,
         i: u32,
         default: &'a Constant<'a>,
@@ -268,10 +268,10 @@ impl<'a> StructView<'a> {
 
     /// The struct that has these data words, and no pointers.
     #[inline(always)]
-    pub fn of_data(words: &'a [u64]) -> StructView<'a>
+    pub fn of_data(words: &'a [u64]) -> StructReader<'a>
         ensures { result ≡ struct words.now no_nodes }
     {
-        StructView {
+        StructReader {
             data: Data::Words(words),
             pointers: Pointers::Nulls,
         }
@@ -279,10 +279,10 @@ impl<'a> StructView<'a> {
 
     /// An element of a list of numbers.
     #[inline(always)]
-    pub(crate) fn of_number(number: u64) -> StructView<'a>
+    pub(crate) fn of_number(number: u64) -> StructReader<'a>
         ensures { result ≡ number_item number }
     {
-        StructView {
+        StructReader {
             data: Data::Number(number),
             pointers: Pointers::Nulls,
         }
@@ -290,10 +290,10 @@ impl<'a> StructView<'a> {
 
     /// The struct that has this as its one pointer, as an element of a list of pointers is read.
     #[inline(always)]
-    pub fn of_pointer(pointer: Pointee<'a>) -> StructView<'a>
+    pub fn of_pointer(pointer: PointerReader<'a>) -> StructReader<'a>
         ensures { result ≡ pointer_item pointer.entry }
     {
-        StructView {
+        StructReader {
             data: Data::Words(&[]),
             pointers: Pointers::Only(pointer),
         }
@@ -301,20 +301,20 @@ impl<'a> StructView<'a> {
 
     /// An owned struct.
     #[inline(always)]
-    pub(crate) fn of_body(body: &'a Body) -> StructView<'a>
+    pub(crate) fn of_body(body: &'a Body) -> StructReader<'a>
         ensures { result ≡ struct (body_of body.now).0 (body_of body.now).1 }
     {
-        StructView {
+        StructReader {
             data: Data::Words(&body.words),
             pointers: Pointers::Body(body),
         }
     }
 
     /// A struct that is a constant.
-    pub(crate) fn of_constant_body(body: &'a ConstantBody<'a>) -> StructView<'a>
+    pub(crate) fn of_constant_body(body: &'a ConstantBody<'a>) -> StructReader<'a>
         ensures { result ≡ struct (constant_body_of body.now).0 (constant_body_of body.now).1 }
     {
-        StructView {
+        StructReader {
             data: Data::Words(body.words),
             pointers: Pointers::Constant(body),
         }
@@ -322,11 +322,11 @@ impl<'a> StructView<'a> {
 
     /// A struct that is read in place.
     #[inline(always)]
-    pub(crate) fn of_struct(view: View<'a>) -> StructView<'a>
+    pub(crate) fn of_struct(view: View<'a>) -> StructReader<'a>
         requires { IsStruct view }
         ensures { result ≡ view.entry }
     {
-        StructView {
+        StructReader {
             data: Data::Words(struct_words(&view)),
             pointers: Pointers::View(view),
         }
@@ -340,10 +340,10 @@ fn pointers_again<'a>(pointers: &Pointers<'a>) -> Pointers<'a>
 {
     match pointers {
         Pointers::Nulls => Pointers::Nulls,
-        Pointers::View(view) => Pointers::View(view.again()),
+        Pointers::View(view) => Pointers::View(view.reborrow()),
         Pointers::Body(body) => Pointers::Body(body),
         Pointers::Constant(body) => Pointers::Constant(body),
-        Pointers::Only(only) => Pointers::Only(only.again()),
+        Pointers::Only(only) => Pointers::Only(only.reborrow()),
     }
 }
 
@@ -406,34 +406,34 @@ fn struct_words<'a>(view: &View<'a>) -> &'a [u64]
 
 /// The struct that is read in place.
 #[inline(always)]
-fn of_view<'a>(view: View<'a>) -> Result<StructView<'a>, WrongKind>
+fn of_view<'a>(view: View<'a>) -> Result<StructReader<'a>, WrongKind>
     ensures { result ≡ struct_field view.entry }
 {
     match view.shape() {
-        Shape::Null => Ok(StructView::empty()),
-        Shape::Struct { .. } => Ok(StructView::of_struct(view)),
-        _ => Err(Pointee::of_view(view).wrong(Kind::Struct)),
+        Shape::Null => Ok(StructReader::empty()),
+        Shape::Struct { .. } => Ok(StructReader::of_struct(view)),
+        _ => Err(PointerReader::of_view(view).wrong(Kind::Struct)),
     }
 }
 
 /// The struct that is owned.
-fn of_tree(tree: &Tree) -> Result<StructView<'_>, WrongKind>
+fn of_tree(tree: &Tree) -> Result<StructReader<'_>, WrongKind>
     ensures { result ≡ struct_field (node_of tree.now) }
 {
     match tree {
-        Tree::Null => Ok(StructView::empty()),
-        Tree::Struct(body) => Ok(StructView::of_body(body)),
-        _ => Err(Pointee::of_tree(tree).wrong(Kind::Struct)),
+        Tree::Null => Ok(StructReader::empty()),
+        Tree::Struct(body) => Ok(StructReader::of_body(body)),
+        _ => Err(PointerReader::of_tree(tree).wrong(Kind::Struct)),
     }
 }
 
 /// The struct that is a constant.
-fn of_constant<'a>(tree: &'a Constant<'a>) -> Result<StructView<'a>, WrongKind>
+fn of_constant<'a>(tree: &'a Constant<'a>) -> Result<StructReader<'a>, WrongKind>
     ensures { result ≡ struct_field (constant_of tree.now) }
 {
     match tree {
-        Constant::Null => Ok(StructView::empty()),
-        Constant::Struct(body) => Ok(StructView::of_constant_body(body)),
-        _ => Err(Pointee::of_constant(tree).wrong(Kind::Struct)),
+        Constant::Null => Ok(StructReader::empty()),
+        Constant::Struct(body) => Ok(StructReader::of_constant_body(body)),
+        _ => Err(PointerReader::of_constant(tree).wrong(Kind::Struct)),
     }
 }

@@ -3,9 +3,9 @@
 ghost use Rattle.std.specs.Prelude.{◌≡◌, ◌↔◌, IfOk, IsTrue, IsUtf8, string_bytes, Err};
 ghost use Rattle.cp_fields.specs.declared.text.TextFault.TheVariants.{NotUtf8, OutOfMemory};
 
-use crate::bytes::{DataView, bytes_at};
+use crate::bytes::{DataReader, bytes_at};
 use crate::kind::{Kind, WrongKind};
-use crate::pointee::Pointee;
+use crate::pointer_reader::PointerReader;
 use std::alloc::{AllocError, Global};
 use std::error::Error;
 use std::fmt;
@@ -45,11 +45,11 @@ impl From<AllocError> for TextFault {
 /// it (encoding specification, "Lists"). That they are UTF-8 is tested when a text is made of them.
 /// Contracts see it as its bytes.
 #[derive(Drop)]
-pub struct TextView<'a> {
-    data: DataView<'a>,
+pub struct TextReader<'a> {
+    data: DataReader<'a>,
 }
 
-impl<'a> Model for TextView<'a> {
+impl<'a> Model for TextReader<'a> {
     ghost use Rattle.std.specs.Prelude.{ℕ, List};
 
     ghost Value = { List ℕ };
@@ -57,7 +57,7 @@ impl<'a> Model for TextView<'a> {
     ghost view = { λ t. t.data };
 }
 
-impl<'a> TextView<'a> {
+impl<'a> TextReader<'a> {
     ghost use Rattle.std.specs.Prelude.{◌≡◌, ◌==◌, ◌↔◌, length, IfOk, IsTrue, IsUtf8, string_bytes, Err};
     ghost use Rattle.cp_fields.specs.Pointers.{text_field};
     ghost use Rattle.cp_fields.specs.declared.text.TextFault.TheVariants.{NotUtf8};
@@ -65,18 +65,18 @@ impl<'a> TextView<'a> {
     /// The text that a pointer stands for; null stands for the default.
     #[inline(always)]
     #[tactic(auto, using(crate::proofs::Pointed::no_text))]
-    pub fn of(at: Pointee<'a>, default: &'a str) -> Result<TextView<'a>, WrongKind>
+    pub fn of(at: PointerReader<'a>, default: &'a str) -> Result<TextReader<'a>, WrongKind>
         ensures { result ≡ text_field default.now at.entry }
     {
         match bytes_at(&at) {
             Some(bytes) => match bytes.before_zero() {
-                Some(data) => Ok(TextView { data }),
+                Some(data) => Ok(TextReader { data }),
                 None => Err(at.wrong(Kind::Text)),
             },
             None => {
                 if at.is_null() {
-                    Ok(TextView {
-                        data: DataView::of_slice(default.as_bytes()),
+                    Ok(TextReader {
+                        data: DataReader::of_slice(default.as_bytes()),
                     })
                 } else {
                     Err(at.wrong(Kind::Text))
@@ -101,10 +101,10 @@ impl<'a> TextView<'a> {
     }
 
     /// The bytes.
-    pub fn bytes(&self) -> DataView<'a>
+    pub fn bytes(&self) -> DataReader<'a>
         ensures { result ≡ self.now }
     {
-        self.data.again()
+        self.data.reborrow()
     }
 
     /// Whether the bytes are UTF-8, as those of a text should be. Nothing is copied.

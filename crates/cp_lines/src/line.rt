@@ -3,9 +3,9 @@
 use crate::notation::{separate, tree};
 use cp_reading::View;
 use cp_rpc::{
-    CallView, Context, DescriptorView, DisembargoView, Exception, ExceptionKind, ExceptionView,
-    MessageIn, MessageView, Op, PayloadView, PromisedAnswerView, ResolutionView, ResolveView,
-    ReturnView, ReturnedView, SendResultsToView, TargetView,
+    CallView, DescriptorView, DisembargoContext, DisembargoView, Exception, ExceptionKind,
+    ExceptionView, MessageIn, MessageView, Op, PayloadView, PromisedAnswerView, ResolutionView,
+    ResolveView, ReturnView, ReturnedView, SendResultsToView, TargetView,
 };
 use std::alloc::{AllocError, Global};
 
@@ -132,11 +132,11 @@ fn disembargo(line: &mut String, view: &DisembargoView<View>) -> Result<(), Allo
     line.push_str("disembargo to=")?;
     target(line, &view.target)?;
     match view.context {
-        Context::SenderLoopback(embargo) => write!(line, " senderLoopback {embargo}"),
-        Context::ReceiverLoopback(embargo) => write!(line, " receiverLoopback {embargo}"),
-        Context::Accept => line.push_str(" accept"),
-        Context::Provide(question) => write!(line, " provide {question}"),
-        Context::Unknown(number) => write!(line, " unknown {}", number.number()),
+        DisembargoContext::SenderLoopback(embargo) => write!(line, " senderLoopback {embargo}"),
+        DisembargoContext::ReceiverLoopback(embargo) => write!(line, " receiverLoopback {embargo}"),
+        DisembargoContext::Accept => line.push_str(" accept"),
+        DisembargoContext::Provide(question) => write!(line, " provide {question}"),
+        DisembargoContext::Unknown(number) => write!(line, " unknown {}", number.number()),
     }
 }
 

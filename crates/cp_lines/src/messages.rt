@@ -3,11 +3,11 @@
 use crate::reader::Reader;
 use crate::wrong::Wrong;
 use cp_rpc::{
-    Bootstrap, Call, CapTable, Context, Descriptor, Disembargo, Exception, ExceptionKind, Finish,
-    Message, Op, OtherWhich, Payload, PromisedAnswer, Release, Resolution, Resolve, Return,
+    Bootstrap, Call, CapTable, Descriptor, Disembargo, DisembargoContext, Exception, ExceptionKind,
+    Finish, Message, Op, OtherWhich, Payload, PromisedAnswer, Release, Resolution, Resolve, Return,
     Returned, SendResultsTo, Target, Text, Transform,
 };
-use cp_tree::Past;
+use cp_tree::UnknownEnumerant;
 use std::alloc::Global;
 
 /// The message of a line, which `show` prints for it. `Err` says where it isn't one, or that memory ran out there.
@@ -20,8 +20,8 @@ pub fn message_of(alloc: Global, line: &str) -> Result<Message, Wrong> {
 /// Parts of messages.
 impl<'a> Reader<'a> {
     /// A number past those of a union's members.
-    fn past<const LAST: u16>(&mut self) -> Option<Past<LAST>> {
-        let past = Past::new(self.small());
+    fn past<const LAST: u16>(&mut self) -> Option<UnknownEnumerant<LAST>> {
+        let past = UnknownEnumerant::new(self.small());
         if past.is_none() {
             self.miss("a number past those that are known");
         }
@@ -201,21 +201,21 @@ impl<'a> Reader<'a> {
         }
     }
 
-    fn context(&mut self) -> Context {
+    fn context(&mut self) -> DisembargoContext {
         if self.takes("senderLoopback ") {
-            Context::SenderLoopback(self.number())
+            DisembargoContext::SenderLoopback(self.number())
         } else if self.takes("receiverLoopback ") {
-            Context::ReceiverLoopback(self.number())
+            DisembargoContext::ReceiverLoopback(self.number())
         } else if self.takes("provide ") {
-            Context::Provide(self.number())
+            DisembargoContext::Provide(self.number())
         } else if self.takes("unknown ") {
             match self.past() {
-                Some(number) => Context::Unknown(number),
-                None => Context::Accept,
+                Some(number) => DisembargoContext::Unknown(number),
+                None => DisembargoContext::Accept,
             }
         } else {
             self.skip_last("accept", "a context");
-            Context::Accept
+            DisembargoContext::Accept
         }
     }
 }

@@ -28,8 +28,8 @@ use Rattle.cp_messages.specs.declared.returned.Return.{Return}
 use Rattle.cp_messages.specs.declared.resolve.Resolution.{Resolution}
 use Rattle.cp_messages.specs.declared.resolve.Resolution.TheVariants as resolutions
 use Rattle.cp_messages.specs.declared.resolve.Resolve.{Resolve}
-use Rattle.cp_messages.specs.declared.disembargo.Context.{Context}
-use Rattle.cp_messages.specs.declared.disembargo.Context.TheVariants as contexts
+use Rattle.cp_messages.specs.declared.disembargo.DisembargoContext.{DisembargoContext}
+use Rattle.cp_messages.specs.declared.disembargo.DisembargoContext.TheVariants as contexts
 use Rattle.cp_messages.specs.declared.disembargo.Disembargo.{Disembargo}
 use Rattle.cp_messages.specs.declared.small.Bootstrap.{Bootstrap}
 use Rattle.cp_messages.specs.declared.small.Finish.{Finish}
@@ -230,14 +230,14 @@ resolve_sound r h =
     by (resolutions.Exception e) h = exception_sound e h
     by (resolutions.Unknown n) h = rw (not_number 1 n 0 h (omega arith), not_number 1 n 1 h (omega arith)) refl
 
-pub context_fits : (c : Context) → IsContext c → IsU32 (context_id c) × IsU16 (context_number c)
+pub context_fits : (c : DisembargoContext) → IsContext c → IsU32 (context_id c) × IsU16 (context_number c)
 context_fits (contexts.SenderLoopback id) h = (h, omega arith)
 context_fits (contexts.ReceiverLoopback id) h = (h, omega arith)
 context_fits contexts.Accept h = (omega arith, omega arith)
 context_fits (contexts.Provide id) h = (h, omega arith)
 context_fits (contexts.Unknown n) h = (omega arith, h.1)
 
-context_back : (c : Context) (ws : List ℕ) → IsContext c → u32_of ws 0 ≡ context_id c → context_by (context_number c) ws ≡ c
+context_back : (c : DisembargoContext) (ws : List ℕ) → IsContext c → u32_of ws 0 ≡ context_id c → context_by (context_number c) ws ≡ c
 context_back (contexts.SenderLoopback id) ws h e = ap contexts.SenderLoopback e
 context_back (contexts.ReceiverLoopback id) ws h e = ap contexts.ReceiverLoopback e
 context_back contexts.Accept ws h e = refl

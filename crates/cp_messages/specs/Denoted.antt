@@ -23,8 +23,8 @@ use Rattle.cp_messages.specs.declared.returned.Return.{Return}
 use Rattle.cp_messages.specs.declared.resolve.Resolution.{Resolution}
 use Rattle.cp_messages.specs.declared.resolve.Resolution.TheVariants as resolutions
 use Rattle.cp_messages.specs.declared.resolve.Resolve.{Resolve}
-use Rattle.cp_messages.specs.declared.disembargo.Context.{Context}
-use Rattle.cp_messages.specs.declared.disembargo.Context.TheVariants as contexts
+use Rattle.cp_messages.specs.declared.disembargo.DisembargoContext.{DisembargoContext}
+use Rattle.cp_messages.specs.declared.disembargo.DisembargoContext.TheVariants as contexts
 use Rattle.cp_messages.specs.declared.disembargo.Disembargo.{Disembargo}
 use Rattle.cp_messages.specs.declared.small.Bootstrap.{Bootstrap}
 use Rattle.cp_messages.specs.declared.small.Finish.{Finish}
@@ -144,14 +144,14 @@ resolve_denoted t = record { promise_id = u32_of (data_of t) 0; resolution = res
 
 -- Disembargo: target is the struct at pointer 0. The member of context is u16 number 2: senderLoopback 0, receiverLoopback 1 and provide 3, u32
 -- number 0; accept 2.
-abbrev pub context_by : ℕ → List ℕ → Context
+abbrev pub context_by : ℕ → List ℕ → DisembargoContext
 context_by n ws =
     if n == 0 then contexts.SenderLoopback (u32_of ws 0)
     else (if n == 1 then contexts.ReceiverLoopback (u32_of ws 0)
     else (if n == 2 then contexts.Accept
     else (if n == 3 then contexts.Provide (u32_of ws 0) else contexts.Unknown n)))
 
-abbrev pub context_denoted : List ℕ → Context
+abbrev pub context_denoted : List ℕ → DisembargoContext
 context_denoted ws = context_by (u16_of ws 2) ws
 
 abbrev pub disembargo_denoted : Node → Disembargo

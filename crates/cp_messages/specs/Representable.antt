@@ -24,8 +24,8 @@ use Rattle.cp_messages.specs.declared.returned.Return.{Return}
 use Rattle.cp_messages.specs.declared.resolve.Resolution.{Resolution}
 use Rattle.cp_messages.specs.declared.resolve.Resolution.TheVariants as resolutions
 use Rattle.cp_messages.specs.declared.resolve.Resolve.{Resolve}
-use Rattle.cp_messages.specs.declared.disembargo.Context.{Context}
-use Rattle.cp_messages.specs.declared.disembargo.Context.TheVariants as contexts
+use Rattle.cp_messages.specs.declared.disembargo.DisembargoContext.{DisembargoContext}
+use Rattle.cp_messages.specs.declared.disembargo.DisembargoContext.TheVariants as contexts
 use Rattle.cp_messages.specs.declared.disembargo.Disembargo.{Disembargo}
 use Rattle.cp_messages.specs.declared.small.Bootstrap.{Bootstrap}
 use Rattle.cp_messages.specs.declared.small.Finish.{Finish}
@@ -116,7 +116,7 @@ pub record IsResolve (r : Resolve) : Type 0 where
   pub promise_id : IsU32 r.promise_id
   pub resolution : IsResolution r.resolution
 
-abbrev pub IsContext : Context → Type 0
+abbrev pub IsContext : DisembargoContext → Type 0
 IsContext (contexts.SenderLoopback id) = IsU32 id
 IsContext (contexts.ReceiverLoopback id) = IsU32 id
 IsContext contexts.Accept = Unit {0}

@@ -23,8 +23,8 @@ use Rattle.cp_messages.specs.declared.returned.Return.{Return}
 use Rattle.cp_messages.specs.declared.resolve.Resolution.{Resolution}
 use Rattle.cp_messages.specs.declared.resolve.Resolution.TheVariants as resolutions
 use Rattle.cp_messages.specs.declared.resolve.Resolve.{Resolve}
-use Rattle.cp_messages.specs.declared.disembargo.Context.{Context}
-use Rattle.cp_messages.specs.declared.disembargo.Context.TheVariants as contexts
+use Rattle.cp_messages.specs.declared.disembargo.DisembargoContext.{DisembargoContext}
+use Rattle.cp_messages.specs.declared.disembargo.DisembargoContext.TheVariants as contexts
 use Rattle.cp_messages.specs.declared.disembargo.Disembargo.{Disembargo}
 use Rattle.cp_messages.specs.declared.small.Bootstrap.{Bootstrap}
 use Rattle.cp_messages.specs.declared.small.Finish.{Finish}
@@ -207,14 +207,14 @@ abbrev pub resolve_written : Resolve → Node
 resolve_written r = struct_written ((u32_part 0 r.promise_id + u16_part 2 (resolution_number r.resolution)) ∷ []) (resolution_pointer r.resolution ∷ [])
 
 -- the member of context: senderLoopback 0, receiverLoopback 1 and provide 3, a number; accept 2
-abbrev pub context_number : Context → ℕ
+abbrev pub context_number : DisembargoContext → ℕ
 context_number (contexts.SenderLoopback n) = 0
 context_number (contexts.ReceiverLoopback n) = 1
 context_number contexts.Accept = 2
 context_number (contexts.Provide n) = 3
 context_number (contexts.Unknown n) = n
 
-abbrev pub context_id : Context → ℕ
+abbrev pub context_id : DisembargoContext → ℕ
 context_id (contexts.SenderLoopback id) = id
 context_id (contexts.ReceiverLoopback id) = id
 context_id (contexts.Provide id) = id

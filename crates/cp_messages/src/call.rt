@@ -10,7 +10,7 @@ use crate::data::{u16_part, u32_part, u64_part};
 use crate::draft::{lent, null, triple_of};
 use crate::payload::Payload;
 use crate::target::Target;
-use cp_tree::{Draft, Past, Whole};
+use cp_tree::{Draft, UnknownEnumerant, Whole};
 use std::alloc::{AllocError, Global};
 
 /// `sendResultsTo` of `struct Call` of rpc.capnp.
@@ -23,7 +23,7 @@ pub enum SendResultsTo {
     /// `thirdParty @7 :RecipientId`, not looked into.
     ThirdParty(Whole),
     /// Any other number.
-    Unknown(Past<2>),
+    Unknown(UnknownEnumerant<2>),
 }
 
 /// `struct Call` of rpc.capnp.

@@ -9,7 +9,7 @@ ghost use Rattle.cp_tree.specs.DraftOf.{draft_of, draft_body_of};
 use crate::data::{u16_part, u32_part};
 use crate::draft::{body_of, lent, null};
 use crate::promised_answer::PromisedAnswer;
-use cp_tree::{Draft, DraftBody, Past, Whole};
+use cp_tree::{Draft, DraftBody, UnknownEnumerant, Whole};
 use std::alloc::{AllocError, Global};
 
 /// `struct CapDescriptor` of rpc.capnp.
@@ -28,7 +28,7 @@ pub enum Descriptor {
     /// `thirdPartyHosted @5 :ThirdPartyCapDescriptor`, not looked into.
     ThirdPartyHosted(Whole),
     /// Any other number.
-    Unknown(Past<5>),
+    Unknown(UnknownEnumerant<5>),
 }
 
 impl Descriptor {

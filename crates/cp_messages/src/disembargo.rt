@@ -8,12 +8,12 @@ ghost use Rattle.cp_tree.specs.DraftOf.{draft_of};
 use crate::data::{u16_part, u32_part};
 use crate::draft::struct_of;
 use crate::target::Target;
-use cp_tree::{Draft, Past};
+use cp_tree::{Draft, UnknownEnumerant};
 use std::alloc::{AllocError, Global};
 
 /// `context` of `struct Disembargo` of rpc.capnp.
 #[derive(Clone, Copy, PartialEq, Eq, Debug)]
-pub enum Context {
+pub enum DisembargoContext {
     /// `senderLoopback @1 :EmbargoId`.
     SenderLoopback(u32),
     /// `receiverLoopback @2 :EmbargoId`.
@@ -23,19 +23,19 @@ pub enum Context {
     /// `provide @4 :QuestionId`.
     Provide(u32),
     /// Any other number.
-    Unknown(Past<3>),
+    Unknown(UnknownEnumerant<3>),
 }
 
 /// `struct Disembargo` of rpc.capnp.
 #[derive(Drop)]
 pub struct Disembargo {
     /// `context :union`.
-    pub context: Context,
+    pub context: DisembargoContext,
     /// `target @0 :MessageTarget`.
     pub target: Target,
 }
 
-impl Context {
+impl DisembargoContext {
     /// Its member's number, and the number that the member carries.
     fn parts(&self) -> (u16, u32)
         ensures number { result.0 ≡ context_number self.now }
@@ -43,11 +43,11 @@ impl Context {
         ensures held { IsContext self.now }
     {
         match self {
-            Context::SenderLoopback(number) => (0, *number),
-            Context::ReceiverLoopback(number) => (1, *number),
-            Context::Accept => (2, 0),
-            Context::Provide(number) => (3, *number),
-            Context::Unknown(which) => (which.number(), 0),
+            DisembargoContext::SenderLoopback(number) => (0, *number),
+            DisembargoContext::ReceiverLoopback(number) => (1, *number),
+            DisembargoContext::Accept => (2, 0),
+            DisembargoContext::Provide(number) => (3, *number),
+            DisembargoContext::Unknown(which) => (which.number(), 0),
         }
     }
 }

@@ -9,7 +9,7 @@ ghost use Rattle.cp_tree.specs.DraftOf.{draft_of};
 use crate::data::u16_part;
 use crate::draft::pair_of;
 use crate::text::Text;
-use cp_tree::{Draft, Past};
+use cp_tree::{Draft, UnknownEnumerant};
 use std::alloc::{AllocError, Global};
 use std::fmt;
 
@@ -25,7 +25,7 @@ pub enum ExceptionKind {
     /// `unimplemented @3`.
     Unimplemented,
     /// Any other number.
-    Unknown(Past<3>),
+    Unknown(UnknownEnumerant<3>),
 }
 
 /// `struct Exception` of rpc.capnp.

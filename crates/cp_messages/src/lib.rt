@@ -22,7 +22,7 @@ mod write;
 
 pub use call::{Call, SendResultsTo};
 pub use descriptor::Descriptor;
-pub use disembargo::{Context, Disembargo};
+pub use disembargo::{Disembargo, DisembargoContext};
 pub use exception::{Exception, ExceptionKind};
 pub use fault::{Field, SchemaFault};
 pub use laws::{read_back, writable};

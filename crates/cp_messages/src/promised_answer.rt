@@ -8,7 +8,7 @@ ghost use Rattle.cp_messages.specs.Written.{body_written, op_number, op_field, o
 
 use crate::data::{u16_part, u32_part};
 use crate::draft::{list_of, null, struct_of, words_of};
-use cp_tree::{Draft, DraftBody, Past};
+use cp_tree::{Draft, DraftBody, UnknownEnumerant};
 use std::alloc::{AllocError, Global};
 use std::marker::Model;
 
@@ -20,7 +20,7 @@ pub enum Op {
     /// `getPointerField @1 :UInt16`.
     GetPointerField(u16),
     /// Any other number.
-    Unknown(Past<1>),
+    Unknown(UnknownEnumerant<1>),
 }
 
 impl Op {

@@ -10,7 +10,7 @@ use crate::data::{u16_part, u32_part};
 use crate::descriptor::Descriptor;
 use crate::draft::{null, struct_of};
 use crate::exception::Exception;
-use cp_tree::{Draft, Past};
+use cp_tree::{Draft, UnknownEnumerant};
 use std::alloc::{AllocError, Global};
 
 /// The union of `struct Resolve` of rpc.capnp.
@@ -21,7 +21,7 @@ pub enum Resolution {
     /// `exception @2 :Exception`.
     Exception(Exception),
     /// Any other number.
-    Unknown(Past<1>),
+    Unknown(UnknownEnumerant<1>),
 }
 
 /// `struct Resolve` of rpc.capnp.

@@ -10,7 +10,7 @@ use crate::data::{bit_part, u16_part, u32_part};
 use crate::draft::{lent, null, struct_of};
 use crate::exception::Exception;
 use crate::payload::Payload;
-use cp_tree::{Draft, Past, Whole};
+use cp_tree::{Draft, UnknownEnumerant, Whole};
 use std::alloc::{AllocError, Global};
 
 /// The union of `struct Return` of rpc.capnp.
@@ -29,7 +29,7 @@ pub enum Returned {
     /// `acceptFromThirdParty @7 :ThirdPartyCapId`, not looked into.
     AcceptFromThirdParty(Whole),
     /// Any other number.
-    Unknown(Past<5>),
+    Unknown(UnknownEnumerant<5>),
 }
 
 /// `struct Return` of rpc.capnp.

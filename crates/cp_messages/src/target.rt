@@ -9,7 +9,7 @@ ghost use Rattle.cp_tree.specs.DraftOf.{draft_of};
 use crate::data::{u16_part, u32_part};
 use crate::draft::{null, struct_of};
 use crate::promised_answer::PromisedAnswer;
-use cp_tree::{Draft, Past};
+use cp_tree::{Draft, UnknownEnumerant};
 use std::alloc::{AllocError, Global};
 
 /// `struct MessageTarget` of rpc.capnp.
@@ -20,7 +20,7 @@ pub enum Target {
     /// `promisedAnswer @1 :PromisedAnswer`.
     PromisedAnswer(PromisedAnswer),
     /// Any other number.
-    Unknown(Past<1>),
+    Unknown(UnknownEnumerant<1>),
 }
 
 impl Target {

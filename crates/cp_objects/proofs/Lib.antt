@@ -1,6 +1,4 @@
-pub mod Counting
-pub mod Holding
-pub mod Living
-pub mod Working
-pub mod Lending
-pub mod Dropping
+pub mod Answering
+pub mod Polling
+pub mod Renaming
+pub mod Sets

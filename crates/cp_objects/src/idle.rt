@@ -1,145 +1,71 @@
-//! Objects and promises that nothing refers to.
+//! The objects and promises that nothing of their connection refers to.
 
-ghost use Rattle.std.specs.Prelude.{IfOk, OnOk};
-ghost use Rattle.cp_objects.specs.Dropping.{DropsIdle, Forgets, ForgetsEach, Goes, LosesEach, LosesIdle};
-ghost use Rattle.cp_objects.specs.Idle.{UnknownGo, UnknownGoes};
-ghost use Rattle.cp_objects.specs.Work.{Lives};
-ghost use Rattle.cp_objects.specs.WorkOf.{work_of};
+ghost use Rattle.std.specs.Prelude.{◌≡◌, IfOk};
+ghost use Rattle.cp_objects.specs.Objects.{AreHeld, idle_of, is_idle, is_loose, objects_of, loose_of};
 
+use crate::number_set::{NumberSet, insert_each};
+use crate::object_entry::ObjectEntry;
 use crate::objects::Objects;
-use cp_connection::{Connection, ConnectionFault};
-use cp_makers::Hall;
-use cp_refs::PromiseId;
+use crate::served_object::ServedObject;
+use cp_vat_machine::Ids;
 use std::alloc::AllocError;
 
-impl Objects {
-    /// Forgets each promise that objects made, or that calls and outcomes of theirs named, if it is resolved and nothing refers to it. Then
-    /// drops each object that may go and that nothing of the connection refers to, and tries to release the imports that were given up,
-    /// with those that it held. Nothing is done while something that happened wasn't worked off, as that may be a call of an object, or
-    /// name a promise. What you yourself hold isn't counted.
-    pub fn drop_idle<H: Hall>(
-        &mut self,
-        connection: &mut Connection,
-        objects: &mut H,
-    ) -> Result<(), AllocError>
-        ensures done { OnOk result (DropsIdle H.hall (work_of self.old connection.old) (work_of self.new connection.new) objects.old objects.new) }
-        ensures lives { Lives connection.old connection.new }
+impl<O: ServedObject<Makes = O>> Objects<O> {
+    /// The objects that go unless the connection refers to them, rising.
+    pub(crate) fn idle(&self) -> Result<Ids, AllocError>
+        ensures { IfOk result (λ idle. idle ≡ idle_of (objects_of self.now)) }
     {
-        if connection.held().happenings > 0 {
-            return Ok(());
+        let held = self.held()?;
+        let mut idle = Vec::new(self.alloc);
+        for (number, member) in self.members.iter() {
+            if self.is_idle(&held, *number, member) {
+                idle.push(*number)?;
+            }
         }
-        let loose = objects.loose_promises(self.alloc)?;
-        forget_each(connection, objects, loose.ids())?;
-        let idle = objects.idle(self.alloc)?;
-        self.drop_each(connection, objects, idle.ids())?;
-        self.release_all(connection)
+        Ok(Ids::new(idle))
     }
 
-    /// Drops each of these objects that nothing of the connection refers to.
-    fn drop_each<H: Hall>(
-        &mut self,
-        connection: &Connection,
-        objects: &mut H,
-        numbers: &[u32],
-    ) -> Result<(), AllocError>
-        ensures { OnOk result (LosesEach H.hall numbers.now (work_of self.old connection.now) (work_of self.new connection.now) objects.old objects.new) }
+    /// Whether an object goes, unless the connection refers to it, where these are held.
+    fn is_idle(&self, held: &NumberSet, number: u32, member: &ObjectEntry<O>) -> bool
+        ensures { AreHeld (objects_of self.now) held.now → result ≡ is_idle (objects_of self.now) number member.now }
     {
-        for number in numbers {
-            self.drop_one(connection, objects, *number)?;
-        }
-        Ok(())
+        number >= self.stays && member.asked == 0 && !held.contains(number)
     }
 
-    /// Drops an object, if nothing of the connection refers to it.
-    fn drop_one<H: Hall>(
-        &mut self,
-        connection: &Connection,
-        objects: &mut H,
-        number: u32,
-    ) -> Result<(), AllocError>
-        ensures { OnOk result (LosesIdle H.hall number (work_of self.old connection.now) (work_of self.new connection.now) objects.old objects.new) }
+    /// The vat's promises that go unless the vat uses them, rising.
+    pub(crate) fn loose_promises(&self) -> Result<Ids, AllocError>
+        ensures { IfOk result (λ loose. loose ≡ loose_of (objects_of self.now)) }
     {
-        if connection.uses_object(number) {
-            return Ok(());
+        let held = self.held()?;
+        let mut loose = Vec::new(self.alloc);
+        for (id, number) in self.promises.names.iter() {
+            if self.is_loose(&held, *number) {
+                loose.push(*id)?;
+            }
         }
-        let imports = objects.remove(self.alloc, number);
-        self.give_up(&imports)
+        Ok(Ids::new(loose))
     }
-}
 
-/// Forgets each of these promises that no object may know and that the vat doesn't use.
-pub(crate) fn forget_unknown<H: Hall>(
-    connection: &mut Connection,
-    objects: &H,
-    ids: &[PromiseId],
-) -> Result<(), AllocError>
-    ensures done { OnOk result (UnknownGo H.hall objects.now ids.now connection.old connection.new) }
-    ensures lives { Lives connection.old connection.new }
-{
-    for id in ids {
-        forget_if_unknown(connection, objects, *id)?;
+    /// Whether a promise goes, unless the vat uses it, where these are held.
+    fn is_loose(&self, held: &NumberSet, number: u32) -> bool
+        ensures { AreHeld (objects_of self.now) held.now → result ≡ is_loose (objects_of self.now) number }
+    {
+        !self.promises.makers.contains(number) && !held.contains(number)
     }
-    Ok(())
-}
 
-/// Forgets a promise that no object may know, if the vat doesn't use it.
-fn forget_if_unknown<H: Hall>(
-    connection: &mut Connection,
-    objects: &H,
-    id: PromiseId,
-) -> Result<(), AllocError>
-    ensures done { OnOk result (UnknownGoes H.hall objects.now id connection.old connection.new) }
-    ensures lives { Lives connection.old connection.new }
-{
-    if objects.knows_promise(id) {
-        return Ok(());
-    }
-    let _ = forget_unused(connection, id)?;
-    Ok(())
-}
-
-/// Forgets each of these promises that the vat doesn't use.
-fn forget_each<H: Hall>(
-    connection: &mut Connection,
-    objects: &mut H,
-    ids: &[PromiseId],
-) -> Result<(), AllocError>
-    ensures done { OnOk result (ForgetsEach H.hall ids.now connection.old connection.new objects.old objects.new) }
-    ensures lives { Lives connection.old connection.new }
-{
-    for id in ids {
-        forget(connection, objects, *id)?;
-    }
-    Ok(())
-}
-
-/// Forgets a promise, if the vat doesn't use it.
-fn forget<H: Hall>(
-    connection: &mut Connection,
-    objects: &mut H,
-    id: PromiseId,
-) -> Result<(), AllocError>
-    ensures done { OnOk result (Forgets H.hall id connection.old connection.new objects.old objects.new) }
-    ensures lives { Lives connection.old connection.new }
-{
-    let went = forget_unused(connection, id)?;
-    if went {
-        objects.forget(id);
-    }
-    Ok(())
-}
-
-/// Has the vat forget a promise, unless it uses it. Says whether it did.
-fn forget_unused(connection: &mut Connection, id: PromiseId) -> Result<bool, AllocError>
-    ensures done { IfOk result (λ went. Goes id connection.old went connection.new) }
-    ensures lives { Lives connection.old connection.new }
-{
-    let fault = match connection.forget(id) {
-        Ok(()) => return Ok(true),
-        Err(fault) => fault,
-    };
-    match fault {
-        ConnectionFault::OutOfMemory => Err(AllocError),
-        _ => Ok(false),
+    /// The objects that owe an answer or made a promise that isn't resolved; and the objects and promises that the params of calls name which
+    /// aren't answered, and those that others keep.
+    fn held(&self) -> Result<NumberSet, AllocError>
+        ensures { IfOk result (AreHeld (objects_of self.now)) }
+    {
+        let mut held = NumberSet::new(self.alloc);
+        let owing = self.pending_answers.objects(self.alloc)?;
+        insert_each(&mut held, &owing)?;
+        self.promises.insert_makers(&mut held)?;
+        self.param_caps.insert_all(&mut held)?;
+        for (_, member) in self.members.iter() {
+            insert_each(&mut held, member.keeps.numbers())?;
+        }
+        Ok(held)
     }
 }

@@ -1,14 +1,32 @@
-//! What is done for the objects of a connection: its peer's calls go to them, and what they answer goes back.
+//! Objects that make others: what each may do while it is called, and those of one connection.
 #![tactic(auto)]
 
-mod asker;
-mod holders;
+mod alarms;
+mod call_queue;
+mod context;
+mod either;
+mod grown;
 mod idle;
-mod laws;
-mod notice;
+mod listed;
+mod members;
+mod number_set;
+mod numbers;
+mod object_entry;
+mod object_table;
 mod objects;
-mod pledges;
+mod param_caps;
+mod pending_answers;
+mod promise_request;
+mod promises;
+mod resolver;
+mod served_object;
+mod waker;
 
-pub use laws::waits_in_order;
-pub use notice::Notice;
+pub use context::Context;
+pub use either::Either;
+pub use object_table::ObjectTable;
 pub use objects::Objects;
+pub use promise_request::PromiseRequest;
+pub use resolver::Resolver;
+pub use served_object::ServedObject;
+pub use waker::Waker;

@@ -1,756 +1,494 @@
-//! What is done for the objects of a connection.
+//! The objects of a connection, with those that they make.
 
-ghost use Rattle.std.specs.Prelude.{◌≡◌, ◌<◌, ◌↔◌, [], true, false, IfErr, IfOk, IsSome, IsTrue, OnOk, length};
-ghost use Rattle.std.specs.FinMap as map;
+ghost use Rattle.std.specs.Prelude.{◌≡◌, Some, None, true, false, IsSome, IfOk, OnOk};
+ghost use Rattle.std.specs.FinMap as maps;
 ghost use Rattle.cp_vat_machine.specs.InUse.{caps_of};
-ghost use Rattle.cp_vat_machine.specs.declared.event.Event.TheVariants as events;
-ghost use Rattle.cp_connection.specs.Link.{Link};
-ghost use Rattle.cp_refs.specs.Memory.{counted};
-ghost use Rattle.cp_servants.specs.Outcomes.{bad_outcome, no_such_object};
-ghost use Rattle.cp_servants.specs.declared.servant.Reply.TheVariants.{Now};
-ghost use Rattle.cp_objects.specs.Work.{begun, Answers, Frees, GivesUp, Holds, IsDone, LetsGo, Lives, Notes, Releases, Replies, Stays, Tries, TriesEach, TriesUnheld};
-ghost use Rattle.cp_objects.specs.Calling.{HandsBack, Hears, MakesCall, MakesCalls, NextCall};
-ghost use Rattle.cp_objects.specs.Rounds.{Gives, GivesUpBeside, Handles, HandsOver, PollsFrom, Rounds, Settles, WorksOff};
-ghost use Rattle.cp_objects.specs.Idle.{ReleasesIdle};
-ghost use Rattle.cp_objects.specs.Noticed.{noticed_memory};
-ghost use Rattle.cp_objects.specs.Receiving.{GivesLent, HandlesLent, IsCutShort, Receives};
-ghost use Rattle.cp_objects.specs.WorkOf.{work_of};
+ghost use Rattle.cp_servants.specs.declared.servant.Settled.{Settled};
+ghost use Rattle.cp_servants.specs.Outcomes.{named_imports};
+ghost use Rattle.cp_servants.specs.Requests.{request_of};
+ghost use Rattle.cp_objects.specs.Objects.{NextCalls, Calls, AsksNextCall, Polls, Responds, adding, adopting, alone, answering, asking, awoken, changing, followed, following, handing_over, held_by, joining, objects_of, lending, losing, noting, own_of, placing, resting, settled, waking, with_those_made};
+ghost use Rattle.cp_objects.specs.Members.{earlier, newborn, without_next_calls};
+ghost use Rattle.cp_objects.specs.declared.context.ObjectEffect.TheVariants as effects;
 
-use crate::asker::Asker;
-use crate::holders::ImportHolders;
-use crate::idle::forget_unknown;
-use crate::notice::{Notice, noticed_memory};
-use crate::pledges::with_pledges_kept;
-use cp_connection::{Connection, ConnectionFault, Happening};
-use cp_makers::Hall;
-use cp_refs::{Caps, Origin, Outcome, Request};
-use cp_servants::{
-    Ask, Awaited, Reply, RequestView, Settled, bad_outcome, named_imports, no_such_object,
-    refused_call,
+use crate::context::{Context, NewCap, ObjectEffect};
+use crate::members::{
+    add_next_call, drop_next_calls, give_up, give_up_import, has_next_call, hold, holds, keep,
+    let_go, set_alarm, take_next_call,
 };
+use crate::number_set::NumberSet;
+use crate::numbers::Numbers;
+use crate::object_entry::ObjectEntry;
+use crate::param_caps::ParamCaps;
+use crate::pending_answers::PendingAnswers;
+use crate::promises::Promises;
+use crate::served_object::ServedObject;
+use crate::waker::Waker;
+use cp_refs::{Cap, Caps, Outcome, Request};
+use cp_servants::{OutgoingCall, Reply, RequestView, Settled, named_imports};
 use cp_tables::Entries;
-use cp_vat::Lent;
-use cp_vat_machine::{Ids, VatFault};
-use cp_words::Segments;
+use cp_vat_machine::Ids;
 use std::alloc::{AllocError, Global};
 use std::collections::VecDeque;
-use std::mem;
 
-/// What a connection's objects owe its peer, and what happened that is no object's business. The objects themselves are kept beside the
-/// connection: a list, in which the object of number k is at place k, or a family of objects that make others. They are of one type:
-/// boxes (`Box<dyn Servant>`) or an enum, where there are several kinds.
-/// They aren't kept here, since definitions can't name a struct with boxed objects.
+/// The objects of a connection, with the objects and promises that they make, by their numbers. Numbers go up, and none is given twice:
+/// so a name of an object that is gone never reaches another.
 ///
-/// # In which order calls are made
+/// # When an object is dropped
 ///
-/// 1. `new` makes it, for one new connection.
-/// 2. Give `receive` the bytes of the peer: it gives them to the connection, hands each call that comes to its object, and
-///    answers at once where the object does. After each other call of the connection by which something may happen (its own
-///    `receive`, `end`, and the application's calls), call `work_off`: it does so of what happened, in order.
-/// 3. Take what is for you by `next`, until it gives none.
-/// 4. After each message, and where nothing comes, call `round`: it polls each object once, answers what is settled
-///    by then, and gives back imports that objects gave up.
-/// 5. Before you wait for the peer, go on with rounds while `Hall::again` says that an object may give more, and write
-///    what is to go out.
-/// 6. Where objects may call, and you hold no import or promise yourself, call `release_idle` from time to time; and `drop_idle` where
-///    objects make others.
+/// What the program adds stays. Any other object is dropped once
 ///
-/// # What becomes of a call
+/// - nothing of its connection refers to it: the vat doesn't, and no call of it waits to be taken;
+/// - it owes no answer, and waits for the outcome of no call of its own, made or yet to be made;
+/// - each promise that it made is resolved;
+/// - no object keeps it (`Context::keep`, `Context::keep_for`), and the params of no call name it that isn't answered yet.
 ///
-/// Its object answers at once, or says `Later` and settles it at a poll. A call of an object that doesn't exist fails
-/// with `no such object`, and where the vat refuses an outcome the call fails with `bad outcome`. Once the connection
-/// ended no call is answered any more, and no object is polled.
+/// Then its time to be woken goes with it, and what it kept; and the imports that it held are given up.
 ///
-/// # Objects that make promises
+/// A promise that is resolved is forgotten once nothing of the connection refers to it, no object keeps it, and the params of no call name
+/// it that isn't answered yet. Objects name a promise of this end as an object: one of theirs, and the results of a call that wasn't answered
+/// when a call of the peer's named them.
 ///
-/// What an object did of promises (`Here::promise`, `Here::resolve`) is done as soon as it was called, polled or asked, before what it
-/// gave then is used. So the vat has a promise before it is named, and calls on it wait there until it is resolved.
+/// # Which objects are polled
 ///
-/// # Objects that call
-///
-/// Made by `that_call`, it asks each object for the calls that it makes (`Servant::ask`) after each call, poll and outcome
-/// that the object got. An object of a family may also tell them at once (`Here::tell`): those are made first, in order, each once.
-/// What a call came to goes to its object (`Servant::told`), and the question is finished; it is no notice. Where the vat refuses the
-/// call, the object is told of the exception `call refused`.
-///
-/// So an object may keep an import that others were given too. Made by `that_call`, it counts the holders of each import:
-/// an object holds one once for each call, and each outcome of its own calls, whose table names it. The import is
-/// released when it was given up as often. What you yourself hold or release isn't counted. Made by `new`, it counts
-/// none, and the first object that gives an import up releases it.
-///
-/// Some imports no object is given: those of a call that fails before it reaches one, and what a promise of the peer's came
-/// to. `release_idle` releases them. It forgets promises that no object is given, too.
-///
-/// # Errors, and what each leaves
-///
-/// `AllocError` says that memory ran out: for the connection, which ended then; for an object; or here. A call may be
-/// lost by it, so close the connection. What was done with the connection before is what its contract says (Lives).
-/// Where memory runs out as holders are counted, the object wasn't called or told, and holds only some of the imports, or
-/// none.
-pub struct Objects {
+/// Those that were made, called, told or woken since they were polled last, those whose last poll gave something, and those that say
+/// `has_more` after it.
+#[derive(Drop)]
+pub struct Objects<O> {
     pub(crate) alloc: Global,
-    /// Whether objects may call.
-    may_call: bool,
-    awaited: Awaited,
-    /// The calls that objects made, by their questions.
-    asked: Entries<Asker>,
-    holders: ImportHolders,
-    /// The imports that objects gave up and that none held then, until they are released.
-    given_up: Vec<u32>,
-    /// What is no object's business, in order.
-    notices: VecDeque<Notice>,
+    pub(crate) members: Entries<ObjectEntry<O>>,
+    pub(crate) context: Context<O>,
+    /// The objects below this number were added by the program.
+    pub(crate) stays: u32,
+    /// The objects that are to be polled.
+    pub(crate) awake: NumberSet,
+    pub(crate) pending_answers: PendingAnswers,
+    pub(crate) param_caps: ParamCaps,
+    pub(crate) promises: Promises,
+    /// The imports that objects gave up beside what they answered, in order.
+    pub(crate) given_up: Numbers,
+    /// The objects of other sessions that are to be woken, in order.
+    pub(crate) wakes: VecDeque<Waker>,
+    /// No object is to be woken before this time.
+    pub(crate) first_alarm: Option<u64>,
 }
 
-// Not derived: a crate that lets one go calls this function, and need not prove the drop of all that it holds.
-impl Drop for Objects {
-    fn drop(self) {
-        let Objects {
-            alloc: _,
-            may_call: _,
-            awaited: _,
-            asked: _,
-            holders: _,
-            given_up: _,
-            notices: _,
-        } = self;
-    }
-}
-
-impl Objects {
-    /// Nothing is owed yet. The objects may not call: they aren't asked.
-    pub fn new(alloc: Global) -> Objects
-        ensures { (link : Link) → work_of result link ≡ begun false link }
-    {
-        Objects::made(alloc, false)
-    }
-
-    /// Nothing is owed yet. The objects may call what they were given.
-    pub fn that_call(alloc: Global) -> Objects
-        ensures { (link : Link) → work_of result link ≡ begun true link }
-    {
-        Objects::made(alloc, true)
-    }
-
-    /// Takes bytes of the peer, up to the end of the next message, and does what follows of its objects, until nothing is left. A
-    /// call that goes to an object at once is lent to it out of its frame: no tree of its params is made, unless the object wants
-    /// one. Says how many bytes it took, and whether a message ended with them: if not, nothing was done.
-    ///
-    /// # Errors
-    ///
-    /// Those of `Connection::receive`, and then no object was called. Else memory ran out for what the message leads to.
-    pub fn receive<H: Hall>(
-        &mut self,
-        connection: &mut Connection,
-        objects: &mut H,
-        piece: &[u8],
-    ) -> Result<(usize, bool), ConnectionFault>
-        ensures received { IfOk result (λ r. Receives H.hall (work_of self.old connection.old) piece.now r.0 r.1 (work_of self.new connection.new) objects.old objects.new) }
-        ensures goes_on { IfOk result (λ r. 0 < length piece.now → 0 < r.0) }
-        ensures unreceived { IfErr result (λ fault. IsCutShort connection.old piece.now fault connection.new objects.old objects.new) }
-    {
-        let mut frame = Segments::one(Vec::new(self.alloc));
-        let (count, lent) = connection.receive_lending(piece, &mut frame)?;
-        // No byte of a further frame came, so the bytes ended with a message.
-        let has_ended = connection.held().came == 0;
-        self.answer_lent(connection, objects, lent)?;
-        // Nothing of the frame is lent any more.
-        connection.reuse(frame);
-        self.work_off(connection, objects)?;
-        Ok((count, has_ended))
-    }
-
-    /// Does what happened on a connection asks of its objects, in order, until nothing is left.
-    pub fn work_off<H: Hall>(
-        &mut self,
-        connection: &mut Connection,
-        objects: &mut H,
-    ) -> Result<(), AllocError>
-        ensures done { OnOk result (WorksOff H.hall (work_of self.old connection.old) (work_of self.new connection.new) objects.old objects.new) }
-        ensures lives { Lives connection.old connection.new }
-    {
-        // Bounded, since every function has to return.
-        for _ in 0..u64::MAX {
-            let Some(happening) = connection.next() else {
-                return Ok(());
-            };
-            self.handle(connection, objects, happening)?;
-        }
-        Err(AllocError)
-    }
-
-    /// Polls each object once that is to be polled, in order, and tries to release the imports that were given up, with an answer or
-    /// beside it (`Here::give_up`); what each poll and the releases lead to is worked off. Says whether an object gave an outcome that
-    /// was awaited.
-    pub fn round<H: Hall>(
-        &mut self,
-        connection: &mut Connection,
-        objects: &mut H,
-    ) -> Result<bool, AllocError>
-        ensures done { IfOk result (λ gave. Rounds H.hall (work_of self.old connection.old) gave (work_of self.new connection.new) objects.old objects.new) }
-        ensures lives { Lives connection.old connection.new }
-    {
-        let gave = self.poll_each(connection, objects)?;
-        if has_ended(connection) {
-            return Ok(gave);
-        }
-        self.give_up_beside(objects)?;
-        self.release_all(connection)?;
-        self.work_off(connection, objects)?;
-        Ok(gave)
-    }
-
-    /// Forgets each promise of this end that nothing of the vat uses and that no object may know: such as a call named that failed
-    /// before it reached an object. Then releases each import that nothing of the vat uses and that no object holds: such as came with
-    /// such a call, and what a promise of the peer's came to. Both in the order in which `idle` of the connection names them. It goes over
-    /// all imports and promises of the vat.
-    ///
-    /// It is for a connection whose imports and promises nobody holds but these objects: what you yourself were given goes too.
-    /// Nothing goes where holders aren't counted (`new`), and while something that happened wasn't worked off, as that may give it to
-    /// an object.
-    pub fn release_idle<H: Hall>(
-        &mut self,
-        connection: &mut Connection,
-        objects: &H,
-    ) -> Result<(), AllocError>
-        ensures done { OnOk result (ReleasesIdle H.hall objects.now (work_of self.old connection.old) (work_of self.new connection.new)) }
-        ensures lives { Lives connection.old connection.new }
-    {
-        let are_counted = self.may_call;
-        if !are_counted {
-            return Ok(());
-        }
-        if connection.held().happenings > 0 {
-            return Ok(());
-        }
-        let fault = match connection.idle() {
-            Ok(idle) => {
-                forget_unknown(connection, objects, idle.promises.ids())?;
-                return self.release_each(connection, idle.imports.ids());
-            }
-            Err(fault) => fault,
-        };
-        match fault {
-            ConnectionFault::OutOfMemory => Err(AllocError),
-            _ => Ok(()),
-        }
-    }
-
-    /// How many imports are held by objects: none where holders aren't counted (`new`).
-    pub fn held_imports(&self) -> usize
-        ensures { (link : Link) → result ≡ map.len (work_of self.now link).held }
-    {
-        self.holders.len()
-    }
-
-    /// The bytes of memory that the contents of the notices that weren't taken take. It goes over these.
-    pub fn noticed_memory(&self) -> u64
-        ensures { (link : Link) → result ≡ counted (noticed_memory (work_of self.now link).notices) }
-    {
-        noticed_memory(&self.notices)
-    }
-
-    /// Hands out the first notice that wasn't taken.
-    pub fn next(&mut self) -> Option<Notice>
-        ensures { (link : Link) → HandsOver (work_of self.old link) result (work_of self.new link) }
-    {
-        self.notices.pop_front()
-    }
-
-    /// Nothing is owed yet.
-    fn made(alloc: Global, may_call: bool) -> Objects
-        ensures { (link : Link) → work_of result link ≡ begun may_call link }
+impl<O: ServedObject<Makes = O>> Objects<O> {
+    /// No objects.
+    pub fn new(alloc: Global) -> Objects<O>
+        ensures { objects_of result ≡ alone }
     {
         Objects {
             alloc,
-            may_call,
-            awaited: Awaited::new(alloc),
-            asked: Entries::new(alloc),
-            holders: ImportHolders::new(alloc),
-            given_up: Vec::new(alloc),
-            notices: VecDeque::new(alloc),
+            members: Entries::new(alloc),
+            context: Context::new(alloc),
+            stays: 0,
+            awake: NumberSet::new(alloc),
+            pending_answers: PendingAnswers::new(alloc),
+            param_caps: ParamCaps::new(alloc),
+            promises: Promises::new(alloc),
+            given_up: Numbers::new(alloc),
+            wakes: VecDeque::new(alloc),
+            first_alarm: None,
         }
     }
 
-    /// Does what one happening asks.
-    fn handle<H: Hall>(
+    /// Adds an object that stays as long as the connection. Those that were made before stay too: so add all first, and the bootstrap
+    /// object, which is object 0, before the others.
+    ///
+    /// # Errors
+    ///
+    /// Memory ran out, or there were 2^32 objects.
+    pub fn add(&mut self, object: O) -> Result<Cap, AllocError>
+        ensures added { OnOk result (objects_of self.new ≡ adding object (objects_of self.old)) }
+    {
+        let cap = self.context.make(object)?;
+        self.join()?;
+        self.stays = self.context.next();
+        Ok(cap)
+    }
+
+    /// How many objects there are.
+    pub fn len(&self) -> usize
+        ensures { result ≡ maps.len self.now.members }
+    {
+        self.members.iter().len()
+    }
+
+    /// Calls an object.
+    pub(crate) fn call(
         &mut self,
-        connection: &mut Connection,
-        objects: &mut H,
-        happening: Happening,
-    ) -> Result<(), AllocError>
-        ensures done { OnOk result (Handles H.hall happening (work_of self.old connection.old) (work_of self.new connection.new) objects.old objects.new) }
-        ensures lives { Lives connection.old connection.new }
-    {
-        match happening {
-            Happening::Delivered {
-                object,
-                origin,
-                ticket,
-                call,
-            } => {
-                let said = self.reply_of(objects, object, ticket, call)?;
-                let reply = with_pledges_kept(self.alloc, connection, objects, said)?;
-                self.reply(connection, objects, origin, ticket, reply)?;
-                self.make_calls(connection, objects, object)
-            }
-            Happening::Settled { question, outcome } => {
-                self.hand_back(connection, objects, question, outcome)
-            }
-            Happening::Closed(reason) => self.note(Notice::Closed(reason)),
-        }
-    }
-
-    /// Hands a call that is lent to its object, if there is one, and answers it at once where the object does.
-    fn answer_lent<H: Hall>(
-        &mut self,
-        connection: &mut Connection,
-        objects: &mut H,
-        lent: Option<Lent<'_>>,
-    ) -> Result<(), AllocError>
-        ensures done { OnOk result (HandlesLent H.hall lent.entry (work_of self.old connection.old) (work_of self.new connection.new) objects.old objects.new) }
-        ensures lives { Lives connection.old connection.new }
-    {
-        let Some(lent) = lent else {
-            return Ok(());
-        };
-        let (object, origin, ticket) = (lent.object, lent.origin, lent.ticket);
-        let said = self.reply_to_lent(objects, lent)?;
-        let reply = with_pledges_kept(self.alloc, connection, objects, said)?;
-        self.reply(connection, objects, origin, ticket, reply)?;
-        self.make_calls(connection, objects, object)
-    }
-
-    /// What an object replies to a call that is lent, as `reply_of` says it.
-    fn reply_to_lent<H: Hall>(
-        &mut self,
-        objects: &mut H,
-        lent: Lent<'_>,
-    ) -> Result<Reply, AllocError>
-        ensures { IfOk result (λ reply. (link : Link) → GivesLent H.hall lent.entry reply (work_of self.old link) (work_of self.new link) objects.old objects.new) }
-    {
-        let number = lent.object;
-        if objects.has(number) {
-            self.hold(&lent.caps)?;
-            let request = RequestView {
-                interface: lent.interface,
-                method: lent.method,
-                content: lent.content,
-                caps: lent.caps,
-            };
-            let reply = objects.call_view_at(self.alloc, number, lent.ticket, request)?;
-            return Ok(reply);
-        }
-        self.reply_of_none()
-    }
-
-    /// What a call of an object that doesn't exist fails with.
-    fn reply_of_none(&self) -> Result<Reply, AllocError>
-        ensures { IfOk result (λ reply. reply ≡ Now no_such_object []) }
-    {
-        Ok(Reply::Now {
-            outcome: no_such_object(self.alloc)?,
-            gives_up: Ids::new(Vec::new(self.alloc)),
-        })
-    }
-
-    /// Adds a notice.
-    fn note(&mut self, notice: Notice) -> Result<(), AllocError>
-        ensures { OnOk result ((link : Link) → Notes notice (work_of self.old link) (work_of self.new link)) }
-    {
-        self.notices.push_back(notice)?;
-        Ok(())
-    }
-
-    /// Hands an outcome back to the object whose call it is of, which may make calls then, or notes it for the user.
-    fn hand_back<H: Hall>(
-        &mut self,
-        connection: &mut Connection,
-        objects: &mut H,
-        question: u32,
-        outcome: Outcome,
-    ) -> Result<(), AllocError>
-        ensures done { OnOk result (HandsBack H.hall question outcome (work_of self.old connection.old) (work_of self.new connection.new) objects.old objects.new) }
-        ensures lives { Lives connection.old connection.new }
-    {
-        let Some(asker) = self.asked.remove(question) else {
-            return self.note(Notice::Settled { question, outcome });
-        };
-        // An object names no question, so none of its paths is needed any more.
-        finish(connection, question)?;
-        self.tell(objects, asker.number, asker.mark, outcome)?;
-        self.make_calls(connection, objects, asker.number)
-    }
-
-    /// Makes the calls that an object asks for, until it asks for no more.
-    fn make_calls<H: Hall>(
-        &mut self,
-        connection: &mut Connection,
-        objects: &mut H,
-        number: u32,
-    ) -> Result<(), AllocError>
-        ensures done { OnOk result (MakesCalls H.hall number (work_of self.old connection.old) (work_of self.new connection.new) objects.old objects.new) }
-        ensures lives { Lives connection.old connection.new }
-    {
-        for _ in 0..u64::MAX {
-            let Some(ask) = self.next_call(connection, objects, number)? else {
-                return Ok(());
-            };
-            let meant = objects.meant_ask(ask);
-            self.make_call(connection, objects, number, meant)?;
-        }
-        Err(AllocError)
-    }
-
-    /// The next call of an object. Where objects may not call, and once the connection ended, it makes none, and none of those that it
-    /// was yet to make.
-    fn next_call<H: Hall>(
-        &self,
-        connection: &mut Connection,
-        objects: &mut H,
-        number: u32,
-    ) -> Result<Option<Ask>, AllocError>
-        ensures done { IfOk result (λ ask. NextCall H.hall number (work_of self.now connection.old) ask (work_of self.now connection.new) objects.old objects.new) }
-        ensures lives { Lives connection.old connection.new }
-    {
-        if !self.may_call || !objects.has(number) || has_ended(connection) {
-            // Nothing would bound them.
-            objects.drop_asks(number);
-            return Ok(None);
-        }
-        let ask = objects.ask_at(number)?;
-        with_pledges_kept(self.alloc, connection, objects, ask)
-    }
-
-    /// Makes a call of an object. Where the vat refuses it the object is told so.
-    fn make_call<H: Hall>(
-        &mut self,
-        connection: &mut Connection,
-        objects: &mut H,
-        number: u32,
-        ask: Ask,
-    ) -> Result<(), AllocError>
-        ensures done { OnOk result (MakesCall H.hall number ask (work_of self.old connection.old) (work_of self.new connection.new) objects.old objects.new) }
-        ensures lives { Lives connection.old connection.new }
-    {
-        let mark = ask.mark;
-        let fault = match connection.call(ask.cap, ask.request) {
-            Ok(question) => return self.asked.put(question, Asker { number, mark }),
-            Err(fault) => fault,
-        };
-        match fault {
-            ConnectionFault::OutOfMemory => Err(AllocError),
-            ConnectionFault::Refused(_) => {
-                let outcome = refused_call(self.alloc)?;
-                self.tell(objects, number, mark, outcome)
-            }
-            // The connection ended, so no outcome will come.
-            ConnectionFault::Closed => Ok(()),
-            ConnectionFault::Unreadable { .. } => Ok(()),
-        }
-    }
-
-    /// Answers a call with what its object replied, or awaits that.
-    fn reply<H: Hall>(
-        &mut self,
-        connection: &mut Connection,
-        objects: &H,
-        origin: Origin,
-        ticket: u64,
-        reply: Reply,
-    ) -> Result<(), AllocError>
-        ensures done { OnOk result (Replies (λ o. H.hall.means o objects.now) (work_of self.old connection.old) origin ticket reply (work_of self.new connection.new)) }
-        ensures lives { Lives connection.old connection.new }
-    {
-        match reply {
-            Reply::Now { outcome, gives_up } => {
-                self.give_up(&gives_up)?;
-                answer(self.alloc, connection, origin, objects.meant(outcome))
-            }
-            Reply::Later => self.awaited.put(ticket, origin),
-        }
-    }
-
-    /// What an object replies to a call, whose capabilities it is given; where there is no such object the call fails.
-    fn reply_of<H: Hall>(
-        &mut self,
-        objects: &mut H,
         number: u32,
         ticket: u64,
         request: Request,
     ) -> Result<Reply, AllocError>
-        ensures { IfOk result (λ r. (link : Link) → Gives H.hall number ticket request r (work_of self.old link) (work_of self.new link) objects.old objects.new) }
+        requires { IsSome (maps.get self.old.members number) }
+        ensures { IfOk result (λ reply. Calls O.makes number ticket request reply (objects_of self.old) (objects_of self.new)) }
     {
-        if objects.has(number) {
-            self.hold(&request.caps)?;
-            let reply = objects.call_at(number, ticket, request)?;
-            return Ok(reply);
-        }
-        self.reply_of_none()
+        let imports = named_imports(self.alloc, &request.caps)?;
+        self.adopt_each(&request.caps)?;
+        let request = self.promises.named_request(request);
+        let named = Numbers::local_in(self.alloc, &request.caps)?;
+        self.context.enter(number);
+        let member = self.members.entry_mut(number);
+        member.holds.add_each(imports.ids())?;
+        let reply = member.object.call(ticket, request, &mut self.context)?;
+        self.follow_call(number, ticket, named, &reply)?;
+        Ok(reply)
     }
 
-    /// Tells an object what a call of its own came to, whose capabilities it is given. Where there is no such object nobody is told.
-    fn tell<H: Hall>(
+    /// Calls an object, with params that are lent.
+    pub(crate) fn call_view(
         &mut self,
-        objects: &mut H,
         number: u32,
-        mark: u64,
+        ticket: u64,
+        request: RequestView<'_>,
+    ) -> Result<Reply, AllocError>
+        requires { IsSome (maps.get self.old.members number) }
+        ensures { IfOk result (λ reply. Calls O.makes number ticket (request_of request.entry) reply (objects_of self.old) (objects_of self.new)) }
+    {
+        let imports = named_imports(self.alloc, &request.caps)?;
+        self.adopt_each(&request.caps)?;
+        let RequestView {
+            interface,
+            method,
+            content,
+            caps,
+        } = request;
+        let caps = self.promises.named_each(caps);
+        let named = Numbers::local_in(self.alloc, &caps)?;
+        let request = RequestView {
+            interface,
+            method,
+            content,
+            caps,
+        };
+        self.context.enter(number);
+        let member = self.members.entry_mut(number);
+        member.holds.add_each(imports.ids())?;
+        let reply = member.object.call_view(ticket, request, &mut self.context)?;
+        self.follow_call(number, ticket, named, &reply)?;
+        Ok(reply)
+    }
+
+    /// Polls an object.
+    pub(crate) fn poll(&mut self, number: u32) -> Result<Option<Settled>, AllocError>
+        requires { IsSome (maps.get self.old.members number) }
+        ensures { IfOk result (λ given. Polls O.makes number given (objects_of self.old) (objects_of self.new)) }
+    {
+        self.context.enter(number);
+        let member = self.members.entry_mut(number);
+        let said = member.object.poll(&mut self.context)?;
+        let has_more = member.object.has_more();
+        let given = self.own(number, said);
+        self.note_poll(number, &given, has_more);
+        self.settle(number)?;
+        Ok(given)
+    }
+
+    /// The next call of an object: the first that it is yet to make. Where there is none, it is asked before.
+    pub(crate) fn next_call(&mut self, number: u32) -> Result<Option<OutgoingCall>, AllocError>
+        requires { IsSome (maps.get self.old.members number) }
+        ensures { IfOk result (λ call. NextCalls O.makes number call (objects_of self.old) (objects_of self.new)) }
+    {
+        if has_next_call(&self.members, number) {
+            return Ok(take_next_call(&mut self.members, number));
+        }
+        self.ask_object(number)?;
+        Ok(take_next_call(&mut self.members, number))
+    }
+
+    /// Tells an object what a call of its own came to.
+    pub(crate) fn on_response(
+        &mut self,
+        number: u32,
+        call_id: u64,
         outcome: Outcome,
     ) -> Result<(), AllocError>
-        ensures { OnOk result ((link : Link) → Hears H.hall number mark outcome (work_of self.old link) (work_of self.new link) objects.old objects.new) }
+        requires { IsSome (maps.get self.old.members number) }
+        ensures { OnOk result (Responds O.makes number call_id outcome (objects_of self.old) (objects_of self.new)) }
     {
-        if objects.has(number) {
-            self.hold_given(&outcome)?;
-            return objects.tell_at(number, mark, outcome);
+        let imports = given_imports(self.alloc, &outcome)?;
+        self.adopt_given(&outcome)?;
+        let outcome = self.promises.named_outcome(outcome);
+        self.context.enter(number);
+        let member = self.members.entry_mut(number);
+        member.holds.add_each(imports.ids())?;
+        member.asked = member.asked.saturating_sub(1);
+        member
+            .object
+            .on_response(call_id, outcome, &mut self.context)?;
+        self.awake.insert(number)?;
+        self.settle(number)
+    }
+
+    /// The calls that an object is yet to make aren't made.
+    pub(crate) fn drop_next_calls(&mut self, number: u32)
+        ensures { objects_of self.new ≡ changing number without_next_calls (objects_of self.old) }
+    {
+        drop_next_calls(self.alloc, &mut self.members, number);
+    }
+
+    /// Has an object polled, if it is there.
+    pub(crate) fn wake(&mut self, number: u32) -> Result<(), AllocError>
+        ensures { OnOk result (objects_of self.new ≡ waking number (objects_of self.old)) }
+    {
+        if self.members.contains(number) {
+            self.awake.insert(number)?;
         }
         Ok(())
     }
 
-    /// Notes that an object is given what an outcome gives.
-    fn hold_given(&mut self, outcome: &Outcome) -> Result<(), AllocError>
-        ensures { OnOk result ((link : Link) → Holds (caps_of outcome.now) (work_of self.old link) (work_of self.new link)) }
+    /// Drops an object, and gives the imports that it held.
+    pub(crate) fn remove(&mut self, number: u32) -> Ids
+        ensures holds { result ≡ held_by number (objects_of self.old) }
+        ensures gone { objects_of self.new ≡ losing number (objects_of self.old) }
+    {
+        self.awake.remove(number);
+        match self.members.remove(number) {
+            Some(member) => member.into_holds(),
+            None => Ids::new(Vec::new(self.alloc)),
+        }
+    }
+
+    /// What follows of a call of an object.
+    fn follow_call(
+        &mut self,
+        number: u32,
+        ticket: u64,
+        named: Numbers,
+        reply: &Reply,
+    ) -> Result<(), AllocError>
+        ensures { OnOk result (objects_of self.new ≡ settled number (awoken number (noting number ticket named reply.now (objects_of self.old)))) }
+    {
+        self.note_reply(number, ticket, named, reply)?;
+        self.awake.insert(number)?;
+        self.settle(number)
+    }
+
+    /// Notes what an object gave up, or that it owes an answer to a call whose params name these.
+    fn note_reply(
+        &mut self,
+        number: u32,
+        ticket: u64,
+        named: Numbers,
+        reply: &Reply,
+    ) -> Result<(), AllocError>
+        ensures { OnOk result (objects_of self.new ≡ noting number ticket named reply.now (objects_of self.old)) }
+    {
+        match reply {
+            Reply::Now { gives_up, .. } => {
+                let_go(&mut self.members, number, gives_up.ids());
+                Ok(())
+            }
+            Reply::Later => {
+                self.pending_answers.put(ticket, number)?;
+                self.lend(ticket, named)
+            }
+        }
+    }
+
+    /// Notes what the params of a call name that is answered later, if they name something.
+    fn lend(&mut self, ticket: u64, named: Numbers) -> Result<(), AllocError>
+        ensures { OnOk result (objects_of self.new ≡ lending ticket named (objects_of self.old)) }
+    {
+        if named.is_empty() {
+            return Ok(());
+        }
+        self.param_caps.put(ticket, named)
+    }
+
+    /// The promises that an outcome names have numbers from now on, by which objects name them.
+    fn adopt_given(&mut self, outcome: &Outcome) -> Result<(), AllocError>
+        ensures adopted { OnOk result (objects_of self.new ≡ adopting (caps_of outcome.now) (objects_of self.old)) }
+        ensures members { self.new.members ≡ self.old.members }
     {
         match outcome {
-            Outcome::Results { caps, .. } => self.hold(caps),
-            Outcome::Failed(_) => Ok(()),
-            Outcome::Canceled => Ok(()),
+            Outcome::Results { caps, .. } => self.adopt_each(caps),
+            Outcome::Failed(_) | Outcome::Canceled => Ok(()),
         }
     }
 
-    /// Notes that an object is given capabilities: where objects may call, each import that they name has a holder more.
-    fn hold(&mut self, caps: &Caps) -> Result<(), AllocError>
-        ensures { OnOk result ((link : Link) → Holds caps.now (work_of self.old link) (work_of self.new link)) }
+    /// The promises that a table names have numbers from now on, by which objects name them.
+    fn adopt_each(&mut self, caps: &Caps) -> Result<(), AllocError>
+        ensures adopted { OnOk result (objects_of self.new ≡ adopting caps.now (objects_of self.old)) }
+        ensures members { self.new.members ≡ self.old.members }
     {
-        // A release gives an import back whole, so it waits for the last holder; an object that doesn't call has no use for an
-        // import.
-        if !self.may_call {
-            return Ok(());
-        }
-        let imports = named_imports(self.alloc, caps)?;
-        self.holders.raise_each(imports.ids())
-    }
-
-    /// Notes that an object gives imports up.
-    pub(crate) fn give_up(&mut self, imports: &Ids) -> Result<(), AllocError>
-        ensures { OnOk result ((link : Link) → GivesUp imports.now (work_of self.old link) (work_of self.new link)) }
-    {
-        for import in imports.ids() {
-            self.let_go(*import)?;
-        }
+        let next = self.promises.adopt_each(caps, self.context.next())?;
+        self.context.set_next(next);
         Ok(())
     }
 
-    /// Notes which imports objects gave up beside what they answered.
-    fn give_up_beside<H: Hall>(&mut self, objects: &mut H) -> Result<(), AllocError>
-        ensures { OnOk result ((link : Link) → GivesUpBeside H.hall (work_of self.old link) (work_of self.new link) objects.old objects.new) }
+    /// What an object settled, if it was to settle that.
+    fn own(&self, number: u32, said: Option<Settled>) -> Option<Settled>
+        ensures { result ≡ own_of number said self.now.pending_answers }
     {
-        let imports = objects.take_given_up(self.alloc);
-        self.give_up(&imports)
-    }
-
-    /// Notes that an object gives an import up, which is to be released unless others hold it.
-    fn let_go(&mut self, import: u32) -> Result<(), AllocError>
-        ensures { OnOk result ((link : Link) → LetsGo import (work_of self.old link) (work_of self.new link)) }
-    {
-        if self.holders.lower(import) {
-            return Ok(());
+        let settled = said?;
+        if self.pending_answers.is_of(settled.ticket, number) {
+            return Some(settled);
         }
-        self.free(import)
+        drop(settled);
+        None
     }
 
-    /// Polls each object once that is to be polled, in order, until the connection ended. Says whether an outcome was given that was
-    /// awaited.
-    fn poll_each<H: Hall>(
-        &mut self,
-        connection: &mut Connection,
-        objects: &mut H,
-    ) -> Result<bool, AllocError>
-        ensures done { IfOk result (λ gave. PollsFrom H.hall 0 (work_of self.old connection.old) gave (work_of self.new connection.new) objects.old objects.new) }
-        ensures lives { Lives connection.old connection.new }
+    /// Notes what a poll of an object gave, or whether it may give more.
+    fn note_poll(&mut self, number: u32, given: &Option<Settled>, has_more: bool)
+        ensures gave { (settled : Settled) → given.now ≡ Some settled → objects_of self.new ≡ answering number settled (objects_of self.old) }
+        ensures more { given.now ≡ None → has_more ≡ true → objects_of self.new ≡ objects_of self.old }
+        ensures rests { given.now ≡ None → has_more ≡ false → objects_of self.new ≡ resting number (objects_of self.old) }
     {
-        let mut gave = false;
-        let mut from = 0;
-        for _ in 0..u64::MAX {
-            if has_ended(connection) {
-                return Ok(gave);
+        match given {
+            Some(settled) => {
+                let_go(&mut self.members, number, settled.gives_up.ids());
+                self.pending_answers.remove(settled.ticket);
+                self.param_caps.remove(settled.ticket);
             }
-            let Some(number) = objects.next_from(from) else {
-                return Ok(gave);
-            };
-            // A hall names no object that isn't there.
-            if !objects.has(number) {
-                return Err(AllocError);
+            None if has_more => {}
+            None => self.awake.remove(number),
+        }
+    }
+
+    /// Asks an object for a call, which it is to make before those that it tells meanwhile.
+    fn ask_object(&mut self, number: u32) -> Result<(), AllocError>
+        requires { IsSome (maps.get self.old.members number) }
+        ensures { OnOk result (AsksNextCall O.makes number (objects_of self.old) (objects_of self.new)) }
+    {
+        self.context.enter(number);
+        let member = self.members.entry_mut(number);
+        let said = member.object.next_call(&mut self.context)?;
+        self.note_call(number, said)?;
+        self.settle(number)
+    }
+
+    /// Notes a call that an object asks for, if it does.
+    fn note_call(&mut self, number: u32, said: Option<OutgoingCall>) -> Result<(), AllocError>
+        ensures { OnOk result (objects_of self.new ≡ asking number said (objects_of self.old)) }
+    {
+        match said {
+            Some(next_call) => add_next_call(&mut self.members, number, next_call),
+            None => Ok(()),
+        }
+    }
+
+    /// Does what an object wanted beside what it answered.
+    fn settle(&mut self, number: u32) -> Result<(), AllocError>
+        ensures { OnOk result (objects_of self.new ≡ settled number (objects_of self.old)) }
+    {
+        self.join()?;
+        let effects = self.context.take_effects();
+        self.follow_each(number, effects)
+    }
+
+    /// Does what an object wanted, in order.
+    fn follow_each(&mut self, number: u32, effects: Vec<ObjectEffect>) -> Result<(), AllocError>
+        ensures { OnOk result (objects_of self.new ≡ followed number effects.items (objects_of self.old)) }
+    {
+        for effect in effects {
+            self.follow(number, effect)?;
+        }
+        Ok(())
+    }
+
+    /// Does what an object wanted.
+    fn follow(&mut self, number: u32, effect: ObjectEffect) -> Result<(), AllocError>
+        ensures { OnOk result (objects_of self.new ≡ following number effect (objects_of self.old)) }
+    {
+        match effect {
+            ObjectEffect::Keep { keeper, kept } => keep(&mut self.members, keeper, kept),
+            ObjectEffect::HandOver { keeper, import } => self.hand_over(number, keeper, import),
+            ObjectEffect::GiveUp(kept) => {
+                give_up(&mut self.members, number, kept);
+                Ok(())
             }
-            let said = objects.poll_at(number)?;
-            let settled = with_pledges_kept(self.alloc, connection, objects, said)?;
-            gave |= self.settle(connection, objects, settled)?;
-            self.make_calls(connection, objects, number)?;
-            self.work_off(connection, objects)?;
-            // No object has the last number of all.
-            let Some(next) = number.checked_add(1) else {
-                return Err(AllocError);
-            };
-            from = next;
+            ObjectEffect::GiveUpImport(import) => {
+                give_up_import(&mut self.members, number, import);
+                self.given_up.add(import)
+            }
+            ObjectEffect::Wake(waker) => self.pass_on(waker),
+            ObjectEffect::WakeAt(time) => {
+                set_alarm(&mut self.members, number, Some(time));
+                self.first_alarm = Some(earlier(self.first_alarm, time));
+                Ok(())
+            }
+            ObjectEffect::Resolve(promise, value) => self.promises.resolve(promise, value),
+            ObjectEffect::Call(next_call) => add_next_call(&mut self.members, number, next_call),
         }
-        Err(AllocError)
     }
 
-    /// Answers a call with what an object settled it with, if it did. Says whether it was awaited: if not, what the
-    /// object gave is dropped.
-    fn settle<H: Hall>(
-        &mut self,
-        connection: &mut Connection,
-        objects: &H,
-        settled: Option<Settled>,
-    ) -> Result<bool, AllocError>
-        ensures done { IfOk result (λ gave. Settles (λ o. H.hall.means o objects.now) (work_of self.old connection.old) settled gave (work_of self.new connection.new)) }
-        ensures lives { Lives connection.old connection.new }
+    /// Has another object hold an import in place of one that holds it, if it is there.
+    fn hand_over(&mut self, number: u32, keeper: u32, import: u32) -> Result<(), AllocError>
+        ensures { OnOk result (objects_of self.new ≡ handing_over number keeper import (objects_of self.old)) }
     {
-        let Some(settled) = settled else {
-            return Ok(false);
-        };
-        let Some(origin) = self.awaited.remove(settled.ticket) else {
-            return Ok(false);
-        };
-        self.give_up(&settled.gives_up)?;
-        let outcome = objects.meant(settled.outcome);
-        answer(self.alloc, connection, origin, outcome)?;
-        Ok(true)
-    }
-
-    /// Tries to release each import that was given up and isn't held again. One that is still in use stays.
-    pub(crate) fn release_all(&mut self, connection: &mut Connection) -> Result<(), AllocError>
-        ensures done { OnOk result (Releases (work_of self.old connection.old) (work_of self.new connection.new)) }
-        ensures lives { Lives connection.old connection.new }
-    {
-        // A release that is refused puts its import into the new list.
-        let imports = mem::replace(&mut self.given_up, Vec::new(self.alloc));
-        self.release_each(connection, &imports)
-    }
-
-    /// Tries to release each of these imports, unless an object holds it.
-    fn release_each(
-        &mut self,
-        connection: &mut Connection,
-        imports: &[u32],
-    ) -> Result<(), AllocError>
-        ensures done { OnOk result (TriesEach (work_of self.old connection.old) imports.now (work_of self.new connection.new)) }
-        ensures lives { Lives connection.old connection.new }
-    {
-        for import in imports {
-            self.release_unheld(connection, *import)?;
+        if self.members.contains(keeper) && holds(&self.members, number, import) {
+            give_up_import(&mut self.members, number, import);
+            return hold(&mut self.members, keeper, import);
         }
         Ok(())
     }
 
-    /// Tries to release an import, unless an object holds it.
-    fn release_unheld(&mut self, connection: &mut Connection, import: u32) -> Result<(), AllocError>
-        ensures done { OnOk result (TriesUnheld (work_of self.old connection.old) import (work_of self.new connection.new)) }
-        ensures lives { Lives connection.old connection.new }
+    /// Has an object woken, here or in another session.
+    fn pass_on(&mut self, waker: Waker) -> Result<(), AllocError>
+        ensures { OnOk result (objects_of self.new ≡ following 0 (effects.Wake waker) (objects_of self.old)) }
     {
-        // Its holder puts it on the list again when it gives the import up.
-        if self.holders.of(import) > 0 {
-            return Ok(());
+        if waker.session == self.context.waker().session {
+            return self.wake(waker.object);
         }
-        self.release(connection, import)
-    }
-
-    /// Tries to release an import.
-    fn release(&mut self, connection: &mut Connection, import: u32) -> Result<(), AllocError>
-        ensures done { OnOk result (Tries (work_of self.old connection.old) import (work_of self.new connection.new)) }
-        ensures lives { Lives connection.old connection.new }
-    {
-        let fault = match connection.release(import) {
-            Ok(()) => return Ok(()),
-            Err(fault) => fault,
-        };
-        match fault {
-            ConnectionFault::OutOfMemory => Err(AllocError),
-            ConnectionFault::Refused(refusal) => self.stay(import, refusal),
-            ConnectionFault::Closed => Ok(()),
-            ConnectionFault::Unreadable { .. } => Ok(()),
-        }
-    }
-
-    /// Keeps an import whose release was refused, if it is still in use.
-    fn stay(&mut self, import: u32, refusal: VatFault) -> Result<(), AllocError>
-        ensures { OnOk result ((link : Link) → Stays import refusal (work_of self.old link) (work_of self.new link)) }
-    {
-        match refusal {
-            VatFault::InUse => self.free(import),
-            _ => Ok(()),
-        }
-    }
-
-    /// Notes that an import is to be released.
-    fn free(&mut self, import: u32) -> Result<(), AllocError>
-        ensures { OnOk result ((link : Link) → Frees import (work_of self.old link) (work_of self.new link)) }
-    {
-        self.given_up.push(import)?;
+        self.wakes.push_back(waker)?;
         Ok(())
     }
-}
 
-/// Finishes the question of an object's call. Nothing is sent once the connection ended.
-fn finish(connection: &mut Connection, question: u32) -> Result<(), AllocError>
-    ensures done { OnOk result (IsDone connection.old (events.Finish question) connection.new) }
-    ensures lives { Lives connection.old connection.new }
-{
-    let fault = match connection.finish(question) {
-        Ok(()) => return Ok(()),
-        Err(fault) => fault,
-    };
-    match fault {
-        ConnectionFault::OutOfMemory => Err(AllocError),
-        _ => Ok(()),
+    /// The objects and promises that were made are there from now on, each under the next number.
+    fn join(&mut self) -> Result<(), AllocError>
+        ensures { OnOk result (objects_of self.new ≡ with_those_made (objects_of self.old)) }
+    {
+        let made = self.context.take_made();
+        for new_cap in made {
+            self.join_one(new_cap)?;
+        }
+        Ok(())
+    }
+
+    /// One object or promise more is there, under the next number.
+    fn join_one(&mut self, new_cap: NewCap<O>) -> Result<(), AllocError>
+        ensures { OnOk result (objects_of self.new ≡ joining new_cap (objects_of self.old)) }
+    {
+        let number = self.context.next();
+        let Some(next) = number.checked_add(1) else {
+            drop(new_cap);
+            return Err(AllocError);
+        };
+        self.context.set_next(next);
+        match new_cap {
+            NewCap::Object(object) => self.join_object(number, object),
+            NewCap::Promise => self.promises.make(number, self.context.waker().object),
+        }
+    }
+
+    /// One object more is there, and is to be polled.
+    fn join_object(&mut self, number: u32, object: O) -> Result<(), AllocError>
+        ensures { OnOk result (objects_of self.new ≡ awoken number (placing number (newborn object) (objects_of self.old))) }
+    {
+        self.members
+            .put(number, ObjectEntry::new(self.alloc, object))?;
+        self.awake.insert(number)
     }
 }
 
-/// Whether a connection ended.
-fn has_ended(connection: &Connection) -> bool
-    ensures { IsTrue result ↔ IsSome connection.now.fault }
+/// The imports that an outcome names, each once.
+fn given_imports(alloc: Global, outcome: &Outcome) -> Result<Ids, AllocError>
+    ensures { IfOk result (λ ids. ids ≡ named_imports (caps_of outcome.now)) }
 {
-    connection.fault().is_some()
-}
-
-/// Answers a call with its outcome, or with an exception where the vat refuses that. Nothing is answered once the
-/// connection ended.
-fn answer(
-    alloc: Global,
-    connection: &mut Connection,
-    origin: Origin,
-    outcome: Outcome,
-) -> Result<(), AllocError>
-    ensures done { OnOk result (Answers connection.old origin outcome connection.new) }
-    ensures lives { Lives connection.old connection.new }
-{
-    let fault = match connection.answer(origin, outcome) {
-        Ok(()) => return Ok(()),
-        Err(fault) => fault,
-    };
-    match fault {
-        ConnectionFault::OutOfMemory => Err(AllocError),
-        ConnectionFault::Refused(_) => answer_badly(alloc, connection, origin),
-        ConnectionFault::Closed => Ok(()),
-        ConnectionFault::Unreadable { .. } => Ok(()),
+    match outcome {
+        Outcome::Results { caps, .. } => named_imports(alloc, caps),
+        Outcome::Failed(_) | Outcome::Canceled => Ok(Ids::new(Vec::new(alloc))),
     }
 }
 
-/// Answers a call with the exception in place of an outcome that the vat refused.
-fn answer_badly(
-    alloc: Global,
-    connection: &mut Connection,
-    origin: Origin,
-) -> Result<(), AllocError>
-    ensures done { OnOk result (IsDone connection.old (events.Answer origin bad_outcome) connection.new) }
-    ensures lives { Lives connection.old connection.new }
+/// The earlier of two times.
+pub(crate) fn earlier(first: Option<u64>, time: u64) -> u64
+    ensures { result ≡ earlier first time }
 {
-    let outcome = bad_outcome(alloc)?;
-    let fault = match connection.answer(origin, outcome) {
-        Ok(()) => return Ok(()),
-        Err(fault) => fault,
-    };
-    match fault {
-        ConnectionFault::OutOfMemory => Err(AllocError),
-        _ => Ok(()),
+    match first {
+        Some(first) => first.min(time),
+        None => time,
     }
 }

@@ -89,19 +89,19 @@ module _ (S : List (List ℕ)) (s n : ℕ) (read : ℕ → ℕ → Read Node)
       first (λ (x : Node × ℕ) g. row_faulted k (p + 1) x.1 e reach' (omega arith) g) (bind_err (read p budget) _ e h)
     where
       later : ((x : Node × ℕ) → row_by read k (p + 1) x.1 ≡ Err e → FaultBy S (DeepRow S s k (p + 1) n) (DearRow S s k (p + 1) x.1) e) → (x : Node × ℕ) → Reads S s n p budget x → (row_by read k (p + 1) x.1 ≡ Err e) ⊎ ((y : Nodes × ℕ) × (row_by read k (p + 1) x.1 ≡ Ok y) × (◌≡◌ {A = Read Nodes} (Ok (node x.0 y.0, y.1)) (Err e))) → FaultBy S (DeepRow S s (suc k) p n) (DearRow S s (suc k) p budget) e
-      later again x r (inr g) = cc
-      later again x r (inl g) =
+      later reborrow x r (inr g) = cc
+      later reborrow x r (inl g) =
           let one = denotes_prunes x.0 S s p r.denoted in
           FaultBy-map S e (λ (t : DeepRow S s k (p + 1) n). (node x.0 t.0, ap suc t.1, (one, t.2), omega (arith, t.3))) (λ (t : DearRow S s k (p + 1) x.1). (node x.0 t.0, ap suc t.1, (one, t.2), omega (arith, t.3, r.costs)))
-          (again x g)
+          (reborrow x g)
 
       first : ((x : Node × ℕ) → row_by read k (p + 1) x.1 ≡ Err e → FaultBy S (DeepRow S s k (p + 1) n) (DearRow S s k (p + 1) x.1) e) → (read p budget ≡ Err e) ⊎ ((x : Node × ℕ) × (read p budget ≡ Ok x) × (◌>>=◌ {B = Nodes × ℕ} (row_by read k (p + 1) x.1) (λ ts. Ok (node x.0 ts.0, ts.1)) ≡ Err e)) → FaultBy S (DeepRow S s (suc k) p n) (DearRow S s (suc k) p budget) e
-      first again (inl f) =
+      first reborrow (inl f) =
           let here = subst (IsReachable S s) (let z : p + 0 ≡ p = omega arith in z) (reach 0 (omega arith)) in
           let rest = nulls_prune S s k (p + 1) (omega arith) in
           FaultBy-map S e (λ (t : Deep S s p n). (node t.0 (nulls k), ap suc (count-nulls k), (t.1, rest), omega (arith, t.2))) (λ (t : Dear S s p budget). (node t.0 (nulls k), ap suc (count-nulls k), (t.1, rest), omega (arith, t.2)))
           (fails p budget e here (omega arith) f)
-      first again (inr f) = later again f.0 (reads p budget f.0 (omega arith) f.1) (bind_err (row_by read k (p + 1) f.0.1) _ e f.2)
+      first reborrow (inr f) = later reborrow f.0 (reads p budget f.0 (omega arith) f.1) (bind_err (row_by read k (p + 1) f.0.1) _ e f.2)
 
 module _ (S : List (List ℕ)) (s n : ℕ) (kids : ℕ → ℕ → ℕ → Read Nodes) (rows : RowsRead S s n kids) (fails : RowFaulted S s n kids) (d c : ℕ) where
   bodies_faulted : (k q budget : ℕ) (e : TreeFault) → ((j i : ℕ) → j < k → i < c → IsReachable S s (q + j * (d + c) + d + i)) → q + k * (d + c) ≤ length (segment S s) → bodies_by kids S s d c k q budget ≡ Err e
@@ -116,25 +116,25 @@ module _ (S : List (List ℕ)) (s n : ℕ) (kids : ℕ → ℕ → ℕ → Read 
       later : ((x : Nodes × ℕ) → bodies_by kids S s d c k (q + d + c) x.1 ≡ Err e → FaultBy S (DeepBodies S s k (q + d + c) d c n) (DearBodies S s k (q + d + c) d c x.1) e)
           → (x : Nodes × ℕ) → ReadsRow S s n c (q + d) budget x → (bodies_by kids S s d c k (q + d + c) x.1 ≡ Err e) ⊎ ((y : Bodies × ℕ) × (bodies_by kids S s d c k (q + d + c) x.1 ≡ Ok y) × (◌≡◌ {A = Read Bodies} (Ok (body (words_at S s q d) x.0 y.0, y.1)) (Err e)))
           → FaultBy S (DeepBodies S s (suc k) q d c n) (DearBodies S s (suc k) q d c budget) e
-      later again x r (inr g) = cc
-      later again x r (inl g) =
+      later reborrow x r (inr g) = cc
+      later reborrow x r (inl g) =
           let wide = width S s d q (omega arith) in
           let own = each_prunes x.0 S s (q + d) r.denoted in
           FaultBy-map S e (λ (t : DeepBodies S s k (q + d + c) d c n). (body (words_at S s q d) x.0 t.0, ap suc t.1, (wide, r.counts, refl, own, t.2), omega (arith, t.3)))
           (λ (t : DearBodies S s k (q + d + c) d c x.1). (body (words_at S s q d) x.0 t.0, ap suc t.1, (wide, r.counts, refl, own, t.2), omega (arith, t.3, r.costs)))
-          (again x g)
+          (reborrow x g)
 
       first : q + d + c + k * (d + c) ≤ length (segment S s) → ((x : Nodes × ℕ) → bodies_by kids S s d c k (q + d + c) x.1 ≡ Err e → FaultBy S (DeepBodies S s k (q + d + c) d c n) (DearBodies S s k (q + d + c) d c x.1) e)
           → (kids c (q + d) budget ≡ Err e) ⊎ ((x : Nodes × ℕ) × (kids c (q + d) budget ≡ Ok x) × (◌>>=◌ {B = Bodies × ℕ} (bodies_by kids S s d c k (q + d + c) x.1) (λ bs. Ok (body (words_at S s q d) x.0 bs.0, bs.1)) ≡ Err e))
           → FaultBy S (DeepBodies S s (suc k) q d c n) (DearBodies S s (suc k) q d c budget) e
-      first inside again (inl f) =
+      first inside reborrow (inl f) =
           let wide = width S s d q (omega arith) in
           let row : RowReached S s c (q + d) = λ i within. subst (IsReachable S s) (let z : q + 0 * (d + c) + d + i ≡ q + d + i = omega arith in z) (reach 0 i (omega arith) within) in
           let rest = blank_bodies_prune S s d c k (q + d + c) inside in
           FaultBy-map S e (λ (t : DeepRow S s c (q + d) n). (body (words_at S s q d) t.0 (blank_bodies S s d c k (q + d + c)), ap suc (number_of-blank S s d c k (q + d + c)), (wide, t.1, refl, t.2, rest), omega (arith, t.3)))
           (λ (t : DearRow S s c (q + d) budget). (body (words_at S s q d) t.0 (blank_bodies S s d c k (q + d + c)), ap suc (number_of-blank S s d c k (q + d + c)), (wide, t.1, refl, t.2, rest), omega (arith, t.3)))
           (fails c (q + d) budget e row (omega arith) f)
-      first inside again (inr f) = later again f.0 (rows c (q + d) budget f.0 (omega arith) f.1) (bind_err (bodies_by kids S s d c k (q + d + c) f.0.1) _ e f.2)
+      first inside reborrow (inr f) = later reborrow f.0 (rows c (q + d) budget f.0 (omega arith) f.1) (bind_err (bodies_by kids S s d c k (q + d + c) f.0.1) _ e f.2)
 
 -- a pruned body that is too deep below, or too dear
 DeepBody : List (List ℕ) → ℕ → ℕ → Form → ℕ → Type 0

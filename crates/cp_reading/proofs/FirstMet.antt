@@ -83,12 +83,12 @@ module _ (S : List (List ℕ)) (s n : ℕ) (read : ℕ → ℕ → Read Node)
 
       rest : ((x : Node × ℕ) → row_by read k (p + 1) x.1 ≡ Err e → RowFirst S e s n k (p + 1) x.1) → (x : Node × ℕ) → Reads S s n p budget x
           → (row_by read k (p + 1) x.1 ≡ Err e) ⊎ ((y : Nodes × ℕ) × (row_by read k (p + 1) x.1 ≡ Ok y) × (◌≡◌ {A = Read Nodes} (Ok (node x.0 y.0, y.1)) (Err e))) → RowFirst S e s n (suc k) p budget
-      rest again x r (inr g) = cc
-      rest again x r (inl g) = later x r (again x g)
+      rest reborrow x r (inr g) = cc
+      rest reborrow x r (inl g) = later x r (reborrow x g)
 
       first : ((x : Node × ℕ) → row_by read k (p + 1) x.1 ≡ Err e → RowFirst S e s n k (p + 1) x.1)
           → (read p budget ≡ Err e) ⊎ ((x : Node × ℕ) × (read p budget ≡ Ok x) × (◌>>=◌ {B = Nodes × ℕ} (row_by read k (p + 1) x.1) (λ ts. Ok (node x.0 ts.0, ts.1)) ≡ Err e)) → RowFirst S e s n (suc k) p budget
-      first again (inl f) = record {
+      first reborrow (inl f) = record {
         before = no_nodes;
         denoted = tt;
         more = omega arith;
@@ -96,7 +96,7 @@ module _ (S : List (List ℕ)) (s n : ℕ) (read : ℕ → ℕ → Read Node)
         costs = omega arith;
         first = moved S e s n _ _ _ _ (omega arith) (omega arith) (fails p budget e (omega arith) f);
       }
-      first again (inr f) = rest again f.0 (reads p budget f.0 (omega arith) f.1) (bind_err (row_by read k (p + 1) f.0.1) _ e f.2)
+      first reborrow (inr f) = rest reborrow f.0 (reads p budget f.0 (omega arith) f.1) (bind_err (row_by read k (p + 1) f.0.1) _ e f.2)
 
 module _ (S : List (List ℕ)) (s n : ℕ) (kids : ℕ → ℕ → ℕ → Read Nodes) (rows : RowsRead S s n kids) (fails : RowMet S s n kids) (d c : ℕ) where
   bodies_met : (k q budget : ℕ) (e : TreeFault) → q + k * (d + c) ≤ length (segment S s) → bodies_by kids S s d c k q budget ≡ Err e → BodiesFirst S e s n d c k q budget
@@ -126,12 +126,12 @@ module _ (S : List (List ℕ)) (s n : ℕ) (kids : ℕ → ℕ → ℕ → Read 
       rest : q + d ≤ length (segment S s) → ((x : Nodes × ℕ) → bodies_by kids S s d c k (q + d + c) x.1 ≡ Err e → BodiesFirst S e s n d c k (q + d + c) x.1) → (x : Nodes × ℕ) → ReadsRow S s n c (q + d) budget x
           → (bodies_by kids S s d c k (q + d + c) x.1 ≡ Err e) ⊎ ((y : Bodies × ℕ) × (bodies_by kids S s d c k (q + d + c) x.1 ≡ Ok y) × (◌≡◌ {A = Read Bodies} (Ok (body (words_at S s q d) x.0 y.0, y.1)) (Err e)))
           → BodiesFirst S e s n d c (suc k) q budget
-      rest room again x r (inr g) = cc
-      rest room again x r (inl g) = later room x r (again x g)
+      rest room reborrow x r (inr g) = cc
+      rest room reborrow x r (inl g) = later room x r (reborrow x g)
 
       first : q + d + c + k * (d + c) ≤ length (segment S s) → ((x : Nodes × ℕ) → bodies_by kids S s d c k (q + d + c) x.1 ≡ Err e → BodiesFirst S e s n d c k (q + d + c) x.1)
           → (kids c (q + d) budget ≡ Err e) ⊎ ((x : Nodes × ℕ) × (kids c (q + d) budget ≡ Ok x) × (◌>>=◌ {B = Bodies × ℕ} (bodies_by kids S s d c k (q + d + c) x.1) (λ bs. Ok (body (words_at S s q d) x.0 bs.0, bs.1)) ≡ Err e)) → BodiesFirst S e s n d c (suc k) q budget
-      first inside again (inl f) =
+      first inside reborrow (inl f) =
           let row = fails c (q + d) budget e (omega arith) f in
           let place : q + d ≡ q + 0 * (d + c) + d = omega arith in
           record {
@@ -146,7 +146,7 @@ module _ (S : List (List ℕ)) (s n : ℕ) (kids : ℕ → ℕ → ℕ → Read 
             costs = omega (arith, row.costs);
             first = moved S e s n _ _ _ _ (ap (λ z. z + count row.before) place) (omega arith) row.first;
           }
-      first inside again (inr f) = rest (omega arith) again f.0 (rows c (q + d) budget f.0 (omega arith) f.1) (bind_err (bodies_by kids S s d c k (q + d + c) f.0.1) _ e f.2)
+      first inside reborrow (inr f) = rest (omega arith) reborrow f.0 (rows c (q + d) budget f.0 (omega arith) f.1) (bind_err (bodies_by kids S s d c k (q + d + c) f.0.1) _ e f.2)
 
 module _ (S : List (List ℕ)) (s q m budget : ℕ) (kids : Kids) (rows : RowsRead S s m (kids s)) (fails : RowMet S s m (kids s)) where
   -- a row as the pointers of the one element of a body

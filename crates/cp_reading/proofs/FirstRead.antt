@@ -273,8 +273,8 @@ first_read S e s p n budget (below form s' start elements ptrs has deep before p
     let at : Place = record { segment = s; word = p } in
     let into = charge_taken at n (price form) budget deep (omega (arith, paid)) in
     let spent : budget - (price form + (body_cost elements + total_cost ptrs)) ≡ budget - price form - (body_cost elements + total_cost ptrs) = omega arith in
-    let again = first_read S e s' (pointers_at (parts_of form) start (number_of elements) + count ptrs) (n - 1) (budget - (price form + (body_cost elements + total_cost ptrs))) later in
-    let stops = filled_stops S e (n - 1) form s' start (budget - price form) elements ptrs before (omega (arith, paid)) (rw spent at again) in
+    let reborrow = first_read S e s' (pointers_at (parts_of form) start (number_of elements) + count ptrs) (n - 1) (budget - (price form + (body_cost elements + total_cost ptrs))) later in
+    let stops = filled_stops S e (n - 1) form s' start (budget - price form) elements ptrs before (omega (arith, paid)) (rw spent at reborrow) in
     ap (pointer_by at (kids_at n S) S budget) h.says
     ∙ target_found at (kids_at n S) S budget h.pointer h.target h.has_target
     ∙ ap (λ r. r >>= body_by at (kids_at n S) S budget) h.area

@@ -51,8 +51,8 @@ body_again S at (suc m) budget a x deep dear w e =
     let same : rows_at m S ≡ into.0.0 = some_is paid.0 in
     let read = subst (λ (k : Kids). filled k S a.form a.segment a.start into.0.1 ≡ Ok x) (sym same) into.2 in
     let b = within_sound m S a.segment a.start into.0.1 a.form x w.1 w.2 read in
-    let again = fills_read x.0 most_nesting S a.segment a.start most_traversal b.fills (omega (arith, b.nests)) (omega (arith, b.costs, paid.1)) in
-    subst (λ f. filled (rows_at most_nesting S) S f a.segment a.start most_traversal ≡ Ok (x.0, most_traversal - inner_cost x.0)) b.form again
+    let reborrow = fills_read x.0 most_nesting S a.segment a.start most_traversal b.fills (omega (arith, b.nests)) (omega (arith, b.costs, paid.1)) in
+    subst (λ f. filled (rows_at most_nesting S) S f a.segment a.start most_traversal ≡ Ok (x.0, most_traversal - inner_cost x.0)) b.form reborrow
 
 -- the root's body is read within the greatest limits too
 pub root_again : (n b : ℕ) (S : List (List ℕ)) (a : Area) (r : IsRootArea n b S a) → n ≤ 256 → b ≤ 67108864 → area_read S a ≡ Ok (r.tree, most_traversal - inner_cost r.tree)
@@ -219,9 +219,9 @@ read-node r t budget e = rw e refl
 
 -- The body that a pointer was found to have, of a pointer that was read: it is a view's part, and its tree is the pointer's.
 module _ (S : List (List ℕ)) (at : Place) (r : Pointer) (ws : List ℕ) (a : Area) where
-  found-again : pointer_read S at r ≡ area_here at (segment S at.segment) r >>= body_by at (kids_at most_nesting S) S most_traversal → is_ok (pointer_read S at r) ≡ true → ws ≡ segment S at.segment → area_here at ws r ≡ Ok a → IsWithin S a
+  found-reborrow : pointer_read S at r ≡ area_here at (segment S at.segment) r >>= body_by at (kids_at most_nesting S) S most_traversal → is_ok (pointer_read S at r) ≡ true → ws ≡ segment S at.segment → area_here at ws r ≡ Ok a → IsWithin S a
       → (x : Node × ℕ) × (pointer_read S at r ≡ Ok x) × (budget : ℕ) × (area_read S a ≡ Ok (x.0, budget))
-  found-again leads checked same is within =
+  found-reborrow leads checked same is within =
       let k = ok_of (pointer_read S at r) checked in
       let there : area_here at (segment S at.segment) r ≡ Ok a = subst (λ list. area_here at list r ≡ Ok a) same is in
       let led : body_by at (kids_at most_nesting S) S most_traversal a ≡ Ok k.0 = ap (λ q. q >>= body_by at (kids_at most_nesting S) S most_traversal) (sym there) ∙ sym leads ∙ k.1 in
@@ -233,14 +233,14 @@ module _ (S : List (List ℕ)) (at : Place) (r : Pointer) (ws : List ℕ) (a : A
   pub found-node : pointer_read S at r ≡ area_here at (segment S at.segment) r >>= body_by at (kids_at most_nesting S) S most_traversal → is_ok (pointer_read S at r) ≡ true → ws ≡ segment S at.segment → area_here at ws r ≡ Ok a
       → a.segment ≡ at.segment → at.segment < length S → a.start + body_words a.form ≤ length ws → IsWhole a.form → node_in (area_read S a) ≡ node_in (pointer_read S at r)
   found-node leads checked same is here exists room whole =
-      let k = found-again leads checked same is (found-within same here exists room whole) in
+      let k = found-reborrow leads checked same is (found-within same here exists room whole) in
       ap node_in k.3 ∙ sym (ap node_in k.1)
 
   pub found-part : pointer_read S at r ≡ area_here at (segment S at.segment) r >>= body_by at (kids_at most_nesting S) S most_traversal → is_ok (pointer_read S at r) ≡ true → ws ≡ segment S at.segment → area_here at ws r ≡ Ok a
       → a.segment ≡ at.segment → at.segment < length S → a.start + body_words a.form ≤ length ws → IsWhole a.form → a.start + body_words a.form < 2 ^ 63 → IsViewed S (viewed.Body a)
   found-part leads checked same is here exists room whole small =
       let within = found-within same here exists room whole in
-      (within, small, ok_is_ok _ _ (found-again leads checked same is within).3)
+      (within, small, ok_is_ok _ _ (found-reborrow leads checked same is within).3)
 
 -- an element lies among the elements
 pub element-inside : (q d n k i : ℕ) → i < k → q + i * (d + n) + (d + n) ≤ q + k * (d + n)

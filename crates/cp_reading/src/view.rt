@@ -131,7 +131,7 @@ impl<'a> View<'a> {
     /// The same view once more.
     /// It stands in place of `Copy`: a type that contracts see as a value gives no fields back.
     #[inline(always)]
-    pub fn again(&self) -> View<'a>
+    pub fn reborrow(&self) -> View<'a>
         ensures { result ≡ self.now }
     {
         View {

@@ -20,8 +20,8 @@ use Rattle.cp_stream.specs.declared.fault.Refusal.TheVariants as refusals
 use Rattle.cp_relay.specs.declared.output.Output.{Output}
 use Rattle.cp_relay.specs.declared.output.Output.TheVariants as outputs
 use Rattle.cp_relay.specs.declared.fault.RelayFault.{RelayFault}
-use Rattle.cp_relay.specs.declared.fault.Why.{Why}
-use Rattle.cp_relay.specs.declared.fault.Why.TheVariants as whys
+use Rattle.cp_relay.specs.declared.fault.RelayCause.{RelayCause}
+use Rattle.cp_relay.specs.declared.fault.RelayCause.TheVariants as whys
 use Rattle.cp_relay.specs.declared.passage.Passage.{Passage}
 use Rattle.cp_relay.specs.Relay.{Relay, StandsFor, IsKept, IsSentFor, Passes, Lets, LetsThrough, IsSameStream, IsUnwritten, StopsFor, GivesNext, GivesNone, Stops}
 use Rattle.cp_relay.specs.Passage.{seen, IsOpen, kept_with, IsUnwrittenAnew, StopsAtFrame, Refuses, IsMemoryFor}
@@ -277,12 +277,12 @@ module _ {V : Type 0} (says : V → Message → Bool → V → Type 0) (p : Pass
       ]
 
   -- where memory runs out nothing is said
-  pub refuses_memory : (piece : List ℕ) (v w : V) (why : Why) → IsMemoryFor why → Refuses says (seen p None) piece v w why
+  pub refuses_memory : (piece : List ℕ) (v w : V) (why : RelayCause) → IsMemoryFor why → Refuses says (seen p None) piece v w why
   refuses_memory piece v w (whys.Refused refusal) m = λ b h. inl m
   refuses_memory piece v w whys.Forbidden m = absurd m
 
   -- a frame that ends in the piece doesn't go out
-  pub refuses_message : (reader : frames.Reader) (piece back : List ℕ) (taken : ℕ) (S : List (List ℕ)) (v w : V) (why : Why) → frames.GivesNext p.frames piece taken S reader back → StopsAtFrame says p S v w why → Refuses says (seen p None) piece v w why
+  pub refuses_message : (reader : frames.Reader) (piece back : List ℕ) (taken : ℕ) (S : List (List ℕ)) (v w : V) (why : RelayCause) → frames.GivesNext p.frames piece taken S reader back → StopsAtFrame says p S v w why → Refuses says (seen p None) piece v w why
   refuses_message reader piece back taken S v w whys.Forbidden g h = λ b k.
       let whole : (b ++ g.front) ++ back ≡ b ++ piece = append_assoc b g.front back ∙ ap (λ (x : List ℕ). b ++ x) (sym g.whole) in
       let held : Holds p.frames.limits S h.0 = subst (λ (l : Bounds). Holds l S h.0) (sym o.same_limits) h.1 in (
@@ -304,14 +304,14 @@ module _ {V : Type 0} (says : V → Message → Bool → V → Type 0) (p : Pass
       inr (same, inr (unwritten p.output p.frames.mode p.frames.limits (b ++ piece) (length (b ++ g.front)) m refusal front unmade'))
 
 -- a relay stops at a piece of which nothing goes through
-pub stops_here : {V : Type 0} (says : V → Message → Bool → V → Type 0) (p : Passage) (before : Option RelayFault) (new : Relay) (piece : List ℕ) (v w : V) (out : List ℕ) (fault : RelayFault) (why : Why)
+pub stops_here : {V : Type 0} (says : V → Message → Bool → V → Type 0) (p : Passage) (before : Option RelayFault) (new : Relay) (piece : List ℕ) (v w : V) (out : List ℕ) (fault : RelayFault) (why : RelayCause)
     → before ≡ None → Refuses says (seen p None) piece v w why → new.fault ≡ Some fault → fault.at ≡ new.at → new.at ≡ p.at → fault.why ≡ why → Stops says (seen p before) piece new v w out out fault
 stops_here says p before new piece v w out fault why none refuses stopped place at same = record {
   went_on = none;
   stopped = record { says_so = stopped; place = place };
   gives = λ b h.
       let stands = subst (λ (f : Option RelayFault). StandsFor (seen p f) b) none h in
-      let stops = subst (λ (y : Why). StopsFor says p.output p.frames.mode p.frames.limits (b ++ piece) v w y) (sym same) (refuses b stands) in
+      let stops = subst (λ (y : RelayCause). StopsFor says p.output p.frames.mode p.frames.limits (b ++ piece) v w y) (sym same) (refuses b stands) in
       (b ++ piece, v, lets_none says (seen p before) new piece v out b h.counted at, stops);
 }
 

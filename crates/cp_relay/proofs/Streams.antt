@@ -13,7 +13,7 @@ use Rattle.cp_stream.proofs.Runs.{is_one_stream}
 use Rattle.cp_relay.specs.declared.output.Output.{Output}
 use Rattle.cp_relay.specs.declared.output.Output.TheVariants as outputs
 use Rattle.cp_relay.specs.declared.fault.RelayFault.{RelayFault}
-use Rattle.cp_relay.specs.declared.fault.Why.{Why}
+use Rattle.cp_relay.specs.declared.fault.RelayCause.{RelayCause}
 use Rattle.cp_relay.specs.Relay.{Relay, StandsFor, Passes, LetsThrough, IsSameStream, StopsFor, GivesNext, GivesNone, Gives, Stops, Repeats}
 use Rattle.cp_relay.specs.Runs.{Fed, FeedsStream, FeedsSame}
 use Rattle.cp_relay.proofs.Passing.{lets_both, lets_none}
@@ -88,7 +88,7 @@ module _ {V : Type 0} (says : V → Message → Bool → V → Type 0) where
         );
   }
     where
-      stops_as : (old mid : Relay) (rest : List ℕ) (v w : V) (why : Why) → IsSameStream old mid → StopsFor says mid.output mid.frames.mode mid.frames.limits rest v w why → StopsFor says old.output old.frames.mode old.frames.limits rest v w why
+      stops_as : (old mid : Relay) (rest : List ℕ) (v w : V) (why : RelayCause) → IsSameStream old mid → StopsFor says mid.output mid.frames.mode mid.frames.limits rest v w why → StopsFor says old.output old.frames.mode old.frames.limits rest v w why
       stops_as old mid rest v w why same h =
           let output = subst (λ (o : Output). StopsFor says o mid.frames.mode mid.frames.limits rest v w why) same.output h in
           let mode = subst (λ (m : Mode). StopsFor says old.output m mid.frames.limits rest v w why) same.mode output in

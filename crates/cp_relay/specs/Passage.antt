@@ -11,8 +11,8 @@ use Rattle.cp_stream.specs.declared.fault.Refusal.{Refusal}
 use Rattle.cp_relay.specs.declared.output.Output.{Output}
 use Rattle.cp_relay.specs.declared.output.Output.TheVariants as outputs
 use Rattle.cp_relay.specs.declared.fault.RelayFault.{RelayFault}
-use Rattle.cp_relay.specs.declared.fault.Why.{Why}
-use Rattle.cp_relay.specs.declared.fault.Why.TheVariants as whys
+use Rattle.cp_relay.specs.declared.fault.RelayCause.{RelayCause}
+use Rattle.cp_relay.specs.declared.fault.RelayCause.TheVariants as whys
 use Rattle.cp_relay.specs.declared.passage.Passage.{Passage}
 use Rattle.cp_relay.specs.Relay.{Relay, most_spare, StandsFor, IsSentFor, StopsFor, GivesNext, GivesNone}
 
@@ -36,7 +36,7 @@ abbrev pub IsSmall : Vec ℕ → Type 0
 IsSmall buffer = buffer.items ≡ [] → vec_capacity buffer ≤ most_spare
 
 -- memory ran out
-abbrev pub IsMemoryFor : Why → Type 0
+abbrev pub IsMemoryFor : RelayCause → Type 0
 IsMemoryFor (whys.Refused refusal) = IsMemory refusal
 IsMemoryFor whys.Forbidden = ⊥
 
@@ -79,13 +79,13 @@ pub record PutsFrame {V : Type 0} (says : V → Message → Bool → V → Type 
   pub keeps : OnlyKeeps old [] new
 
 -- why nothing goes out for a frame of these segments
-abbrev pub StopsAtFrame : {V : Type 0} → (V → Message → Bool → V → Type 0) → Passage → List (List ℕ) → V → V → Why → Type 0
+abbrev pub StopsAtFrame : {V : Type 0} → (V → Message → Bool → V → Type 0) → Passage → List (List ℕ) → V → V → RelayCause → Type 0
 StopsAtFrame says p S before after (whys.Refused refusal) =
     IsMemory refusal ⊎ ((after ≡ before) × (HoldsNone p.limits S refusal ⊎ ((m : Message) × Holds p.limits S m × IsUnwrittenAnew p.output p.limits m refusal)))
 StopsAtFrame says p S before after whys.Forbidden = (m : Message) × Holds p.limits S m × says before m false after
 
 -- nothing of the piece goes through
-abbrev pub Refuses : {V : Type 0} → (V → Message → Bool → V → Type 0) → Relay → List ℕ → V → V → Why → Type 0
+abbrev pub Refuses : {V : Type 0} → (V → Message → Bool → V → Type 0) → Relay → List ℕ → V → V → RelayCause → Type 0
 Refuses says r piece before after why = (b : List ℕ) → StandsFor r b → StopsFor says r.output r.frames.mode r.frames.limits (b ++ piece) before after why
 
 -- the piece was read up to the end of a frame, whose message went out

@@ -13,8 +13,8 @@ use Rattle.cp_stream.specs.declared.fault.Refusal.TheVariants as refusals
 use Rattle.cp_relay.specs.declared.output.Output.{Output}
 use Rattle.cp_relay.specs.declared.output.Output.TheVariants as outputs
 use Rattle.cp_relay.specs.declared.fault.RelayFault.{RelayFault}
-use Rattle.cp_relay.specs.declared.fault.Why.{Why}
-use Rattle.cp_relay.specs.declared.fault.Why.TheVariants as whys
+use Rattle.cp_relay.specs.declared.fault.RelayCause.{RelayCause}
+use Rattle.cp_relay.specs.declared.fault.RelayCause.TheVariants as whys
 
 -- A relay as its callers see it: what goes out for a message, what reads the frames, the bytes of the open frame that are kept to go out, how many their
 -- buffer has room for, why nothing more is let through, and how many bytes the frames took that were.
@@ -86,7 +86,7 @@ IsUnwritten outputs.AsRead mode limits rest refusal = ⊥
 IsUnwritten (outputs.Anew to) mode limits rest refusal = (n : ℕ) × (m : Message) × Front mode limits rest n m × IsUnwrittenFor limits limits.frame_words 1 m refusal
 
 -- why no more of a rest goes through: memory ran out; its bytes are refused, or its first message can't be written anew, and the visitor wasn't asked; or the visitor forbids its first message
-abbrev pub StopsFor : {V : Type 0} → (V → Message → Bool → V → Type 0) → Output → Mode → Bounds → List ℕ → V → V → Why → Type 0
+abbrev pub StopsFor : {V : Type 0} → (V → Message → Bool → V → Type 0) → Output → Mode → Bounds → List ℕ → V → V → RelayCause → Type 0
 StopsFor says output mode limits rest before after (whys.Refused refusal) =
     IsMemory refusal ⊎ ((after ≡ before) × (HasFault mode limits rest refusal ⊎ IsUnwritten output mode limits rest refusal))
 StopsFor says output mode limits rest before after whys.Forbidden = (n : ℕ) × (m : Message) × Front mode limits rest n m × says before m false after

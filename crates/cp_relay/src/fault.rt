@@ -3,7 +3,7 @@
 ghost use Rattle.std.specs.Prelude.{◌≡◌};
 ghost use Rattle.cp_frame.specs.declared.fault.FrameFault.TheVariants as frames;
 ghost use Rattle.cp_stream.specs.declared.fault.Refusal.TheVariants.{Frame};
-ghost use Rattle.cp_relay.specs.declared.fault.Why.TheVariants.{Refused};
+ghost use Rattle.cp_relay.specs.declared.fault.RelayCause.TheVariants.{Refused};
 
 use cp_frame::FrameFault;
 use cp_stream::Refusal;
@@ -13,7 +13,7 @@ use std::fmt;
 
 /// Why a message isn't let through.
 #[derive(Clone, Copy, PartialEq, Eq, Debug)]
-pub enum Why {
+pub enum RelayCause {
     /// Its bytes are refused, or it can't be written anew.
     Refused(Refusal),
     /// The visitor said no.
@@ -25,19 +25,19 @@ pub enum Why {
 #[derive(Clone, Copy, PartialEq, Eq, Debug)]
 pub struct RelayFault {
     pub at: u64,
-    pub why: Why,
+    pub why: RelayCause,
 }
 
-impl fmt::Display for Why {
+impl fmt::Display for RelayCause {
     fn fmt<W: fmt::Write>(&self, f: &mut fmt::Formatter<W>) -> fmt::Result {
         match self {
-            Why::Refused(refusal) => refusal.fmt(f),
-            Why::Forbidden => f.write_str("forbidden"),
+            RelayCause::Refused(refusal) => refusal.fmt(f),
+            RelayCause::Forbidden => f.write_str("forbidden"),
         }
     }
 }
 
-impl Error for Why {}
+impl Error for RelayCause {}
 
 impl fmt::Display for RelayFault {
     fn fmt<W: fmt::Write>(&self, f: &mut fmt::Formatter<W>) -> fmt::Result {
@@ -48,26 +48,26 @@ impl fmt::Display for RelayFault {
 
 impl Error for RelayFault {}
 
-impl From<Refusal> for Why {
+impl From<Refusal> for RelayCause {
     ghost from_gives = { λ refusal why. why ≡ Refused refusal };
 
-    fn from(refusal: Refusal) -> Why {
-        Why::Refused(refusal)
+    fn from(refusal: Refusal) -> RelayCause {
+        RelayCause::Refused(refusal)
     }
 }
 
-impl From<FrameFault> for Why {
+impl From<FrameFault> for RelayCause {
     ghost from_gives = { λ fault why. why ≡ Refused (Frame fault) };
 
-    fn from(fault: FrameFault) -> Why {
-        Why::Refused(Refusal::Frame(fault))
+    fn from(fault: FrameFault) -> RelayCause {
+        RelayCause::Refused(Refusal::Frame(fault))
     }
 }
 
-impl From<AllocError> for Why {
+impl From<AllocError> for RelayCause {
     ghost from_gives = { λ _ why. why ≡ Refused (Frame frames.OutOfMemory) };
 
-    fn from(_: AllocError) -> Why {
-        Why::Refused(Refusal::Frame(FrameFault::OutOfMemory))
+    fn from(_: AllocError) -> RelayCause {
+        RelayCause::Refused(Refusal::Frame(FrameFault::OutOfMemory))
     }
 }

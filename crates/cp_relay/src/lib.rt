@@ -16,7 +16,7 @@ mod ruling;
 mod state;
 mod visitor;
 
-pub use fault::{RelayFault, Why};
+pub use fault::{RelayCause, RelayFault};
 pub use filter::{Filter, FilterFault};
 pub use guard::{Guard, JudgedCall};
 pub use laws::{answered_once, any_cut, only_allowed};
@@ -24,4 +24,4 @@ pub use output::Output;
 pub use relay::Relay;
 pub use rules::{CallLimits, MethodId, MethodName, Rules};
 pub use ruling::{Breach, Cause, Ruling};
-pub use visitor::{Everything, Visitor};
+pub use visitor::{AllowAll, Visitor};

@@ -4,7 +4,7 @@ ghost use Rattle.std.specs.Prelude.{◌≡◌, ◌++◌, [], IfOk, IfErr, IfNone
 ghost use Rattle.cp_rpc.specs.Viewed.{viewed};
 ghost use Rattle.cp_relay.specs.Passage.{seen, kept_with, IsOpen, IsSmall, IsMemoryFor, OnlyKeeps, Refuses, PassesNext, PassesNone, PutsFrame, StopsAtFrame, Makes, IsUnmade};
 
-use crate::fault::{RelayFault, Why};
+use crate::fault::{RelayCause, RelayFault};
 use crate::output::Output;
 use crate::visitor::Visitor;
 use cp_frame::FrameReader;
@@ -43,7 +43,7 @@ impl Passage {
         visitor: &mut V,
         piece: &'a [u8],
         out: &mut Vec<u8>,
-    ) -> Result<Option<&'a [u8]>, Why>
+    ) -> Result<Option<&'a [u8]>, RelayCause>
         requires open { IsOpen self.old }
         requires small { IsSmall self.old.kept }
         ensures open { OnOk result (IsOpen self.new) }
@@ -66,7 +66,7 @@ impl Passage {
     }
 
     /// Forgets what has come, and says why nothing more goes through.
-    pub fn stop(&mut self, why: Why) -> RelayFault
+    pub fn stop(&mut self, why: RelayCause) -> RelayFault
         ensures place { result.at ≡ self.new.at }
         ensures why { result.why ≡ why }
         ensures none { self.new.kept.items ≡ [] }
@@ -78,7 +78,7 @@ impl Passage {
     }
 
     /// Keeps a piece in which no frame ends, where it is to go out as it was read.
-    fn keep(&mut self, piece: &[u8], out: &mut Vec<u8>) -> Result<(), Why>
+    fn keep(&mut self, piece: &[u8], out: &mut Vec<u8>) -> Result<(), RelayCause>
         requires { IsSmall self.old.kept }
         ensures kept { OnOk result (OnlyKeeps self.old (kept_with self.old.output self.old.kept.items piece.now) self.new) }
         ensures small { OnOk result (IsSmall self.new.kept) }
@@ -101,7 +101,7 @@ impl Passage {
         segments: &Segments,
         front: &[u8],
         out: &mut Vec<u8>,
-    ) -> Result<(), Why>
+    ) -> Result<(), RelayCause>
         ensures put { OnOk result (PutsFrame V.says self.old segments.now front.now self.new visitor.old visitor.new out.old.items out.new.items) }
         ensures small { OnOk result (IsSmall self.new.kept) }
         ensures refused { IfErr result (StopsAtFrame V.says self.old segments.now visitor.old visitor.new) }
@@ -112,7 +112,7 @@ impl Passage {
         // Before the visitor is asked, so that it allows only what can go.
         self.make(&view, front)?;
         if !visitor.visit(&view)? {
-            return Err(Why::Forbidden);
+            return Err(RelayCause::Forbidden);
         }
         // At once and whole: an allocation failure leaves `out` as it was.
         self.give(out)?;

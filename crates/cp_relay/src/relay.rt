@@ -1,6 +1,6 @@
 //! One direction of a connection, and what is let through of it.
 
-use crate::fault::{RelayFault, Why};
+use crate::fault::{RelayCause, RelayFault};
 use crate::output::Output;
 use crate::passage::Passage;
 use crate::visitor::Visitor;
@@ -131,7 +131,7 @@ impl Relay {
         match self.passage.frames.finish() {
             Ok(()) => Ok(()),
             Err(fault) => {
-                let fault = self.passage.stop(Why::from(fault));
+                let fault = self.passage.stop(RelayCause::from(fault));
                 self.fault = Some(fault);
                 Err(fault)
             }

@@ -20,9 +20,9 @@ pub trait Visitor: Drop {
 
 /// Lets every message go.
 #[derive(Clone, Copy, Drop)]
-pub struct Everything;
+pub struct AllowAll;
 
-impl Visitor for Everything {
+impl Visitor for AllowAll {
     ghost use Rattle.std.specs.Prelude.{◌≡◌, true};
 
     ghost says = { λ _ _ may _. may ≡ true };

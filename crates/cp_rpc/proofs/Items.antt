@@ -7,8 +7,8 @@ use Rattle.cp_tree.specs.declared.shape.Shape.{Shape}
 use Rattle.cp_tree.specs.declared.shape.Shape.TheVariants as shapes
 use Rattle.cp_messages.specs.Fields.{items_of, structs_in, text_of, is_text, IsTextField, IsStructField}
 use Rattle.cp_rpc.specs.Looked.{look_of}
-use Rattle.cp_rpc.specs.declared.source.Look.{Look}
-use Rattle.cp_rpc.specs.declared.source.Look.TheVariants as looks
+use Rattle.cp_rpc.specs.declared.source.SourceKind.{SourceKind}
+use Rattle.cp_rpc.specs.declared.source.SourceKind.TheVariants as looks
 
 pub body-item : (bs : Bodies) (i : ℕ) → body_at bs i ≡ get_or (structs_in bs) i null
 body-item no_bodies i = refl
@@ -59,52 +59,52 @@ item-struct (struct ws ts) i h = absurd (omega arith)
 item-struct (list es) i h = absurd (omega arith)
 item-struct (ptrs ts) i h = absurd (omega arith)
 
-abbrev pub items_seen : Look → ℕ
+abbrev pub items_seen : SourceKind → ℕ
 items_seen (looks.Items n) = n
 items_seen _ = 0
 
-pub look-items : (t : Node) (n : ℕ) → looks.Items n ≡ look_of t → n ≡ length (items_of t)
-look-items (structs d n bs) k e = ap items_seen e ∙ sym (length-items bs)
-look-items null k e = cc
-look-items (cap i) k e = cc
-look-items (struct ws ts) k e = cc
-look-items (list (voids n)) k e = cc
-look-items (list (bits bs)) k e = cc
-look-items (list (bytes bs)) k e = cc
-look-items (list (halves ns)) k e = cc
-look-items (list (quads ns)) k e = cc
-look-items (list (words ns)) k e = cc
-look-items (ptrs ts) k e = cc
+pub source_kind-items : (t : Node) (n : ℕ) → looks.Items n ≡ look_of t → n ≡ length (items_of t)
+source_kind-items (structs d n bs) k e = ap items_seen e ∙ sym (length-items bs)
+source_kind-items null k e = cc
+source_kind-items (cap i) k e = cc
+source_kind-items (struct ws ts) k e = cc
+source_kind-items (list (voids n)) k e = cc
+source_kind-items (list (bits bs)) k e = cc
+source_kind-items (list (bytes bs)) k e = cc
+source_kind-items (list (halves ns)) k e = cc
+source_kind-items (list (quads ns)) k e = cc
+source_kind-items (list (words ns)) k e = cc
+source_kind-items (ptrs ts) k e = cc
 
-abbrev pub bytes_seen : Look → ℕ
+abbrev pub bytes_seen : SourceKind → ℕ
 bytes_seen (looks.Bytes n) = n
 bytes_seen _ = 0
 
 -- the length of a text field's text
-pub look-text : (t : Node) (n : ℕ) → look_of t ≡ looks.Bytes n → IsTextField t → (0 < n) × (n - 1 ≡ length (text_of t))
-look-text (list (bytes bs)) n e field =
+pub source_kind-text : (t : Node) (n : ℕ) → look_of t ≡ looks.Bytes n → IsTextField t → (0 < n) × (n - 1 ≡ length (text_of t))
+source_kind-text (list (bytes bs)) n e field =
     let counted : n ≡ length bs = sym (ap bytes_seen e) in
     (rw counted (text-some bs field), rw counted (sym (length-take-le (length bs - 1) bs (omega arith))))
-look-text null n e field = cc
-look-text (cap k) n e field = absurd field
-look-text (struct ws ts) n e field = absurd field
-look-text (list (voids k)) n e field = absurd field
-look-text (list (bits bs)) n e field = absurd field
-look-text (list (halves ns)) n e field = absurd field
-look-text (list (quads ns)) n e field = absurd field
-look-text (list (words ns)) n e field = absurd field
-look-text (ptrs ts) n e field = absurd field
-look-text (structs d k bs) n e field = absurd field
+source_kind-text null n e field = cc
+source_kind-text (cap k) n e field = absurd field
+source_kind-text (struct ws ts) n e field = absurd field
+source_kind-text (list (voids k)) n e field = absurd field
+source_kind-text (list (bits bs)) n e field = absurd field
+source_kind-text (list (halves ns)) n e field = absurd field
+source_kind-text (list (quads ns)) n e field = absurd field
+source_kind-text (list (words ns)) n e field = absurd field
+source_kind-text (ptrs ts) n e field = absurd field
+source_kind-text (structs d k bs) n e field = absurd field
 
-pub look-no_text : (t : Node) → ((n : ℕ) → look_of t ≡ looks.Bytes n → ⊥) → IsTextField t → 0 ≡ length (text_of t)
-look-no_text (list (bytes bs)) none field = absurd (none (length bs) refl)
-look-no_text null none field = refl
-look-no_text (cap k) none field = absurd field
-look-no_text (struct ws ts) none field = absurd field
-look-no_text (list (voids k)) none field = absurd field
-look-no_text (list (bits bs)) none field = absurd field
-look-no_text (list (halves ns)) none field = absurd field
-look-no_text (list (quads ns)) none field = absurd field
-look-no_text (list (words ns)) none field = absurd field
-look-no_text (ptrs ts) none field = absurd field
-look-no_text (structs d k bs) none field = absurd field
+pub source_kind-no_text : (t : Node) → ((n : ℕ) → look_of t ≡ looks.Bytes n → ⊥) → IsTextField t → 0 ≡ length (text_of t)
+source_kind-no_text (list (bytes bs)) none field = absurd (none (length bs) refl)
+source_kind-no_text null none field = refl
+source_kind-no_text (cap k) none field = absurd field
+source_kind-no_text (struct ws ts) none field = absurd field
+source_kind-no_text (list (voids k)) none field = absurd field
+source_kind-no_text (list (bits bs)) none field = absurd field
+source_kind-no_text (list (halves ns)) none field = absurd field
+source_kind-no_text (list (quads ns)) none field = absurd field
+source_kind-no_text (list (words ns)) none field = absurd field
+source_kind-no_text (ptrs ts) none field = absurd field
+source_kind-no_text (structs d k bs) none field = absurd field

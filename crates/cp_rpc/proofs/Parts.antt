@@ -9,7 +9,7 @@ use Rattle.cp_tree.specs.declared.tree.Body.{Body, the_lemmas}
 use Rattle.cp_messages.specs.Fields.{items_of, structs_in}
 use Rattle.cp_rpc.specs.Looked.{look_of}
 use Rattle.cp_rpc.specs.OwnedNode.{body_node}
-use Rattle.cp_rpc.specs.declared.source.Look.TheVariants as looks
+use Rattle.cp_rpc.specs.declared.source.SourceKind.TheVariants as looks
 
 node-Structs : (d n : ℕ) (v : Vec Body Global) → node_of (Structs d n v) ≡ structs d n (bodies_of (map body_of v.items))
 node-Structs d n v = search (rules, the_lemmas)
@@ -25,8 +25,8 @@ count-map : (bs : List Body) → number_of (bodies_of (map body_of bs)) ≡ leng
 count-map [] = refl
 count-map (b ∷ bs) = ap suc (count-map bs)
 
-pub look-Structs : (d n : ℕ) (v : Vec Body Global) → look_of (node_of (Structs d n v)) ≡ looks.Items (length v.items)
-look-Structs d n v = ap look_of (node-Structs d n v) ∙ ap looks.Items (count-map v.items)
+pub source_kind-Structs : (d n : ℕ) (v : Vec Body Global) → look_of (node_of (Structs d n v)) ≡ looks.Items (length v.items)
+source_kind-Structs d n v = ap look_of (node-Structs d n v) ∙ ap looks.Items (count-map v.items)
 
 shaped_at : (ts : Nodes) (i : ℕ) → EachShaped ts → Shaped (node_at ts i)
 shaped_at no_nodes i s = tt

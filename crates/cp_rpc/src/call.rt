@@ -13,7 +13,7 @@ use crate::source::Source;
 use crate::target::TargetView;
 use cp_fields::{u16_at, u32_at, u64_at};
 use cp_messages::{Call, Field, SchemaFault, SendResultsTo};
-use cp_tree::Past;
+use cp_tree::UnknownEnumerant;
 use std::alloc::{AllocError, Global};
 
 /// Where results are sent to, read in place.
@@ -22,7 +22,7 @@ pub enum SendResultsToView<S: Source> {
     Caller,
     Yourself,
     ThirdParty(S),
-    Unknown(Past<2>),
+    Unknown(UnknownEnumerant<2>),
 }
 
 /// A call that is read in place.
@@ -46,7 +46,7 @@ impl<S: Source> SendResultsToView<S> {
             0 => SendResultsToView::Caller,
             1 => SendResultsToView::Yourself,
             2 => SendResultsToView::ThirdParty(t.pointer(Call::THIRD_PARTY)),
-            number => SendResultsToView::Unknown(Past::of(number)),
+            number => SendResultsToView::Unknown(UnknownEnumerant::of(number)),
         }
     }
 

@@ -12,7 +12,7 @@ use crate::promised_answer::PromisedAnswerView;
 use crate::source::Source;
 use cp_fields::{u16_at, u32_at};
 use cp_messages::{Descriptor, Field, SchemaFault};
-use cp_tree::Past;
+use cp_tree::UnknownEnumerant;
 use std::alloc::{AllocError, Global};
 
 /// A descriptor that is read in place.
@@ -24,7 +24,7 @@ pub enum DescriptorView<S: Source> {
     ReceiverHosted(u32),
     ReceiverAnswer(PromisedAnswerView<S>),
     ThirdPartyHosted(S),
-    Unknown(Past<5>),
+    Unknown(UnknownEnumerant<5>),
 }
 
 impl<S: Source> DescriptorView<S> {
@@ -65,7 +65,7 @@ impl<S: Source> DescriptorView<S> {
                 Ok(DescriptorView::ReceiverAnswer(PromisedAnswerView::of(&answer)?))
             }
             5 => Ok(DescriptorView::ThirdPartyHosted(t.pointer(Descriptor::POINTER))),
-            number => Ok(DescriptorView::Unknown(Past::of(number))),
+            number => Ok(DescriptorView::Unknown(UnknownEnumerant::of(number))),
         }
     }
 

@@ -11,14 +11,14 @@ use crate::field::struct_field;
 use crate::source::Source;
 use crate::target::TargetView;
 use cp_fields::{u16_at, u32_at};
-use cp_messages::{Context, Disembargo, Field, SchemaFault};
-use cp_tree::Past;
+use cp_messages::{Disembargo, DisembargoContext, Field, SchemaFault};
+use cp_tree::UnknownEnumerant;
 use std::alloc::{AllocError, Global};
 
 /// A disembargo that is read in place.
 #[derive(Drop)]
 pub struct DisembargoView<S: Source> {
-    pub context: Context,
+    pub context: DisembargoContext,
     pub target: TargetView<S>,
 }
 
@@ -57,15 +57,15 @@ impl<S: Source> DisembargoView<S> {
 }
 
 /// The context that a struct's data words say.
-fn context_of(words: &[u64]) -> Context
+fn context_of(words: &[u64]) -> DisembargoContext
     ensures { result ≡ context_denoted words.now }
 {
     let number = u32_at(words, Disembargo::NUMBER);
     match u16_at(words, Disembargo::CONTEXT) {
-        0 => Context::SenderLoopback(number),
-        1 => Context::ReceiverLoopback(number),
-        2 => Context::Accept,
-        3 => Context::Provide(number),
-        which => Context::Unknown(Past::of(which)),
+        0 => DisembargoContext::SenderLoopback(number),
+        1 => DisembargoContext::ReceiverLoopback(number),
+        2 => DisembargoContext::Accept,
+        3 => DisembargoContext::Provide(number),
+        which => DisembargoContext::Unknown(UnknownEnumerant::of(which)),
     }
 }

@@ -12,7 +12,7 @@ use crate::source::Source;
 use crate::text::MessageText;
 use cp_fields::u16_at;
 use cp_messages::{Exception, ExceptionKind, Field, SchemaFault};
-use cp_tree::Past;
+use cp_tree::UnknownEnumerant;
 use std::alloc::{AllocError, Global};
 
 /// An exception whose texts are read in place.
@@ -69,6 +69,6 @@ fn kind_of(number: u16) -> ExceptionKind
         1 => ExceptionKind::Overloaded,
         2 => ExceptionKind::Disconnected,
         3 => ExceptionKind::Unimplemented,
-        _ => ExceptionKind::Unknown(Past::of(number)),
+        _ => ExceptionKind::Unknown(UnknownEnumerant::of(number)),
     }
 }

@@ -5,7 +5,7 @@ ghost use Rattle.cp_tree.specs.Node.{Node};
 ghost use Rattle.cp_tree.specs.Seen.{pointee_of};
 ghost use Rattle.cp_messages.specs.Fields.{IsStructField, IsTextField, items_of, struct_faults, list_faults, text_faults};
 
-use crate::source::{Look, Source};
+use crate::source::{Source, SourceKind};
 use cp_messages::{Field, SchemaFault};
 
 /// A field of a struct's type: null, or a struct.
@@ -17,8 +17,8 @@ pub(crate) fn struct_field<S: Source>(t: &S, i: u32, field: Field) -> Result<S, 
     ensures fault { IfErr result (λ f. (inside : Node → List SchemaFault) → struct_faults field inside (pointee_of (S.seen t.now) i) ≡ f ∷ []) }
 {
     let x = t.pointer(i);
-    match x.look() {
-        Look::Null | Look::Struct => Ok(x),
+    match x.source_kind() {
+        SourceKind::Null | SourceKind::Struct => Ok(x),
         _ => Err(SchemaFault::Kind(field)),
     }
 }
@@ -32,8 +32,8 @@ pub(crate) fn list_field<S: Source>(t: &S, i: u32, field: Field) -> Result<S, Sc
     ensures fault { IfErr result (λ f. (inside : List Node → List SchemaFault) → list_faults field inside (pointee_of (S.seen t.now) i) ≡ f ∷ []) }
 {
     let x = t.pointer(i);
-    match x.look() {
-        Look::Null | Look::Items(_) => Ok(x),
+    match x.source_kind() {
+        SourceKind::Null | SourceKind::Items(_) => Ok(x),
         _ => Err(SchemaFault::Kind(field)),
     }
 }
@@ -46,9 +46,9 @@ pub(crate) fn text_field<S: Source>(t: &S, i: u32, field: Field) -> Result<S, Sc
     ensures fault { IfErr result (λ f. text_faults field (pointee_of (S.seen t.now) i) ≡ f ∷ []) }
 {
     let x = t.pointer(i);
-    match x.look() {
-        Look::Null => Ok(x),
-        Look::Bytes(_) => {
+    match x.source_kind() {
+        SourceKind::Null => Ok(x),
+        SourceKind::Bytes(_) => {
             if x.is_text() {
                 Ok(x)
             } else {
@@ -64,8 +64,8 @@ pub(crate) fn text_field<S: Source>(t: &S, i: u32, field: Field) -> Result<S, Sc
 pub(crate) fn item_count<S: Source>(t: &S) -> usize
     ensures { result ≡ length (items_of (S.seen t.now)) }
 {
-    match t.look() {
-        Look::Items(count) => count,
+    match t.source_kind() {
+        SourceKind::Items(count) => count,
         _ => 0,
     }
 }

@@ -21,10 +21,10 @@ mod text;
 
 pub use call::{CallView, SendResultsToView};
 pub use cp_messages::{
-    Bootstrap, Call, CapTable, Context, Descriptor, Disembargo, Exception, ExceptionKind, Field,
-    Finish, Message, Op, OtherWhich, Payload, PromisedAnswer, Release, Resolution, Resolve, Return,
-    Returned, SchemaFault, SendResultsTo, Target, Text, Transform, draft_of, read_back, tree_of,
-    writable,
+    Bootstrap, Call, CapTable, Descriptor, Disembargo, DisembargoContext, Exception, ExceptionKind,
+    Field, Finish, Message, Op, OtherWhich, Payload, PromisedAnswer, Release, Resolution, Resolve,
+    Return, Returned, SchemaFault, SendResultsTo, Target, Text, Transform, draft_of, read_back,
+    tree_of, writable,
 };
 pub use descriptor::DescriptorView;
 pub use disembargo::DisembargoView;
@@ -36,6 +36,6 @@ pub use promised_answer::{PromisedAnswerView, TransformView};
 pub use read::{check_message, message_in, message_of, message_view};
 pub use resolve::{ResolutionView, ResolveView};
 pub use returned::{ReturnView, ReturnedView};
-pub use source::{Look, Source};
+pub use source::{Source, SourceKind};
 pub use target::TargetView;
 pub use text::MessageText;

@@ -7,9 +7,9 @@ ghost use Rattle.cp_messages.specs.Fields.{items_of};
 ghost use Rattle.cp_rpc.specs.Looked.{look_of};
 ghost use Rattle.cp_rpc.specs.OwnedNode.{body_node};
 
-use crate::source::{Look, Source};
+use crate::source::{Source, SourceKind};
 use crate::text::{is_text, text_at};
-use cp_fields::Pointee;
+use cp_fields::PointerReader;
 use cp_messages::Text;
 use cp_tree::{Body, BodyRef, Object, Tree, Whole, fits, nests};
 use std::alloc::{AllocError, Global};
@@ -26,7 +26,7 @@ pub(crate) enum TreePart<'a> {
 
 /// A part of an owned tree that a message can hold, looked at where it is. Contracts see it as
 /// its tree.
-/// It isn't `cp_fields::Pointee`, which may be any tree: here a message can hold the tree, by its type.
+/// It isn't `cp_fields::PointerReader`, which may be any tree: here a message can hold the tree, by its type.
 #[derive(Drop)]
 pub struct Owned<'a> {
     part: TreePart<'a>,
@@ -85,10 +85,10 @@ impl<'a> Owned<'a> {
 impl<'a> Source for Owned<'a> {
     ghost seen = { λ o. o };
 
-    fn look(&self) -> Look {
+    fn source_kind(&self) -> SourceKind {
         match self.part {
-            TreePart::Null => Look::Null,
-            TreePart::Body(_) => Look::Struct,
+            TreePart::Null => SourceKind::Null,
+            TreePart::Body(_) => SourceKind::Struct,
             TreePart::Tree(tree) => look_at(tree),
         }
     }
@@ -127,14 +127,14 @@ impl<'a> Source for Owned<'a> {
 
     fn is_text(&self) -> bool {
         match self.part {
-            TreePart::Tree(tree) => is_text(Pointee::of_tree(tree)),
+            TreePart::Tree(tree) => is_text(PointerReader::of_tree(tree)),
             TreePart::Null | TreePart::Body(_) => false,
         }
     }
 
     fn text(&self, alloc: Global) -> Result<Text, AllocError> {
         match self.part {
-            TreePart::Tree(tree) => text_at(alloc, Pointee::of_tree(tree)),
+            TreePart::Tree(tree) => text_at(alloc, PointerReader::of_tree(tree)),
             TreePart::Null | TreePart::Body(_) => Ok(Text::new(String::new(alloc))),
         }
     }
@@ -157,15 +157,15 @@ impl<'a> Source for Owned<'a> {
 }
 
 /// What a tree is.
-fn look_at(tree: &Tree) -> Look
+fn look_at(tree: &Tree) -> SourceKind
     ensures { result ≡ look_of (node_of tree.now) }
 {
     match tree {
-        Tree::Null => Look::Null,
-        Tree::Struct(_) => Look::Struct,
-        Tree::Structs { items, .. } => Look::Items(items.as_slice().len()),
-        Tree::Bytes(items) => Look::Bytes(items.len()),
-        _ => Look::Other,
+        Tree::Null => SourceKind::Null,
+        Tree::Struct(_) => SourceKind::Struct,
+        Tree::Structs { items, .. } => SourceKind::Items(items.as_slice().len()),
+        Tree::Bytes(items) => SourceKind::Bytes(items.len()),
+        _ => SourceKind::Other,
     }
 }
 

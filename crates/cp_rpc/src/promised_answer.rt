@@ -12,7 +12,7 @@ use crate::field::{item_count, list_field};
 use crate::source::Source;
 use cp_fields::{u16_at, u32_at};
 use cp_messages::{Field, Op, PromisedAnswer, SchemaFault, Transform};
-use cp_tree::Past;
+use cp_tree::UnknownEnumerant;
 use std::alloc::{AllocError, Global};
 use std::marker::Model;
 
@@ -110,6 +110,6 @@ fn op_of(words: &[u64]) -> Op
     match u16_at(words, Op::WHICH) {
         0 => Op::Noop,
         1 => Op::GetPointerField(u16_at(words, Op::FIELD)),
-        number => Op::Unknown(Past::of(number)),
+        number => Op::Unknown(UnknownEnumerant::of(number)),
     }
 }

@@ -13,7 +13,7 @@ use crate::field::struct_field;
 use crate::source::Source;
 use cp_fields::{u16_at, u32_at};
 use cp_messages::{Field, Resolution, Resolve, SchemaFault};
-use cp_tree::Past;
+use cp_tree::UnknownEnumerant;
 use std::alloc::{AllocError, Global};
 
 /// A resolution that is read in place.
@@ -21,7 +21,7 @@ use std::alloc::{AllocError, Global};
 pub enum ResolutionView<S: Source> {
     Cap(DescriptorView<S>),
     Exception(ExceptionView<S>),
-    Unknown(Past<1>),
+    Unknown(UnknownEnumerant<1>),
 }
 
 /// A resolve that is read in place.
@@ -46,7 +46,7 @@ impl<S: Source> ResolutionView<S> {
                 let member = struct_field(t, Resolve::MEMBER, Field::ResolveException)?;
                 Ok(ResolutionView::Exception(ExceptionView::of(&member)?))
             }
-            number => Ok(ResolutionView::Unknown(Past::of(number))),
+            number => Ok(ResolutionView::Unknown(UnknownEnumerant::of(number))),
         }
     }
 

@@ -13,7 +13,7 @@ use crate::payload::PayloadView;
 use crate::source::Source;
 use cp_fields::{bit_at, u16_at, u32_at};
 use cp_messages::{Field, Return, Returned, SchemaFault};
-use cp_tree::Past;
+use cp_tree::UnknownEnumerant;
 use std::alloc::{AllocError, Global};
 
 /// What was returned, read in place.
@@ -25,7 +25,7 @@ pub enum ReturnedView<S: Source> {
     ResultsSentElsewhere,
     TakeFromOtherQuestion(u32),
     AcceptFromThirdParty(S),
-    Unknown(Past<5>),
+    Unknown(UnknownEnumerant<5>),
 }
 
 /// A return that is read in place.
@@ -60,7 +60,7 @@ impl<S: Source> ReturnedView<S> {
                 Ok(ReturnedView::TakeFromOtherQuestion(question))
             }
             5 => Ok(ReturnedView::AcceptFromThirdParty(t.pointer(Return::MEMBER))),
-            number => Ok(ReturnedView::Unknown(Past::of(number))),
+            number => Ok(ReturnedView::Unknown(UnknownEnumerant::of(number))),
         }
     }
 

@@ -7,7 +7,7 @@ ghost use Rattle.cp_messages.specs.Fields.{IsStructField, IsTextField, items_of,
 ghost use Rattle.cp_rpc.specs.Looked.{look_of};
 
 use crate::text::{is_text, text_at};
-use cp_fields::Pointee;
+use cp_fields::PointerReader;
 use cp_messages::Text;
 use cp_reading::View;
 use cp_tree::{Shape, Whole};
@@ -16,7 +16,7 @@ use std::alloc::{AllocError, Global};
 
 /// What a field may ask of a tree.
 #[derive(Clone, Copy)]
-pub enum Look {
+pub enum SourceKind {
     Null,
     Struct,
     /// A composite list of this many elements.
@@ -33,7 +33,7 @@ pub trait Source: Drop {
     ghost seen: { Self → Node };
 
     /// What the tree is.
-    fn look(&self) -> Look
+    fn source_kind(&self) -> SourceKind
         ensures { result ≡ look_of (seen self.now) };
 
     /// A struct's data words.
@@ -74,16 +74,16 @@ impl<'a> Source for View<'a> {
     ghost seen = { λ v. v };
 
     #[inline(always)]
-    fn look(&self) -> Look {
+    fn source_kind(&self) -> SourceKind {
         match self.shape() {
-            Shape::Null => Look::Null,
-            Shape::Struct { .. } => Look::Struct,
-            Shape::Structs { count, .. } => Look::Items(count as usize),
+            Shape::Null => SourceKind::Null,
+            Shape::Struct { .. } => SourceKind::Struct,
+            Shape::Structs { count, .. } => SourceKind::Items(count as usize),
             Shape::List { size, count } => match size {
-                ElementSize::Byte => Look::Bytes(count as usize),
-                _ => Look::Other,
+                ElementSize::Byte => SourceKind::Bytes(count as usize),
+                _ => SourceKind::Other,
             },
-            Shape::Cap(_) => Look::Other,
+            Shape::Cap(_) => SourceKind::Other,
         }
     }
 
@@ -112,11 +112,11 @@ impl<'a> Source for View<'a> {
     }
 
     fn is_text(&self) -> bool {
-        is_text(Pointee::of_view(self.again()))
+        is_text(PointerReader::of_view(self.reborrow()))
     }
 
     fn text(&self, alloc: Global) -> Result<Text, AllocError> {
-        text_at(alloc, Pointee::of_view(self.again()))
+        text_at(alloc, PointerReader::of_view(self.reborrow()))
     }
 
     fn fits(&self, nesting: u32, traversal: u64) -> bool {

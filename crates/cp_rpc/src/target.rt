@@ -12,7 +12,7 @@ use crate::promised_answer::PromisedAnswerView;
 use crate::source::Source;
 use cp_fields::{u16_at, u32_at};
 use cp_messages::{Field, SchemaFault, Target};
-use cp_tree::Past;
+use cp_tree::UnknownEnumerant;
 use std::alloc::{AllocError, Global};
 
 /// A target that is read in place.
@@ -20,7 +20,7 @@ use std::alloc::{AllocError, Global};
 pub enum TargetView<S: Source> {
     ImportedCap(u32),
     PromisedAnswer(PromisedAnswerView<S>),
-    Unknown(Past<1>),
+    Unknown(UnknownEnumerant<1>),
 }
 
 impl<S: Source> TargetView<S> {
@@ -57,7 +57,7 @@ impl<S: Source> TargetView<S> {
                 )?;
                 Ok(TargetView::PromisedAnswer(PromisedAnswerView::of(&answer)?))
             }
-            number => Ok(TargetView::Unknown(Past::of(number))),
+            number => Ok(TargetView::Unknown(UnknownEnumerant::of(number))),
         }
     }
 

@@ -3,8 +3,8 @@
 ghost use Rattle.std.specs.Prelude.{◌≡◌, ◌==◌, ◌<◌, length, IfOk};
 ghost use Rattle.cp_messages.specs.Fields.{IsTextField, bytes_of, is_text, text_of};
 
-use crate::source::{Look, Source};
-use cp_fields::{Pointee, TextFault};
+use crate::source::{Source, SourceKind};
+use cp_fields::{PointerReader, TextFault};
 use cp_messages::Text;
 use std::alloc::{AllocError, Global};
 use std::marker::Model;
@@ -40,9 +40,9 @@ impl<S: Source> MessageText<S> {
     pub fn len(&self) -> usize
         ensures { result ≡ length self.now }
     {
-        match self.source.look() {
+        match self.source.source_kind() {
             // The zero byte at the end is no part of the text.
-            Look::Bytes(count) => count - 1,
+            SourceKind::Bytes(count) => count - 1,
             _ => 0,
         }
     }
@@ -63,24 +63,24 @@ impl<S: Source> MessageText<S> {
 }
 
 /// Whether a pointer stands for a text: a list of bytes that ends in a zero byte, and is UTF-8 before that.
-pub(crate) fn is_text(at: Pointee<'_>) -> bool
+pub(crate) fn is_text(at: PointerReader<'_>) -> bool
     ensures { result ≡ is_text (bytes_of at.entry) }
 {
     if at.is_null() {
         return false;
     }
-    match cp_fields::TextView::of(at, "") {
+    match cp_fields::TextReader::of(at, "") {
         Ok(text) => text.is_utf8(),
         Err(_) => false,
     }
 }
 
 /// The text that a pointer stands for; null stands for the empty text.
-pub(crate) fn text_at(alloc: Global, at: Pointee<'_>) -> Result<Text, AllocError>
+pub(crate) fn text_at(alloc: Global, at: PointerReader<'_>) -> Result<Text, AllocError>
     requires { IsTextField at }
     ensures { IfOk result (λ t. t ≡ text_of at.entry) }
 {
-    let Ok(text) = cp_fields::TextView::of(at, "") else {
+    let Ok(text) = cp_fields::TextReader::of(at, "") else {
         // The field was tested when the message was read.
         unreachable!();
     };

@@ -6,7 +6,7 @@ use crate::line::Line;
 use crate::node::{Node, NodeKind, Schema, Structure};
 use crate::number::signed;
 use crate::value::SchemaValue;
-use cp_fields::{DataView, Pointee, StructView, WrongKind};
+use cp_fields::{DataReader, PointerReader, StructReader, WrongKind};
 use cp_reading::View;
 use cp_tree::Tree;
 use std::alloc::Global;
@@ -63,7 +63,7 @@ impl<'s> Decoder<'s> {
 
     /// Adds a message to a line.
     pub(crate) fn put(&self, line: &mut Line, view: View<'_>) {
-        match StructView::of(Pointee::of_view(view)) {
+        match StructReader::of(PointerReader::of_view(view)) {
             Ok(at) => structure(line, self.schema, self.of, &at, DEEPEST),
             Err(wrong) => line.refuse(wrong),
         }
@@ -91,7 +91,7 @@ pub fn message_line(
 
 /// Adds a struct, or the fields of a group.
 #[cycle(show)]
-fn structure(line: &mut Line, schema: &Schema, of: &Structure, at: &StructView<'_>, depth: u32) {
+fn structure(line: &mut Line, schema: &Schema, of: &Structure, at: &StructReader<'_>, depth: u32) {
     line.open('(');
     let set = at.u16(of.tag_place);
     if depth == 0 {
@@ -112,7 +112,7 @@ fn show_field(
     line: &mut Line,
     schema: &Schema,
     field: &StructField,
-    at: &StructView<'_>,
+    at: &StructReader<'_>,
     depth: u32,
 ) {
     match &field.kind {
@@ -129,7 +129,7 @@ fn show_field(
             line.field(field.name.as_str());
             match &field.default {
                 SchemaValue::Text(text) if is_null => line.characters(text.as_str()),
-                SchemaValue::Data(bytes) if is_null => line.bytes(&DataView::of_slice(bytes)),
+                SchemaValue::Data(bytes) if is_null => line.bytes(&DataReader::of_slice(bytes)),
                 SchemaValue::Tree(tree) if is_null => default_value(
                     line, schema, slot.of, tree, depth,
                 ),
@@ -147,7 +147,7 @@ fn default_value(line: &mut Line, schema: &Schema, of: Type, tree: &Tree, depth:
         line.is_deep = true;
         return;
     }
-    let at = StructView::of_pointer(Pointee::of_tree(tree));
+    let at = StructReader::of_pointer(PointerReader::of_tree(tree));
     value(line, schema, &only(of), &at, depth - 1);
 }
 
@@ -163,7 +163,7 @@ fn only(of: Type) -> Slot {
 
 /// Adds the struct or the group of this node.
 #[cycle(show)]
-fn node(line: &mut Line, schema: &Schema, id: u64, at: &StructView<'_>, depth: u32) {
+fn node(line: &mut Line, schema: &Schema, id: u64, at: &StructReader<'_>, depth: u32) {
     if depth == 0 {
         line.is_deep = true;
         return;
@@ -177,7 +177,7 @@ fn node(line: &mut Line, schema: &Schema, id: u64, at: &StructView<'_>, depth: u
 
 /// Adds the value of a field that isn't a group.
 #[cycle(show)]
-fn value(line: &mut Line, schema: &Schema, slot: &Slot, at: &StructView<'_>, depth: u32) {
+fn value(line: &mut Line, schema: &Schema, slot: &Slot, at: &StructReader<'_>, depth: u32) {
     if depth == 0 {
         line.is_deep = true;
         return;
@@ -210,7 +210,7 @@ fn value(line: &mut Line, schema: &Schema, slot: &Slot, at: &StructView<'_>, dep
 
 /// Adds a list. An element of any kind is seen as a struct with that one field.
 #[cycle(show)]
-fn list(line: &mut Line, schema: &Schema, slot: &Slot, at: &StructView<'_>, depth: u32) {
+fn list(line: &mut Line, schema: &Schema, slot: &Slot, at: &StructReader<'_>, depth: u32) {
     if depth == 0 {
         line.is_deep = true;
         return;
@@ -225,7 +225,7 @@ fn list(line: &mut Line, schema: &Schema, slot: &Slot, at: &StructView<'_>, dept
         of: slot.of.of,
     });
     // Seen as structs, elements of another edition's list are shown too, and narrower numbers, which the reference tool refuses.
-    match at.list::<StructView<'_>>(slot.place) {
+    match at.list::<StructReader<'_>>(slot.place) {
         Ok(items) => {
             line.open('[');
             for item in items {
@@ -240,7 +240,13 @@ fn list(line: &mut Line, schema: &Schema, slot: &Slot, at: &StructView<'_>, dept
 
 /// Adds an element of a list.
 #[cycle(show)]
-fn show_item(line: &mut Line, schema: &Schema, element: &Slot, item: &StructView<'_>, depth: u32) {
+fn show_item(
+    line: &mut Line,
+    schema: &Schema,
+    element: &Slot,
+    item: &StructReader<'_>,
+    depth: u32,
+) {
     if depth == 0 {
         line.is_deep = true;
         return;
@@ -252,7 +258,7 @@ fn show_item(line: &mut Line, schema: &Schema, element: &Slot, item: &StructView
 }
 
 /// Adds a list of bools.
-fn bools(line: &mut Line, at: &StructView<'_>, place: u32) {
+fn bools(line: &mut Line, at: &StructReader<'_>, place: u32) {
     match at.list::<bool>(place) {
         Ok(items) => {
             line.open('[');
@@ -276,7 +282,7 @@ fn is_pointer(of: Type) -> bool {
 }
 
 /// Adds a number, a bool or a value of an enum.
-fn number(line: &mut Line, schema: &Schema, of: Base, slot: &Slot, at: &StructView<'_>) {
+fn number(line: &mut Line, schema: &Schema, of: Base, slot: &Slot, at: &StructReader<'_>) {
     let place = slot.place;
     match of {
         Base::Bool => line.put(if at.bit(place) != (slot.default != 0) {
@@ -301,7 +307,7 @@ fn number(line: &mut Line, schema: &Schema, of: Base, slot: &Slot, at: &StructVi
 }
 
 /// The bits of a number of this width.
-fn bits(width: u32, slot: &Slot, at: &StructView<'_>) -> u64 {
+fn bits(width: u32, slot: &Slot, at: &StructReader<'_>) -> u64 {
     let stored = match width {
         8 => at.u8(slot.place) as u64,
         16 => at.u16(slot.place) as u64,

@@ -4,7 +4,7 @@ use crate::fault::RequestFault;
 use crate::kind::{DEEPEST, Type, type_of};
 use crate::load::{Load, text_of};
 use crate::value::{SchemaValue, bits_of, value_of};
-use cp_schema_capnp::{FieldSlotView, FieldView, FieldWhich};
+use cp_schema_capnp::{FieldReader, FieldSlotReader, FieldWhich};
 use std::alloc::Global;
 
 /// A field of a struct.
@@ -48,8 +48,8 @@ impl StructField {
     }
 }
 
-impl<'n> Load<FieldView<'n>> for StructField {
-    fn load(alloc: Global, view: &FieldView<'n>) -> Result<StructField, RequestFault> {
+impl<'n> Load<FieldReader<'n>> for StructField {
+    fn load(alloc: Global, view: &FieldReader<'n>) -> Result<StructField, RequestFault> {
         let default = default_of(alloc, view)?;
         match named(alloc, view, &default) {
             Ok((name, kind)) => Ok(StructField {
@@ -70,7 +70,7 @@ impl<'n> Load<FieldView<'n>> for StructField {
 /// The name of a field with this default, and what it is.
 fn named(
     alloc: Global,
-    view: &FieldView<'_>,
+    view: &FieldReader<'_>,
     default: &SchemaValue,
 ) -> Result<(String, FieldKind), RequestFault> {
     let kind = kind_of(view, default)?;
@@ -78,7 +78,7 @@ fn named(
 }
 
 /// The default of a field.
-fn default_of(alloc: Global, view: &FieldView<'_>) -> Result<SchemaValue, RequestFault> {
+fn default_of(alloc: Global, view: &FieldReader<'_>) -> Result<SchemaValue, RequestFault> {
     match view.which() {
         FieldWhich::Slot => value_of(alloc, &view.slot().default_value()?),
         _ => Ok(SchemaValue::Other),
@@ -86,7 +86,7 @@ fn default_of(alloc: Global, view: &FieldView<'_>) -> Result<SchemaValue, Reques
 }
 
 /// What a field with this default is.
-fn kind_of(view: &FieldView<'_>, default: &SchemaValue) -> Result<FieldKind, RequestFault> {
+fn kind_of(view: &FieldReader<'_>, default: &SchemaValue) -> Result<FieldKind, RequestFault> {
     match view.which() {
         FieldWhich::Slot => slot_of(&view.slot(), default),
         FieldWhich::Group => Ok(FieldKind::Group(view.group().type_id())),
@@ -95,7 +95,7 @@ fn kind_of(view: &FieldView<'_>, default: &SchemaValue) -> Result<FieldKind, Req
 }
 
 /// Where a field with this default lies.
-fn slot_of(view: &FieldSlotView<'_>, default: &SchemaValue) -> Result<FieldKind, RequestFault> {
+fn slot_of(view: &FieldSlotReader<'_>, default: &SchemaValue) -> Result<FieldKind, RequestFault> {
     let of = type_of(&view.type_()?, DEEPEST)?;
     Ok(FieldKind::Slot(Slot {
         place: view.offset(),

@@ -1,7 +1,7 @@
 //! The types of fields, constants and elements.
 
 use crate::fault::RequestFault;
-use cp_schema_capnp::{TypeView, TypeWhich};
+use cp_schema_capnp::{TypeReader, TypeWhich};
 
 /// The deepest that lists may lie within one another.
 pub(crate) const DEEPEST: u32 = 16;
@@ -30,7 +30,7 @@ pub enum Base {
 }
 
 /// A type, with lists no deeper than this.
-pub(crate) fn type_of(view: &TypeView<'_>, deepest: u32) -> Result<Type, RequestFault> {
+pub(crate) fn type_of(view: &TypeReader<'_>, deepest: u32) -> Result<Type, RequestFault> {
     if deepest == 0 {
         return Err(RequestFault::TooDeep);
     }
@@ -50,7 +50,7 @@ pub(crate) fn type_of(view: &TypeView<'_>, deepest: u32) -> Result<Type, Request
 }
 
 /// A type that isn't one of lists.
-fn base_of(view: &TypeView<'_>, which: TypeWhich) -> Base {
+fn base_of(view: &TypeReader<'_>, which: TypeWhich) -> Base {
     match which {
         TypeWhich::Void => Base::Void,
         TypeWhich::Bool => Base::Bool,

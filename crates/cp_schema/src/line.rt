@@ -1,7 +1,7 @@
 //! A line in the reference tool's notation, as it is put together.
 
 use crate::decoder::DecodeFault;
-use cp_fields::{DataView, TextView, WrongKind};
+use cp_fields::{DataReader, TextReader, WrongKind};
 use std::alloc::Global;
 
 /// A line. It remembers whether memory ran out, and the first pointer that was of another kind than the schema says.
@@ -93,7 +93,7 @@ impl Line {
     }
 
     /// Adds a text between quotes; one that isn't UTF-8 as bytes.
-    pub(crate) fn string(&mut self, text: &TextView<'_>) {
+    pub(crate) fn string(&mut self, text: &TextReader<'_>) {
         match text.text(self.alloc) {
             Ok(owned) => self.characters(owned.as_str()),
             // The reference tool prints such bytes as they are.
@@ -119,7 +119,7 @@ impl Line {
     }
 
     /// Adds bytes between quotes.
-    pub(crate) fn bytes(&mut self, data: &DataView<'_>) {
+    pub(crate) fn bytes(&mut self, data: &DataReader<'_>) {
         self.push('"');
         for i in 0..data.len() {
             self.byte(data.get(i));

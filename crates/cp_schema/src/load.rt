@@ -1,7 +1,7 @@
 //! Lists and texts of a request, owned.
 
 use crate::fault::RequestFault;
-use cp_fields::{Item, List, TextView, WrongKind};
+use cp_fields::{Element, List, TextReader, WrongKind};
 use std::alloc::Global;
 
 /// What is owned of a view.
@@ -10,7 +10,7 @@ pub(crate) trait Load<V>: Drop {
 }
 
 /// All that is owned of the views of a list.
-pub(crate) fn load_all<'n, V: Item<'n>, T: Load<V>>(
+pub(crate) fn load_all<'n, V: Element<'n>, T: Load<V>>(
     alloc: Global,
     list: List<'n, V>,
 ) -> Result<Vec<T>, RequestFault> {
@@ -25,7 +25,7 @@ pub(crate) fn load_all<'n, V: Item<'n>, T: Load<V>>(
 }
 
 /// Adds all that is owned of the views of a list.
-fn load_each<'n, V: Item<'n>, T: Load<V>>(
+fn load_each<'n, V: Element<'n>, T: Load<V>>(
     alloc: Global,
     list: List<'n, V>,
     all: &mut Vec<T>,
@@ -39,7 +39,7 @@ fn load_each<'n, V: Item<'n>, T: Load<V>>(
 /// A text.
 pub(crate) fn text_of(
     alloc: Global,
-    found: Result<TextView<'_>, WrongKind>,
+    found: Result<TextReader<'_>, WrongKind>,
 ) -> Result<String, RequestFault> {
     Ok(found?.text(alloc)?)
 }

@@ -5,14 +5,14 @@ use crate::field::StructField;
 use crate::kind::{DEEPEST, Type, type_of};
 use crate::load::{Load, load_all, text_of};
 use crate::value::{SchemaValue, value_of};
-use cp_fields::Pointee;
+use cp_fields::PointerReader;
 use cp_frame::FrameReader;
 use cp_reading::View;
 use cp_schema_capnp::{
-    CodeGeneratorRequestRequestedFileImportView, CodeGeneratorRequestRequestedFileView,
-    CodeGeneratorRequestView, EnumerantView, MethodView, NodeConstView, NodeInterfaceView,
-    NodeSourceInfoMemberView, NodeSourceInfoView, NodeStructView, NodeView, NodeWhich,
-    SuperclassView,
+    CodeGeneratorRequestReader, CodeGeneratorRequestRequestedFileImportReader,
+    CodeGeneratorRequestRequestedFileReader, EnumerantReader, MethodReader, NodeConstReader,
+    NodeInterfaceReader, NodeReader, NodeSourceInfoMemberReader, NodeSourceInfoReader,
+    NodeStructReader, NodeWhich, SuperclassReader,
 };
 use cp_words::{Limits, Segments};
 use std::alloc::Global;
@@ -139,7 +139,7 @@ impl Schema {
 fn schema_of(alloc: Global, segments: &Segments) -> Result<Schema, RequestFault> {
     // By views that the plugin made of schema.capnp, with the accessors of `only.txt` alone: another one needs a line there.
     let view = View::root(segments, Limits::standard())?;
-    let request = CodeGeneratorRequestView::of(Pointee::of_view(view))?;
+    let request = CodeGeneratorRequestReader::of(PointerReader::of_view(view))?;
     let loaded = load_request(alloc, &request);
     drop(request);
     loaded
@@ -148,7 +148,7 @@ fn schema_of(alloc: Global, segments: &Segments) -> Result<Schema, RequestFault>
 /// The same of its view.
 fn load_request(
     alloc: Global,
-    request: &CodeGeneratorRequestView<'_>,
+    request: &CodeGeneratorRequestReader<'_>,
 ) -> Result<Schema, RequestFault> {
     let nodes = load_all(alloc, request.nodes()?)?;
     match load_about(alloc, request) {
@@ -167,7 +167,7 @@ fn load_request(
 /// The files of a request and the comments.
 fn load_about(
     alloc: Global,
-    request: &CodeGeneratorRequestView<'_>,
+    request: &CodeGeneratorRequestReader<'_>,
 ) -> Result<(Vec<File>, Vec<Comments>), RequestFault> {
     let files = load_all(alloc, request.requested_files()?)?;
     match load_comments(alloc, request) {
@@ -182,7 +182,7 @@ fn load_about(
 /// The comments of a request.
 fn load_comments(
     alloc: Global,
-    request: &CodeGeneratorRequestView<'_>,
+    request: &CodeGeneratorRequestReader<'_>,
 ) -> Result<Vec<Comments>, RequestFault> {
     load_all(alloc, request.source_info()?)
 }
@@ -205,8 +205,8 @@ impl Node {
     }
 }
 
-impl<'n> Load<NodeView<'n>> for Node {
-    fn load(alloc: Global, view: &NodeView<'n>) -> Result<Node, RequestFault> {
+impl<'n> Load<NodeReader<'n>> for Node {
+    fn load(alloc: Global, view: &NodeReader<'n>) -> Result<Node, RequestFault> {
         let title = text_of(alloc, view.display_name())?;
         Ok(Node {
             id: view.id(),
@@ -218,7 +218,7 @@ impl<'n> Load<NodeView<'n>> for Node {
 }
 
 /// What a node is.
-fn kind_of(alloc: Global, view: &NodeView<'_>) -> Result<NodeKind, RequestFault> {
+fn kind_of(alloc: Global, view: &NodeReader<'_>) -> Result<NodeKind, RequestFault> {
     match view.which() {
         NodeWhich::File => Ok(NodeKind::File),
         NodeWhich::Struct => structure_of(alloc, &view.struct_()),
@@ -230,7 +230,7 @@ fn kind_of(alloc: Global, view: &NodeView<'_>) -> Result<NodeKind, RequestFault>
 }
 
 /// A struct or a group.
-fn structure_of(alloc: Global, view: &NodeStructView<'_>) -> Result<NodeKind, RequestFault> {
+fn structure_of(alloc: Global, view: &NodeStructReader<'_>) -> Result<NodeKind, RequestFault> {
     Ok(NodeKind::Struct(Structure {
         is_group: view.is_group(),
         words: view.data_word_count(),
@@ -242,7 +242,7 @@ fn structure_of(alloc: Global, view: &NodeStructView<'_>) -> Result<NodeKind, Re
 }
 
 /// An interface.
-fn interface_of(alloc: Global, view: &NodeInterfaceView<'_>) -> Result<NodeKind, RequestFault> {
+fn interface_of(alloc: Global, view: &NodeInterfaceReader<'_>) -> Result<NodeKind, RequestFault> {
     let supers = load_all(alloc, view.superclasses()?)?;
     match methods_of(alloc, view) {
         Ok(methods) => Ok(NodeKind::Interface(Interface { supers, methods })),
@@ -254,12 +254,12 @@ fn interface_of(alloc: Global, view: &NodeInterfaceView<'_>) -> Result<NodeKind,
 }
 
 /// The methods of an interface.
-fn methods_of(alloc: Global, view: &NodeInterfaceView<'_>) -> Result<Vec<Method>, RequestFault> {
+fn methods_of(alloc: Global, view: &NodeInterfaceReader<'_>) -> Result<Vec<Method>, RequestFault> {
     load_all(alloc, view.methods()?)
 }
 
 /// A constant.
-fn constant_of(alloc: Global, view: &NodeConstView<'_>) -> Result<NodeKind, RequestFault> {
+fn constant_of(alloc: Global, view: &NodeConstReader<'_>) -> Result<NodeKind, RequestFault> {
     let of = type_of(&view.type_()?, DEEPEST)?;
     Ok(NodeKind::Const(ConstNode {
         of,
@@ -267,35 +267,35 @@ fn constant_of(alloc: Global, view: &NodeConstView<'_>) -> Result<NodeKind, Requ
     }))
 }
 
-impl<'n> Load<EnumerantView<'n>> for String {
-    fn load(alloc: Global, view: &EnumerantView<'n>) -> Result<String, RequestFault> {
+impl<'n> Load<EnumerantReader<'n>> for String {
+    fn load(alloc: Global, view: &EnumerantReader<'n>) -> Result<String, RequestFault> {
         text_of(alloc, view.name())
     }
 }
 
-impl<'n> Load<NodeSourceInfoMemberView<'n>> for String {
-    fn load(alloc: Global, view: &NodeSourceInfoMemberView<'n>) -> Result<String, RequestFault> {
+impl<'n> Load<NodeSourceInfoMemberReader<'n>> for String {
+    fn load(alloc: Global, view: &NodeSourceInfoMemberReader<'n>) -> Result<String, RequestFault> {
         text_of(alloc, view.doc_comment())
     }
 }
 
-impl<'n> Load<CodeGeneratorRequestRequestedFileImportView<'n>> for u64 {
+impl<'n> Load<CodeGeneratorRequestRequestedFileImportReader<'n>> for u64 {
     fn load(
         _alloc: Global,
-        view: &CodeGeneratorRequestRequestedFileImportView<'n>,
+        view: &CodeGeneratorRequestRequestedFileImportReader<'n>,
     ) -> Result<u64, RequestFault> {
         Ok(view.id())
     }
 }
 
-impl<'n> Load<SuperclassView<'n>> for u64 {
-    fn load(_alloc: Global, view: &SuperclassView<'n>) -> Result<u64, RequestFault> {
+impl<'n> Load<SuperclassReader<'n>> for u64 {
+    fn load(_alloc: Global, view: &SuperclassReader<'n>) -> Result<u64, RequestFault> {
         Ok(view.id())
     }
 }
 
-impl<'n> Load<MethodView<'n>> for Method {
-    fn load(alloc: Global, view: &MethodView<'n>) -> Result<Method, RequestFault> {
+impl<'n> Load<MethodReader<'n>> for Method {
+    fn load(alloc: Global, view: &MethodReader<'n>) -> Result<Method, RequestFault> {
         Ok(Method {
             name: text_of(alloc, view.name())?,
             params: view.param_struct_type(),
@@ -304,10 +304,10 @@ impl<'n> Load<MethodView<'n>> for Method {
     }
 }
 
-impl<'n> Load<CodeGeneratorRequestRequestedFileView<'n>> for File {
+impl<'n> Load<CodeGeneratorRequestRequestedFileReader<'n>> for File {
     fn load(
         alloc: Global,
-        view: &CodeGeneratorRequestRequestedFileView<'n>,
+        view: &CodeGeneratorRequestRequestedFileReader<'n>,
     ) -> Result<File, RequestFault> {
         Ok(File {
             id: view.id(),
@@ -316,8 +316,8 @@ impl<'n> Load<CodeGeneratorRequestRequestedFileView<'n>> for File {
     }
 }
 
-impl<'n> Load<NodeSourceInfoView<'n>> for Comments {
-    fn load(alloc: Global, view: &NodeSourceInfoView<'n>) -> Result<Comments, RequestFault> {
+impl<'n> Load<NodeSourceInfoReader<'n>> for Comments {
+    fn load(alloc: Global, view: &NodeSourceInfoReader<'n>) -> Result<Comments, RequestFault> {
         let about = text_of(alloc, view.doc_comment())?;
         Ok(Comments {
             id: view.id(),

@@ -2,7 +2,7 @@
 
 use crate::fault::RequestFault;
 use crate::load::text_of;
-use cp_schema_capnp::{ValueView, ValueWhich};
+use cp_schema_capnp::{ValueReader, ValueWhich};
 use cp_tree::Tree;
 use std::alloc::Global;
 
@@ -44,7 +44,7 @@ impl SchemaValue {
 }
 
 /// The value of a constant, or a field's default.
-pub(crate) fn value_of(alloc: Global, view: &ValueView<'_>) -> Result<SchemaValue, RequestFault> {
+pub(crate) fn value_of(alloc: Global, view: &ValueReader<'_>) -> Result<SchemaValue, RequestFault> {
     match view.which() {
         ValueWhich::Text => Ok(SchemaValue::Text(text_of(alloc, view.text())?)),
         ValueWhich::Data => Ok(SchemaValue::Data(view.data_()?.to_vec(alloc)?)),
@@ -75,7 +75,7 @@ fn tree_in(tree: Tree) -> SchemaValue {
 }
 
 /// The bits of a number.
-pub(crate) fn bits_of(value: &ValueView<'_>) -> u64 {
+pub(crate) fn bits_of(value: &ValueReader<'_>) -> u64 {
     match value.which() {
         ValueWhich::Bool => value.bool_() as u64,
         // By their bits: the sign is the type's.

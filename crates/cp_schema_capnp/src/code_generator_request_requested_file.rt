@@ -6,17 +6,17 @@ ghost use Rattle.cp_tree.specs.Seen.{pointee_of};
 ghost use Rattle.cp_fields.specs.Numbers.{plain};
 ghost use Rattle.cp_fields.specs.Pointers.{list_field};
 
-use crate::code_generator_request_requested_file_import::CodeGeneratorRequestRequestedFileImportView;
-use cp_fields::{Item, List, StructView, WrongKind};
+use crate::code_generator_request_requested_file_import::CodeGeneratorRequestRequestedFileImportReader;
+use cp_fields::{Element, List, StructReader, WrongKind};
 
 /// `struct CodeGeneratorRequest.RequestedFile`.
 #[derive(Drop)]
-pub struct CodeGeneratorRequestRequestedFileView<'a> {
+pub struct CodeGeneratorRequestRequestedFileReader<'a> {
     /// The struct, by the places of its fields.
-    pub body: StructView<'a>,
+    pub body: StructReader<'a>,
 }
 
-impl<'a> Item<'a> for CodeGeneratorRequestRequestedFileView<'a> {
+impl<'a> Element<'a> for CodeGeneratorRequestRequestedFileReader<'a> {
     ghost SIZE = { sizes.Composite };
 
     ghost read = { λ t. record { body = t } };
@@ -27,12 +27,12 @@ impl<'a> Item<'a> for CodeGeneratorRequestRequestedFileView<'a> {
         cp_words::ElementSize::Composite
     }
 
-    fn of_item(item: StructView<'a>) -> CodeGeneratorRequestRequestedFileView<'a> {
-        CodeGeneratorRequestRequestedFileView { body: item }
+    fn of_element(item: StructReader<'a>) -> CodeGeneratorRequestRequestedFileReader<'a> {
+        CodeGeneratorRequestRequestedFileReader { body: item }
     }
 }
 
-impl<'a> CodeGeneratorRequestRequestedFileView<'a> {
+impl<'a> CodeGeneratorRequestRequestedFileReader<'a> {
     /// ID of the file.
     pub fn id(&self) -> u64
         ensures { result ≡ plain self.now.body 64 0 }
@@ -43,7 +43,7 @@ impl<'a> CodeGeneratorRequestRequestedFileView<'a> {
     /// List of all imported paths seen in this file.
     pub fn imports(
         &self,
-    ) -> Result<List<'a, CodeGeneratorRequestRequestedFileImportView<'a>>, WrongKind>
+    ) -> Result<List<'a, CodeGeneratorRequestRequestedFileImportReader<'a>>, WrongKind>
         ensures { result ≡ list_field sizes.Composite (pointee_of self.now.body 1) }
     {
         self.body.list(1)

@@ -4,16 +4,16 @@ ghost use Rattle.std.specs.Prelude.{◌≡◌};
 ghost use Rattle.cp_words.specs.declared.pointer.ElementSize.TheVariants as sizes;
 ghost use Rattle.cp_fields.specs.Numbers.{plain};
 
-use cp_fields::{Item, StructView};
+use cp_fields::{Element, StructReader};
 
 /// `struct CodeGeneratorRequest.RequestedFile.Import`.
 #[derive(Drop)]
-pub struct CodeGeneratorRequestRequestedFileImportView<'a> {
+pub struct CodeGeneratorRequestRequestedFileImportReader<'a> {
     /// The struct, by the places of its fields.
-    pub body: StructView<'a>,
+    pub body: StructReader<'a>,
 }
 
-impl<'a> Item<'a> for CodeGeneratorRequestRequestedFileImportView<'a> {
+impl<'a> Element<'a> for CodeGeneratorRequestRequestedFileImportReader<'a> {
     ghost SIZE = { sizes.Composite };
 
     ghost read = { λ t. record { body = t } };
@@ -24,12 +24,12 @@ impl<'a> Item<'a> for CodeGeneratorRequestRequestedFileImportView<'a> {
         cp_words::ElementSize::Composite
     }
 
-    fn of_item(item: StructView<'a>) -> CodeGeneratorRequestRequestedFileImportView<'a> {
-        CodeGeneratorRequestRequestedFileImportView { body: item }
+    fn of_element(item: StructReader<'a>) -> CodeGeneratorRequestRequestedFileImportReader<'a> {
+        CodeGeneratorRequestRequestedFileImportReader { body: item }
     }
 }
 
-impl<'a> CodeGeneratorRequestRequestedFileImportView<'a> {
+impl<'a> CodeGeneratorRequestRequestedFileImportReader<'a> {
     /// ID of the imported file.
     pub fn id(&self) -> u64
         ensures { result ≡ plain self.now.body 64 0 }

@@ -5,16 +5,16 @@ ghost use Rattle.cp_words.specs.declared.pointer.ElementSize.TheVariants as size
 ghost use Rattle.cp_tree.specs.Seen.{pointee_of};
 ghost use Rattle.cp_fields.specs.Pointers.{text_field};
 
-use cp_fields::{Item, StructView, TextView, WrongKind};
+use cp_fields::{Element, StructReader, TextReader, WrongKind};
 
 /// Schema for member of an enum.
 #[derive(Drop)]
-pub struct EnumerantView<'a> {
+pub struct EnumerantReader<'a> {
     /// The struct, by the places of its fields.
-    pub body: StructView<'a>,
+    pub body: StructReader<'a>,
 }
 
-impl<'a> Item<'a> for EnumerantView<'a> {
+impl<'a> Element<'a> for EnumerantReader<'a> {
     ghost SIZE = { sizes.Composite };
 
     ghost read = { λ t. record { body = t } };
@@ -25,14 +25,14 @@ impl<'a> Item<'a> for EnumerantView<'a> {
         cp_words::ElementSize::Composite
     }
 
-    fn of_item(item: StructView<'a>) -> EnumerantView<'a> {
-        EnumerantView { body: item }
+    fn of_element(item: StructReader<'a>) -> EnumerantReader<'a> {
+        EnumerantReader { body: item }
     }
 }
 
-impl<'a> EnumerantView<'a> {
+impl<'a> EnumerantReader<'a> {
     /// `name @0`.
-    pub fn name(&self) -> Result<TextView<'a>, WrongKind>
+    pub fn name(&self) -> Result<TextReader<'a>, WrongKind>
         ensures { result ≡ text_field [] (pointee_of self.now.body 0) }
     {
         self.body.text(0)

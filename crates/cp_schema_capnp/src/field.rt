@@ -7,18 +7,18 @@ ghost use Rattle.cp_fields.specs.Numbers.{flag, plain, uint};
 ghost use Rattle.cp_fields.specs.Pointers.{Reads, struct_field, text_field};
 ghost use Rattle.cp_schema_capnp.specs.Field.{field_which_of, field_ordinal_which_of};
 
-use crate::type_::TypeView;
-use crate::value::ValueView;
-use cp_fields::{Item, Past, StructView, TextView, WrongKind};
+use crate::type_::TypeReader;
+use crate::value::ValueReader;
+use cp_fields::{Element, StructReader, TextReader, UnknownEnumerant, WrongKind};
 
 /// Schema for a field of a struct.
 #[derive(Drop)]
-pub struct FieldView<'a> {
+pub struct FieldReader<'a> {
     /// The struct, by the places of its fields.
-    pub body: StructView<'a>,
+    pub body: StructReader<'a>,
 }
 
-impl<'a> Item<'a> for FieldView<'a> {
+impl<'a> Element<'a> for FieldReader<'a> {
     ghost SIZE = { sizes.Composite };
 
     ghost read = { λ t. record { body = t } };
@@ -29,12 +29,12 @@ impl<'a> Item<'a> for FieldView<'a> {
         cp_words::ElementSize::Composite
     }
 
-    fn of_item(item: StructView<'a>) -> FieldView<'a> {
-        FieldView { body: item }
+    fn of_element(item: StructReader<'a>) -> FieldReader<'a> {
+        FieldReader { body: item }
     }
 }
 
-impl<'a> FieldView<'a> {
+impl<'a> FieldReader<'a> {
     /// Which member of the union is set.
     pub fn which(&self) -> FieldWhich
         ensures { result ≡ field_which_of (plain self.now.body 16 4) }
@@ -43,7 +43,7 @@ impl<'a> FieldView<'a> {
     }
 
     /// `name @0`.
-    pub fn name(&self) -> Result<TextView<'a>, WrongKind>
+    pub fn name(&self) -> Result<TextReader<'a>, WrongKind>
         ensures { result ≡ text_field [] (pointee_of self.now.body 0) }
     {
         self.body.text(0)
@@ -58,29 +58,29 @@ impl<'a> FieldView<'a> {
     }
 
     /// A regular, non-group, non-fixed-list field.
-    pub fn slot(&self) -> FieldSlotView<'a>
+    pub fn slot(&self) -> FieldSlotReader<'a>
         ensures { result.body ≡ self.now.body }
     {
-        FieldSlotView {
-            body: self.body.again(),
+        FieldSlotReader {
+            body: self.body.reborrow(),
         }
     }
 
     /// A group.
-    pub fn group(&self) -> FieldGroupView<'a>
+    pub fn group(&self) -> FieldGroupReader<'a>
         ensures { result.body ≡ self.now.body }
     {
-        FieldGroupView {
-            body: self.body.again(),
+        FieldGroupReader {
+            body: self.body.reborrow(),
         }
     }
 
     /// Group `ordinal`.
-    pub fn ordinal(&self) -> FieldOrdinalView<'a>
+    pub fn ordinal(&self) -> FieldOrdinalReader<'a>
         ensures { result.body ≡ self.now.body }
     {
-        FieldOrdinalView {
-            body: self.body.again(),
+        FieldOrdinalReader {
+            body: self.body.reborrow(),
         }
     }
 }
@@ -91,7 +91,7 @@ pub enum FieldWhich {
     Slot,
     Group,
     /// A number that a newer schema has.
-    Unknown(Past<1>),
+    Unknown(UnknownEnumerant<1>),
 }
 
 impl FieldWhich {
@@ -102,7 +102,7 @@ impl FieldWhich {
         match number {
             0 => FieldWhich::Slot,
             1 => FieldWhich::Group,
-            _ => match Past::new(number) {
+            _ => match UnknownEnumerant::new(number) {
                 Some(number) => FieldWhich::Unknown(number),
                 None => unreachable!(),
             },
@@ -112,12 +112,12 @@ impl FieldWhich {
 
 /// A regular, non-group, non-fixed-list field.
 #[derive(Drop)]
-pub struct FieldSlotView<'a> {
+pub struct FieldSlotReader<'a> {
     /// The struct, by the places of its fields.
-    pub body: StructView<'a>,
+    pub body: StructReader<'a>,
 }
 
-impl<'a> FieldSlotView<'a> {
+impl<'a> FieldSlotReader<'a> {
     /// Offset, in units of the field's size, from the beginning of the section in which the field
     /// resides.  E.g. for a UInt32 field, multiply this by 4 to get the byte offset from the
     /// beginning of the data section.
@@ -128,19 +128,19 @@ impl<'a> FieldSlotView<'a> {
     }
 
     /// `type @5`.
-    pub fn type_(&self) -> Result<TypeView<'a>, WrongKind>
+    pub fn type_(&self) -> Result<TypeReader<'a>, WrongKind>
         ensures { Reads result (λ x. x.body) (struct_field (pointee_of self.now.body 2)) }
     {
-        Ok(TypeView {
+        Ok(TypeReader {
             body: self.body.structure(2)?,
         })
     }
 
     /// `defaultValue @6`.
-    pub fn default_value(&self) -> Result<ValueView<'a>, WrongKind>
+    pub fn default_value(&self) -> Result<ValueReader<'a>, WrongKind>
         ensures { Reads result (λ x. x.body) (struct_field (pointee_of self.now.body 3)) }
     {
-        Ok(ValueView {
+        Ok(ValueReader {
             body: self.body.structure(3)?,
         })
     }
@@ -158,12 +158,12 @@ impl<'a> FieldSlotView<'a> {
 
 /// A group.
 #[derive(Drop)]
-pub struct FieldGroupView<'a> {
+pub struct FieldGroupReader<'a> {
     /// The struct, by the places of its fields.
-    pub body: StructView<'a>,
+    pub body: StructReader<'a>,
 }
 
-impl<'a> FieldGroupView<'a> {
+impl<'a> FieldGroupReader<'a> {
     /// The ID of the group's node.
     pub fn type_id(&self) -> u64
         ensures { result ≡ plain self.now.body 64 2 }
@@ -174,12 +174,12 @@ impl<'a> FieldGroupView<'a> {
 
 /// `group Field.ordinal`.
 #[derive(Drop)]
-pub struct FieldOrdinalView<'a> {
+pub struct FieldOrdinalReader<'a> {
     /// The struct, by the places of its fields.
-    pub body: StructView<'a>,
+    pub body: StructReader<'a>,
 }
 
-impl<'a> FieldOrdinalView<'a> {
+impl<'a> FieldOrdinalReader<'a> {
     /// Which member of the union is set.
     pub fn which(&self) -> FieldOrdinalWhich
         ensures { result ≡ field_ordinal_which_of (plain self.now.body 16 5) }
@@ -204,7 +204,7 @@ pub enum FieldOrdinalWhich {
     Implicit,
     Explicit,
     /// A number that a newer schema has.
-    Unknown(Past<1>),
+    Unknown(UnknownEnumerant<1>),
 }
 
 impl FieldOrdinalWhich {
@@ -215,7 +215,7 @@ impl FieldOrdinalWhich {
         match number {
             0 => FieldOrdinalWhich::Implicit,
             1 => FieldOrdinalWhich::Explicit,
-            _ => match Past::new(number) {
+            _ => match UnknownEnumerant::new(number) {
                 Some(number) => FieldOrdinalWhich::Unknown(number),
                 None => unreachable!(),
             },

@@ -14,21 +14,22 @@ mod superclass;
 mod type_;
 mod value;
 
-pub use code_generator_request::CodeGeneratorRequestView;
-pub use code_generator_request_requested_file::CodeGeneratorRequestRequestedFileView;
-pub use code_generator_request_requested_file_import::CodeGeneratorRequestRequestedFileImportView;
-pub use enumerant::EnumerantView;
+pub use code_generator_request::CodeGeneratorRequestReader;
+pub use code_generator_request_requested_file::CodeGeneratorRequestRequestedFileReader;
+pub use code_generator_request_requested_file_import::CodeGeneratorRequestRequestedFileImportReader;
+pub use enumerant::EnumerantReader;
 pub use field::{
-    FieldGroupView, FieldOrdinalView, FieldOrdinalWhich, FieldSlotView, FieldView, FieldWhich,
+    FieldGroupReader, FieldOrdinalReader, FieldOrdinalWhich, FieldReader, FieldSlotReader,
+    FieldWhich,
 };
-pub use method::MethodView;
+pub use method::MethodReader;
 pub use node::{
-    NodeConstView, NodeEnumView, NodeInterfaceView, NodeStructView, NodeView, NodeWhich,
+    NodeConstReader, NodeEnumReader, NodeInterfaceReader, NodeReader, NodeStructReader, NodeWhich,
 };
-pub use node_source_info::NodeSourceInfoView;
-pub use node_source_info_member::NodeSourceInfoMemberView;
-pub use superclass::SuperclassView;
+pub use node_source_info::NodeSourceInfoReader;
+pub use node_source_info_member::NodeSourceInfoMemberReader;
+pub use superclass::SuperclassReader;
 pub use type_::{
-    TypeEnumView, TypeInterfaceView, TypeListView, TypeStructView, TypeView, TypeWhich,
+    TypeEnumReader, TypeInterfaceReader, TypeListReader, TypeReader, TypeStructReader, TypeWhich,
 };
-pub use value::{ValueView, ValueWhich};
+pub use value::{ValueReader, ValueWhich};

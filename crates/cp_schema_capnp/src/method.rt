@@ -6,16 +6,16 @@ ghost use Rattle.cp_tree.specs.Seen.{pointee_of};
 ghost use Rattle.cp_fields.specs.Numbers.{plain};
 ghost use Rattle.cp_fields.specs.Pointers.{text_field};
 
-use cp_fields::{Item, StructView, TextView, WrongKind};
+use cp_fields::{Element, StructReader, TextReader, WrongKind};
 
 /// Schema for method of an interface.
 #[derive(Drop)]
-pub struct MethodView<'a> {
+pub struct MethodReader<'a> {
     /// The struct, by the places of its fields.
-    pub body: StructView<'a>,
+    pub body: StructReader<'a>,
 }
 
-impl<'a> Item<'a> for MethodView<'a> {
+impl<'a> Element<'a> for MethodReader<'a> {
     ghost SIZE = { sizes.Composite };
 
     ghost read = { λ t. record { body = t } };
@@ -26,14 +26,14 @@ impl<'a> Item<'a> for MethodView<'a> {
         cp_words::ElementSize::Composite
     }
 
-    fn of_item(item: StructView<'a>) -> MethodView<'a> {
-        MethodView { body: item }
+    fn of_element(item: StructReader<'a>) -> MethodReader<'a> {
+        MethodReader { body: item }
     }
 }
 
-impl<'a> MethodView<'a> {
+impl<'a> MethodReader<'a> {
     /// `name @0`.
-    pub fn name(&self) -> Result<TextView<'a>, WrongKind>
+    pub fn name(&self) -> Result<TextReader<'a>, WrongKind>
         ensures { result ≡ text_field [] (pointee_of self.now.body 0) }
     {
         self.body.text(0)

@@ -7,22 +7,22 @@ ghost use Rattle.cp_fields.specs.Numbers.{flag, plain};
 ghost use Rattle.cp_fields.specs.Pointers.{Reads, list_field, struct_field, text_field};
 ghost use Rattle.cp_schema_capnp.specs.Node.{node_which_of};
 
-use crate::enumerant::EnumerantView;
-use crate::field::FieldView;
-use crate::method::MethodView;
-use crate::superclass::SuperclassView;
-use crate::type_::TypeView;
-use crate::value::ValueView;
-use cp_fields::{Item, List, Past, StructView, TextView, WrongKind};
+use crate::enumerant::EnumerantReader;
+use crate::field::FieldReader;
+use crate::method::MethodReader;
+use crate::superclass::SuperclassReader;
+use crate::type_::TypeReader;
+use crate::value::ValueReader;
+use cp_fields::{Element, List, StructReader, TextReader, UnknownEnumerant, WrongKind};
 
 /// `struct Node`.
 #[derive(Drop)]
-pub struct NodeView<'a> {
+pub struct NodeReader<'a> {
     /// The struct, by the places of its fields.
-    pub body: StructView<'a>,
+    pub body: StructReader<'a>,
 }
 
-impl<'a> Item<'a> for NodeView<'a> {
+impl<'a> Element<'a> for NodeReader<'a> {
     ghost SIZE = { sizes.Composite };
 
     ghost read = { λ t. record { body = t } };
@@ -33,12 +33,12 @@ impl<'a> Item<'a> for NodeView<'a> {
         cp_words::ElementSize::Composite
     }
 
-    fn of_item(item: StructView<'a>) -> NodeView<'a> {
-        NodeView { body: item }
+    fn of_element(item: StructReader<'a>) -> NodeReader<'a> {
+        NodeReader { body: item }
     }
 }
 
-impl<'a> NodeView<'a> {
+impl<'a> NodeReader<'a> {
     /// Which member of the union is set.
     pub fn which(&self) -> NodeWhich
         ensures { result ≡ node_which_of (plain self.now.body 16 6) }
@@ -57,7 +57,7 @@ impl<'a> NodeView<'a> {
     /// format could change.  It is not guaranteed to be unique.
     ///
     /// (On Zooko's triangle, this is the node's nickname.)
-    pub fn display_name(&self) -> Result<TextView<'a>, WrongKind>
+    pub fn display_name(&self) -> Result<TextReader<'a>, WrongKind>
         ensures { result ≡ text_field [] (pointee_of self.now.body 0) }
     {
         self.body.text(0)
@@ -75,38 +75,38 @@ impl<'a> NodeView<'a> {
     }
 
     /// Group `struct`.
-    pub fn struct_(&self) -> NodeStructView<'a>
+    pub fn struct_(&self) -> NodeStructReader<'a>
         ensures { result.body ≡ self.now.body }
     {
-        NodeStructView {
-            body: self.body.again(),
+        NodeStructReader {
+            body: self.body.reborrow(),
         }
     }
 
     /// Group `enum`.
-    pub fn enum_(&self) -> NodeEnumView<'a>
+    pub fn enum_(&self) -> NodeEnumReader<'a>
         ensures { result.body ≡ self.now.body }
     {
-        NodeEnumView {
-            body: self.body.again(),
+        NodeEnumReader {
+            body: self.body.reborrow(),
         }
     }
 
     /// Group `interface`.
-    pub fn interface(&self) -> NodeInterfaceView<'a>
+    pub fn interface(&self) -> NodeInterfaceReader<'a>
         ensures { result.body ≡ self.now.body }
     {
-        NodeInterfaceView {
-            body: self.body.again(),
+        NodeInterfaceReader {
+            body: self.body.reborrow(),
         }
     }
 
     /// Group `const`.
-    pub fn const_(&self) -> NodeConstView<'a>
+    pub fn const_(&self) -> NodeConstReader<'a>
         ensures { result.body ≡ self.now.body }
     {
-        NodeConstView {
-            body: self.body.again(),
+        NodeConstReader {
+            body: self.body.reborrow(),
         }
     }
 }
@@ -121,7 +121,7 @@ pub enum NodeWhich {
     Const,
     Annotation,
     /// A number that a newer schema has.
-    Unknown(Past<5>),
+    Unknown(UnknownEnumerant<5>),
 }
 
 impl NodeWhich {
@@ -136,7 +136,7 @@ impl NodeWhich {
             3 => NodeWhich::Interface,
             4 => NodeWhich::Const,
             5 => NodeWhich::Annotation,
-            _ => match Past::new(number) {
+            _ => match UnknownEnumerant::new(number) {
                 Some(number) => NodeWhich::Unknown(number),
                 None => unreachable!(),
             },
@@ -146,12 +146,12 @@ impl NodeWhich {
 
 /// `group Node.struct`.
 #[derive(Drop)]
-pub struct NodeStructView<'a> {
+pub struct NodeStructReader<'a> {
     /// The struct, by the places of its fields.
-    pub body: StructView<'a>,
+    pub body: StructReader<'a>,
 }
 
-impl<'a> NodeStructView<'a> {
+impl<'a> NodeStructReader<'a> {
     /// Size of the data section, in words.
     pub fn data_word_count(&self) -> u16
         ensures { result ≡ plain self.now.body 16 7 }
@@ -215,7 +215,7 @@ impl<'a> NodeStructView<'a> {
     /// protocol evolves, since it is not possible to insert or remove an earlier ordinal.
     /// Therefore, for most use cases, if you want to identify a field by number, it may make the
     /// most sense to use the field's index in this list rather than its ordinal.
-    pub fn fields(&self) -> Result<List<'a, FieldView<'a>>, WrongKind>
+    pub fn fields(&self) -> Result<List<'a, FieldReader<'a>>, WrongKind>
         ensures { result ≡ list_field sizes.Composite (pointee_of self.now.body 3) }
     {
         self.body.list(3)
@@ -224,14 +224,14 @@ impl<'a> NodeStructView<'a> {
 
 /// `group Node.enum`.
 #[derive(Drop)]
-pub struct NodeEnumView<'a> {
+pub struct NodeEnumReader<'a> {
     /// The struct, by the places of its fields.
-    pub body: StructView<'a>,
+    pub body: StructReader<'a>,
 }
 
-impl<'a> NodeEnumView<'a> {
+impl<'a> NodeEnumReader<'a> {
     /// Enumerants ordered by numeric value (ordinal).
-    pub fn enumerants(&self) -> Result<List<'a, EnumerantView<'a>>, WrongKind>
+    pub fn enumerants(&self) -> Result<List<'a, EnumerantReader<'a>>, WrongKind>
         ensures { result ≡ list_field sizes.Composite (pointee_of self.now.body 3) }
     {
         self.body.list(3)
@@ -240,21 +240,21 @@ impl<'a> NodeEnumView<'a> {
 
 /// `group Node.interface`.
 #[derive(Drop)]
-pub struct NodeInterfaceView<'a> {
+pub struct NodeInterfaceReader<'a> {
     /// The struct, by the places of its fields.
-    pub body: StructView<'a>,
+    pub body: StructReader<'a>,
 }
 
-impl<'a> NodeInterfaceView<'a> {
+impl<'a> NodeInterfaceReader<'a> {
     /// Methods ordered by ordinal.
-    pub fn methods(&self) -> Result<List<'a, MethodView<'a>>, WrongKind>
+    pub fn methods(&self) -> Result<List<'a, MethodReader<'a>>, WrongKind>
         ensures { result ≡ list_field sizes.Composite (pointee_of self.now.body 3) }
     {
         self.body.list(3)
     }
 
     /// Superclasses of this interface.
-    pub fn superclasses(&self) -> Result<List<'a, SuperclassView<'a>>, WrongKind>
+    pub fn superclasses(&self) -> Result<List<'a, SuperclassReader<'a>>, WrongKind>
         ensures { result ≡ list_field sizes.Composite (pointee_of self.now.body 4) }
     {
         self.body.list(4)
@@ -263,26 +263,26 @@ impl<'a> NodeInterfaceView<'a> {
 
 /// `group Node.const`.
 #[derive(Drop)]
-pub struct NodeConstView<'a> {
+pub struct NodeConstReader<'a> {
     /// The struct, by the places of its fields.
-    pub body: StructView<'a>,
+    pub body: StructReader<'a>,
 }
 
-impl<'a> NodeConstView<'a> {
+impl<'a> NodeConstReader<'a> {
     /// `type @16`.
-    pub fn type_(&self) -> Result<TypeView<'a>, WrongKind>
+    pub fn type_(&self) -> Result<TypeReader<'a>, WrongKind>
         ensures { Reads result (λ x. x.body) (struct_field (pointee_of self.now.body 3)) }
     {
-        Ok(TypeView {
+        Ok(TypeReader {
             body: self.body.structure(3)?,
         })
     }
 
     /// `value @17`.
-    pub fn value(&self) -> Result<ValueView<'a>, WrongKind>
+    pub fn value(&self) -> Result<ValueReader<'a>, WrongKind>
         ensures { Reads result (λ x. x.body) (struct_field (pointee_of self.now.body 4)) }
     {
-        Ok(ValueView {
+        Ok(ValueReader {
             body: self.body.structure(4)?,
         })
     }

@@ -6,20 +6,20 @@ ghost use Rattle.cp_tree.specs.Seen.{pointee_of};
 ghost use Rattle.cp_fields.specs.Numbers.{plain};
 ghost use Rattle.cp_fields.specs.Pointers.{list_field, text_field};
 
-use crate::node_source_info_member::NodeSourceInfoMemberView;
-use cp_fields::{Item, List, StructView, TextView, WrongKind};
+use crate::node_source_info_member::NodeSourceInfoMemberReader;
+use cp_fields::{Element, List, StructReader, TextReader, WrongKind};
 
 /// Additional information about a node which is not needed at runtime, but may be useful for
 /// documentation or debugging purposes. This is kept in a separate struct to make sure it
 /// doesn't accidentally get included in contexts where it is not needed. The
 /// `CodeGeneratorRequest` includes this information in a separate array.
 #[derive(Drop)]
-pub struct NodeSourceInfoView<'a> {
+pub struct NodeSourceInfoReader<'a> {
     /// The struct, by the places of its fields.
-    pub body: StructView<'a>,
+    pub body: StructReader<'a>,
 }
 
-impl<'a> Item<'a> for NodeSourceInfoView<'a> {
+impl<'a> Element<'a> for NodeSourceInfoReader<'a> {
     ghost SIZE = { sizes.Composite };
 
     ghost read = { λ t. record { body = t } };
@@ -30,12 +30,12 @@ impl<'a> Item<'a> for NodeSourceInfoView<'a> {
         cp_words::ElementSize::Composite
     }
 
-    fn of_item(item: StructView<'a>) -> NodeSourceInfoView<'a> {
-        NodeSourceInfoView { body: item }
+    fn of_element(item: StructReader<'a>) -> NodeSourceInfoReader<'a> {
+        NodeSourceInfoReader { body: item }
     }
 }
 
-impl<'a> NodeSourceInfoView<'a> {
+impl<'a> NodeSourceInfoReader<'a> {
     /// ID of the Node which this info describes.
     pub fn id(&self) -> u64
         ensures { result ≡ plain self.now.body 64 0 }
@@ -44,7 +44,7 @@ impl<'a> NodeSourceInfoView<'a> {
     }
 
     /// The top-level doc comment for the Node.
-    pub fn doc_comment(&self) -> Result<TextView<'a>, WrongKind>
+    pub fn doc_comment(&self) -> Result<TextReader<'a>, WrongKind>
         ensures { result ≡ text_field [] (pointee_of self.now.body 0) }
     {
         self.body.text(0)
@@ -55,7 +55,7 @@ impl<'a> NodeSourceInfoView<'a> {
     ///
     /// This list is the same length and order as the corresponding list in the Node, i.e.
     /// Node.struct.fields, Node.enum.enumerants, or Node.interface.methods.
-    pub fn members(&self) -> Result<List<'a, NodeSourceInfoMemberView<'a>>, WrongKind>
+    pub fn members(&self) -> Result<List<'a, NodeSourceInfoMemberReader<'a>>, WrongKind>
         ensures { result ≡ list_field sizes.Composite (pointee_of self.now.body 1) }
     {
         self.body.list(1)

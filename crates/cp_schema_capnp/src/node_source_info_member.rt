@@ -5,16 +5,16 @@ ghost use Rattle.cp_words.specs.declared.pointer.ElementSize.TheVariants as size
 ghost use Rattle.cp_tree.specs.Seen.{pointee_of};
 ghost use Rattle.cp_fields.specs.Pointers.{text_field};
 
-use cp_fields::{Item, StructView, TextView, WrongKind};
+use cp_fields::{Element, StructReader, TextReader, WrongKind};
 
 /// `struct Node.SourceInfo.Member`.
 #[derive(Drop)]
-pub struct NodeSourceInfoMemberView<'a> {
+pub struct NodeSourceInfoMemberReader<'a> {
     /// The struct, by the places of its fields.
-    pub body: StructView<'a>,
+    pub body: StructReader<'a>,
 }
 
-impl<'a> Item<'a> for NodeSourceInfoMemberView<'a> {
+impl<'a> Element<'a> for NodeSourceInfoMemberReader<'a> {
     ghost SIZE = { sizes.Composite };
 
     ghost read = { λ t. record { body = t } };
@@ -25,14 +25,14 @@ impl<'a> Item<'a> for NodeSourceInfoMemberView<'a> {
         cp_words::ElementSize::Composite
     }
 
-    fn of_item(item: StructView<'a>) -> NodeSourceInfoMemberView<'a> {
-        NodeSourceInfoMemberView { body: item }
+    fn of_element(item: StructReader<'a>) -> NodeSourceInfoMemberReader<'a> {
+        NodeSourceInfoMemberReader { body: item }
     }
 }
 
-impl<'a> NodeSourceInfoMemberView<'a> {
+impl<'a> NodeSourceInfoMemberReader<'a> {
     /// Doc comment on the member.
-    pub fn doc_comment(&self) -> Result<TextView<'a>, WrongKind>
+    pub fn doc_comment(&self) -> Result<TextReader<'a>, WrongKind>
         ensures { result ≡ text_field [] (pointee_of self.now.body 0) }
     {
         self.body.text(0)

@@ -4,16 +4,16 @@ ghost use Rattle.std.specs.Prelude.{◌≡◌};
 ghost use Rattle.cp_words.specs.declared.pointer.ElementSize.TheVariants as sizes;
 ghost use Rattle.cp_fields.specs.Numbers.{plain};
 
-use cp_fields::{Item, StructView};
+use cp_fields::{Element, StructReader};
 
 /// `struct Superclass`.
 #[derive(Drop)]
-pub struct SuperclassView<'a> {
+pub struct SuperclassReader<'a> {
     /// The struct, by the places of its fields.
-    pub body: StructView<'a>,
+    pub body: StructReader<'a>,
 }
 
-impl<'a> Item<'a> for SuperclassView<'a> {
+impl<'a> Element<'a> for SuperclassReader<'a> {
     ghost SIZE = { sizes.Composite };
 
     ghost read = { λ t. record { body = t } };
@@ -24,12 +24,12 @@ impl<'a> Item<'a> for SuperclassView<'a> {
         cp_words::ElementSize::Composite
     }
 
-    fn of_item(item: StructView<'a>) -> SuperclassView<'a> {
-        SuperclassView { body: item }
+    fn of_element(item: StructReader<'a>) -> SuperclassReader<'a> {
+        SuperclassReader { body: item }
     }
 }
 
-impl<'a> SuperclassView<'a> {
+impl<'a> SuperclassReader<'a> {
     /// `id @0`.
     pub fn id(&self) -> u64
         ensures { result ≡ plain self.now.body 64 0 }

@@ -7,16 +7,16 @@ ghost use Rattle.cp_fields.specs.Numbers.{plain};
 ghost use Rattle.cp_fields.specs.Pointers.{Reads, struct_field};
 ghost use Rattle.cp_schema_capnp.specs.Type_.{type_which_of};
 
-use cp_fields::{Item, Past, StructView, WrongKind};
+use cp_fields::{Element, StructReader, UnknownEnumerant, WrongKind};
 
 /// Represents a type expression.
 #[derive(Drop)]
-pub struct TypeView<'a> {
+pub struct TypeReader<'a> {
     /// The struct, by the places of its fields.
-    pub body: StructView<'a>,
+    pub body: StructReader<'a>,
 }
 
-impl<'a> Item<'a> for TypeView<'a> {
+impl<'a> Element<'a> for TypeReader<'a> {
     ghost SIZE = { sizes.Composite };
 
     ghost read = { λ t. record { body = t } };
@@ -27,12 +27,12 @@ impl<'a> Item<'a> for TypeView<'a> {
         cp_words::ElementSize::Composite
     }
 
-    fn of_item(item: StructView<'a>) -> TypeView<'a> {
-        TypeView { body: item }
+    fn of_element(item: StructReader<'a>) -> TypeReader<'a> {
+        TypeReader { body: item }
     }
 }
 
-impl<'a> TypeView<'a> {
+impl<'a> TypeReader<'a> {
     /// Which member of the union is set.
     pub fn which(&self) -> TypeWhich
         ensures { result ≡ type_which_of (plain self.now.body 16 0) }
@@ -41,38 +41,38 @@ impl<'a> TypeView<'a> {
     }
 
     /// Group `list`.
-    pub fn list(&self) -> TypeListView<'a>
+    pub fn list(&self) -> TypeListReader<'a>
         ensures { result.body ≡ self.now.body }
     {
-        TypeListView {
-            body: self.body.again(),
+        TypeListReader {
+            body: self.body.reborrow(),
         }
     }
 
     /// Group `enum`.
-    pub fn enum_(&self) -> TypeEnumView<'a>
+    pub fn enum_(&self) -> TypeEnumReader<'a>
         ensures { result.body ≡ self.now.body }
     {
-        TypeEnumView {
-            body: self.body.again(),
+        TypeEnumReader {
+            body: self.body.reborrow(),
         }
     }
 
     /// Group `struct`.
-    pub fn struct_(&self) -> TypeStructView<'a>
+    pub fn struct_(&self) -> TypeStructReader<'a>
         ensures { result.body ≡ self.now.body }
     {
-        TypeStructView {
-            body: self.body.again(),
+        TypeStructReader {
+            body: self.body.reborrow(),
         }
     }
 
     /// Group `interface`.
-    pub fn interface(&self) -> TypeInterfaceView<'a>
+    pub fn interface(&self) -> TypeInterfaceReader<'a>
         ensures { result.body ≡ self.now.body }
     {
-        TypeInterfaceView {
-            body: self.body.again(),
+        TypeInterfaceReader {
+            body: self.body.reborrow(),
         }
     }
 }
@@ -100,7 +100,7 @@ pub enum TypeWhich {
     Interface,
     AnyPointer,
     /// A number that a newer schema has.
-    Unknown(Past<18>),
+    Unknown(UnknownEnumerant<18>),
 }
 
 impl TypeWhich {
@@ -128,7 +128,7 @@ impl TypeWhich {
             16 => TypeWhich::Struct,
             17 => TypeWhich::Interface,
             18 => TypeWhich::AnyPointer,
-            _ => match Past::new(number) {
+            _ => match UnknownEnumerant::new(number) {
                 Some(number) => TypeWhich::Unknown(number),
                 None => unreachable!(),
             },
@@ -138,17 +138,17 @@ impl TypeWhich {
 
 /// `group Type.list`.
 #[derive(Drop)]
-pub struct TypeListView<'a> {
+pub struct TypeListReader<'a> {
     /// The struct, by the places of its fields.
-    pub body: StructView<'a>,
+    pub body: StructReader<'a>,
 }
 
-impl<'a> TypeListView<'a> {
+impl<'a> TypeListReader<'a> {
     /// `elementType @14`.
-    pub fn element_type(&self) -> Result<TypeView<'a>, WrongKind>
+    pub fn element_type(&self) -> Result<TypeReader<'a>, WrongKind>
         ensures { Reads result (λ x. x.body) (struct_field (pointee_of self.now.body 0)) }
     {
-        Ok(TypeView {
+        Ok(TypeReader {
             body: self.body.structure(0)?,
         })
     }
@@ -156,12 +156,12 @@ impl<'a> TypeListView<'a> {
 
 /// `group Type.enum`.
 #[derive(Drop)]
-pub struct TypeEnumView<'a> {
+pub struct TypeEnumReader<'a> {
     /// The struct, by the places of its fields.
-    pub body: StructView<'a>,
+    pub body: StructReader<'a>,
 }
 
-impl<'a> TypeEnumView<'a> {
+impl<'a> TypeEnumReader<'a> {
     /// `typeId @15`.
     pub fn type_id(&self) -> u64
         ensures { result ≡ plain self.now.body 64 1 }
@@ -172,12 +172,12 @@ impl<'a> TypeEnumView<'a> {
 
 /// `group Type.struct`.
 #[derive(Drop)]
-pub struct TypeStructView<'a> {
+pub struct TypeStructReader<'a> {
     /// The struct, by the places of its fields.
-    pub body: StructView<'a>,
+    pub body: StructReader<'a>,
 }
 
-impl<'a> TypeStructView<'a> {
+impl<'a> TypeStructReader<'a> {
     /// `typeId @16`.
     pub fn type_id(&self) -> u64
         ensures { result ≡ plain self.now.body 64 1 }
@@ -188,12 +188,12 @@ impl<'a> TypeStructView<'a> {
 
 /// `group Type.interface`.
 #[derive(Drop)]
-pub struct TypeInterfaceView<'a> {
+pub struct TypeInterfaceReader<'a> {
     /// The struct, by the places of its fields.
-    pub body: StructView<'a>,
+    pub body: StructReader<'a>,
 }
 
-impl<'a> TypeInterfaceView<'a> {
+impl<'a> TypeInterfaceReader<'a> {
     /// `typeId @17`.
     pub fn type_id(&self) -> u64
         ensures { result ≡ plain self.now.body 64 1 }

@@ -7,16 +7,18 @@ ghost use Rattle.cp_fields.specs.Numbers.{flag, plain};
 ghost use Rattle.cp_fields.specs.Pointers.{data_field, text_field};
 ghost use Rattle.cp_schema_capnp.specs.Value.{value_which_of};
 
-use cp_fields::{DataView, Item, Past, Pointee, StructView, TextView, WrongKind};
+use cp_fields::{
+    DataReader, Element, PointerReader, StructReader, TextReader, UnknownEnumerant, WrongKind,
+};
 
 /// Represents a value, e.g. a field default value, constant value, or annotation value.
 #[derive(Drop)]
-pub struct ValueView<'a> {
+pub struct ValueReader<'a> {
     /// The struct, by the places of its fields.
-    pub body: StructView<'a>,
+    pub body: StructReader<'a>,
 }
 
-impl<'a> Item<'a> for ValueView<'a> {
+impl<'a> Element<'a> for ValueReader<'a> {
     ghost SIZE = { sizes.Composite };
 
     ghost read = { λ t. record { body = t } };
@@ -27,12 +29,12 @@ impl<'a> Item<'a> for ValueView<'a> {
         cp_words::ElementSize::Composite
     }
 
-    fn of_item(item: StructView<'a>) -> ValueView<'a> {
-        ValueView { body: item }
+    fn of_element(item: StructReader<'a>) -> ValueReader<'a> {
+        ValueReader { body: item }
     }
 }
 
-impl<'a> ValueView<'a> {
+impl<'a> ValueReader<'a> {
     /// Which member of the union is set.
     pub fn which(&self) -> ValueWhich
         ensures { result ≡ value_which_of (plain self.now.body 16 0) }
@@ -76,21 +78,21 @@ impl<'a> ValueView<'a> {
     }
 
     /// `text @12`.
-    pub fn text(&self) -> Result<TextView<'a>, WrongKind>
+    pub fn text(&self) -> Result<TextReader<'a>, WrongKind>
         ensures { result ≡ text_field [] (pointee_of self.now.body 0) }
     {
         self.body.text(0)
     }
 
     /// `data @13`.
-    pub fn data_(&self) -> Result<DataView<'a>, WrongKind>
+    pub fn data_(&self) -> Result<DataReader<'a>, WrongKind>
         ensures { result ≡ data_field [] (pointee_of self.now.body 0) }
     {
         self.body.data(0)
     }
 
     /// `list @14`.
-    pub fn list(&self) -> Pointee<'a>
+    pub fn list(&self) -> PointerReader<'a>
         ensures { result ≡ pointee_of self.now.body 0 }
     {
         self.body.pointer(0)
@@ -120,7 +122,7 @@ pub enum ValueWhich {
     Interface,
     AnyPointer,
     /// A number that a newer schema has.
-    Unknown(Past<18>),
+    Unknown(UnknownEnumerant<18>),
 }
 
 impl ValueWhich {
@@ -148,7 +150,7 @@ impl ValueWhich {
             16 => ValueWhich::Struct,
             17 => ValueWhich::Interface,
             18 => ValueWhich::AnyPointer,
-            _ => match Past::new(number) {
+            _ => match UnknownEnumerant::new(number) {
                 Some(number) => ValueWhich::Unknown(number),
                 None => unreachable!(),
             },

@@ -26,16 +26,16 @@ module _ {I Z : Type 0} {F : I → Type 0} (b : DynBox I Z F) where
   same_box {p} {q} same w is = ap (λ (v : F p.0). holding b p.0 v) is ∙ ap (λ (r : (k : I) × F k). holding b r.0 r.1) same
 
   -- what is asked, or nothing is
-  pub boxed_asks : {T E : Type 0} (P : (k : I) → F k → Option T → F k → Type 0) (r : Result (Option T) E) {p q : (k : I) × F k} → p ≡ q → (w : F p.0)
+  pub boxed_next_calls : {T E : Type 0} (P : (k : I) → F k → Option T → F k → Type 0) (r : Result (Option T) E) {p q : (k : I) × F k} → p ≡ q → (w : F p.0)
       → IfOk r (λ t. P p.0 p.1 t w ⊎ ((t ≡ None) × (w ≡ p.1)))
       → IfOk r (λ t. ((v : F q.0) × (holding b p.0 w ≡ holding b q.0 v) × P q.0 q.1 t v) ⊎ ((t ≡ None) × (holding b p.0 w ≡ holding b q.0 q.1)))
-  boxed_asks P (Ok t) same w (inl holds) = inl (boxed (λ k old new. P k old t new) same w holds)
-  boxed_asks P (Ok t) same w (inr none) = inr (none.0, same_box same w none.1)
-  boxed_asks P (Err e) same w holds = tt
+  boxed_next_calls P (Ok t) same w (inl holds) = inl (boxed (λ k old new. P k old t new) same w holds)
+  boxed_next_calls P (Ok t) same w (inr none) = inr (none.0, same_box same w none.1)
+  boxed_next_calls P (Err e) same w holds = tt
 
   -- what is told, or nothing changes
-  pub boxed_told : {T E : Type 0} (P : (k : I) → F k → F k → Type 0) (r : Result T E) {p q : (k : I) × F k} → p ≡ q → (w : F p.0) → OnOk r (P p.0 p.1 w ⊎ (w ≡ p.1))
+  pub boxed_on_response : {T E : Type 0} (P : (k : I) → F k → F k → Type 0) (r : Result T E) {p q : (k : I) × F k} → p ≡ q → (w : F p.0) → OnOk r (P p.0 p.1 w ⊎ (w ≡ p.1))
       → OnOk r (((v : F q.0) × (holding b p.0 w ≡ holding b q.0 v) × P q.0 q.1 v) ⊎ (holding b p.0 w ≡ holding b q.0 q.1))
-  boxed_told P (Ok t) same w (inl holds) = inl (boxed P same w holds)
-  boxed_told P (Ok t) same w (inr is) = inr (same_box same w is)
-  boxed_told P (Err e) same w holds = tt
+  boxed_on_response P (Ok t) same w (inl holds) = inl (boxed P same w holds)
+  boxed_on_response P (Ok t) same w (inr is) = inr (same_box same w is)
+  boxed_on_response P (Err e) same w holds = tt

@@ -5,4 +5,4 @@ pub mod Samples
 pub mod Sample
 pub mod Naming
 pub mod Made
-pub mod ContentFields
+pub mod PayloadFields

@@ -9,8 +9,8 @@ use Rattle.cp_refs.specs.declared.cap.Cap.{Cap}
 use Rattle.cp_refs.specs.contracts.cap.Cap as cap
 use Rattle.cp_refs.specs.declared.outcome.Outcome.{Outcome}
 use Rattle.cp_refs.specs.declared.outcome.Outcome.TheVariants as outcomes
-use Rattle.cp_builder.specs.declared.fault.DraftFault.{DraftFault}
-use Rattle.cp_builder.specs.declared.fault.DraftFault.TheVariants as drafts
+use Rattle.cp_builder.specs.declared.fault.BuildError.{BuildError}
+use Rattle.cp_builder.specs.declared.fault.BuildError.TheVariants as drafts
 use Rattle.cp_servants.specs.Outcomes.{results_too_long}
 
 -- The data words, what the pointers stand for, and the capabilities that these name.
@@ -36,7 +36,7 @@ abbrev pub content_of : Made → Node
 content_of made = struct made.words (nodes_of made.pointers)
 
 -- The outcome is the results, if they were made; or the call fails, since no message can hold them. Where memory ran out there is none.
-abbrev pub ComesTo : Result Made DraftFault → Outcome → Type 0
+abbrev pub ComesTo : Result Made BuildError → Outcome → Type 0
 ComesTo (Ok made) outcome = outcome ≡ outcomes.Results (content_of made) made.caps
 ComesTo (Err drafts.TooLong) outcome = outcome ≡ results_too_long
 ComesTo (Err drafts.OutOfMemory) outcome = ⊥

@@ -28,15 +28,15 @@ abbrev pub object_results : ℕ → Outcome
 object_results k = outcomes.Results (struct [] (node (cap 0) no_nodes)) (caps.Object k ∷ [])
 
 -- the call is one of this method of this interface
-abbrev pub asks_for : Request → ℕ → ℕ → Bool
-asks_for request interface method = request.interface == interface && request.method == method
+abbrev pub next_calls_for : Request → ℕ → ℕ → Bool
+next_calls_for request interface method = request.interface == interface && request.method == method
 
 -- The Desk gives out object 1: by method 0 at once, by method 1 later.
 abbrev pub desk_takes : List Due → ℕ → Request → Reply × List Due
 desk_takes due ticket request =
     let imports = named_imports request.caps in
-    if asks_for request 0xe5a1000000000001 0 then (replies.Now (object_results 1) imports, due)
-    else (if asks_for request 0xe5a1000000000001 1 then (replies.Later, due ++ record { ticket = ticket; polls = 2; imports = imports } ∷ [])
+    if next_calls_for request 0xe5a1000000000001 0 then (replies.Now (object_results 1) imports, due)
+    else (if next_calls_for request 0xe5a1000000000001 1 then (replies.Later, due ++ record { ticket = ticket; polls = 2; imports = imports } ∷ [])
     else (replies.Now no_such_method imports, due))
 
 -- one poll less goes by before a call's turn
@@ -93,4 +93,4 @@ MayGoOn (script replies (first ∷ more)) = Unit {0}
 
 -- the kind of samples, which make no calls and are told of none
 abbrev pub samples : Kind Seen
-samples = record { takes = Takes; polls = Polls; asks = λ old ask new. ⊥; is_told = λ old mark outcome new. ⊥; may_go_on = MayGoOn }
+samples = record { takes = Takes; polls = Polls; next_calls = λ old next_call new. ⊥; on_response = λ old call_id outcome new. ⊥; may_go_on = MayGoOn }

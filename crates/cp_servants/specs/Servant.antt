@@ -3,17 +3,17 @@ use Rattle.std.specs.Prelude.{◌≡◌, ◌⊎◌, ℕ, List, [], ◌∷◌, �
 use Rattle.std.specs.declared.dyn_box.DynBox.{DynBox}
 use Rattle.cp_refs.specs.declared.call.Request.{Request}
 use Rattle.cp_refs.specs.declared.outcome.Outcome.{Outcome}
-use Rattle.cp_servants.specs.declared.servant.Ask.{Ask}
+use Rattle.cp_servants.specs.declared.servant.OutgoingCall.{OutgoingCall}
 use Rattle.cp_servants.specs.declared.servant.Reply.{Reply}
 use Rattle.cp_servants.specs.declared.servant.Settled.{Settled}
 
 -- What objects of one kind do: what each of these does to an object, and what it gives. An object is called under a ticket; it is polled; it says which call
--- it makes next; it is told what its call of a mark came to. And whether a further poll may give more, though nothing more comes.
+-- it makes next; it is told what its call of a number came to. And whether a further poll may give more, though nothing more comes.
 pub record Kind (A : Type 0) : Type 1 where
   pub takes : A → ℕ → Request → Reply → A → Type 0
   pub polls : A → Option Settled → A → Type 0
-  pub asks : A → Option Ask → A → Type 0
-  pub is_told : A → ℕ → Outcome → A → Type 0
+  pub next_calls : A → Option OutgoingCall → A → Type 0
+  pub on_response : A → ℕ → Outcome → A → Type 0
   pub may_go_on : A → Type 0
 
 -- Of objects of any kind nothing is said.
@@ -21,8 +21,8 @@ abbrev pub any : {A : Type 0} → Kind A
 any = record {
   takes = λ old ticket request reply new. Unit {0};
   polls = λ old settled new. Unit {0};
-  asks = λ old ask new. Unit {0};
-  is_told = λ old mark outcome new. Unit {0};
+  next_calls = λ old next_call new. Unit {0};
+  on_response = λ old call_id outcome new. Unit {0};
   may_go_on = λ object. Unit {0};
 }
 
@@ -31,8 +31,8 @@ abbrev pub seen_as : {A B : Type 0} → (A → B) → Kind B → Kind A
 seen_as seen kind = record {
   takes = λ old ticket request reply new. kind.takes (seen old) ticket request reply (seen new);
   polls = λ old settled new. kind.polls (seen old) settled (seen new);
-  asks = λ old ask new. kind.asks (seen old) ask (seen new);
-  is_told = λ old mark outcome new. kind.is_told (seen old) mark outcome (seen new);
+  next_calls = λ old next_call new. kind.next_calls (seen old) next_call (seen new);
+  on_response = λ old call_id outcome new. kind.on_response (seen old) call_id outcome (seen new);
   may_go_on = λ object. kind.may_go_on (seen object);
 }
 
@@ -45,8 +45,8 @@ abbrev pub boxed : {I Z : Type 0} {F : I → Type 0} → ((b : DynBox I Z F) →
 boxed kind = record {
   takes = λ old ticket request reply new. ChangesIn old new (λ before after. (kind old).takes before ticket request reply after);
   polls = λ old settled new. ChangesIn old new (λ before after. (kind old).polls before settled after);
-  asks = λ old ask new. ChangesIn old new (λ before after. (kind old).asks before ask after);
-  is_told = λ old mark outcome new. ChangesIn old new (λ before after. (kind old).is_told before mark outcome after);
+  next_calls = λ old next_call new. ChangesIn old new (λ before after. (kind old).next_calls before next_call after);
+  on_response = λ old call_id outcome new. ChangesIn old new (λ before after. (kind old).on_response before call_id outcome after);
   may_go_on = λ b. (kind b).may_go_on b.value;
 }
 
@@ -64,12 +64,12 @@ pub record ChangesAt {A : Type 0} (P : A → A → Type 0) (old : List A) (place
 -- Of objects of one kind.
 module _ {A : Type 0} (kind : Kind A) where
   -- An object said which call it makes next, as its kind says; or it makes none, and is as it was.
-  abbrev pub Asks : A → Option Ask → A → Type 0
-  Asks old ask new = kind.asks old ask new ⊎ ((ask ≡ None) × (new ≡ old))
+  abbrev pub NextCalls : A → Option OutgoingCall → A → Type 0
+  NextCalls old next_call new = kind.next_calls old next_call new ⊎ ((next_call ≡ None) × (new ≡ old))
 
-  -- An object was told what its call of this mark came to, as its kind says; or it is as it was.
-  abbrev pub IsTold : A → ℕ → Outcome → A → Type 0
-  IsTold old mark outcome new = kind.is_told old mark outcome new ⊎ (new ≡ old)
+  -- An object was told what its call of this number came to, as its kind says; or it is as it was.
+  abbrev pub OnResponse : A → ℕ → Outcome → A → Type 0
+  OnResponse old call_id outcome new = kind.on_response old call_id outcome new ⊎ (new ≡ old)
 
   -- the object at this place was called under this ticket, and replied this
   abbrev pub CallsAt : ℕ → ℕ → Request → Reply → List A → List A → Type 0
@@ -80,12 +80,12 @@ module _ {A : Type 0} (kind : Kind A) where
   PollsAt place settled old new = ChangesAt (λ before after. kind.polls before settled after) old place new
 
   -- the object at this place said that this is the call that it makes next
-  abbrev pub AsksAt : ℕ → Option Ask → List A → List A → Type 0
-  AsksAt place ask old new = ChangesAt (λ before after. Asks before ask after) old place new
+  abbrev pub NextCallsAt : ℕ → Option OutgoingCall → List A → List A → Type 0
+  NextCallsAt place next_call old new = ChangesAt (λ before after. NextCalls before next_call after) old place new
 
-  -- the object at this place was told that its call of this mark came to this
-  abbrev pub TellsAt : ℕ → ℕ → Outcome → List A → List A → Type 0
-  TellsAt place mark outcome old new = ChangesAt (λ before after. IsTold before mark outcome after) old place new
+  -- the object at this place was told that its call of this number came to this
+  abbrev pub OnResponseAt : ℕ → ℕ → Outcome → List A → List A → Type 0
+  OnResponseAt place call_id outcome old new = ChangesAt (λ before after. OnResponse before call_id outcome after) old place new
 
   -- one of these objects may give more
   abbrev pub SomeMaySayMore : List A → Type 0

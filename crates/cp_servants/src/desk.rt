@@ -115,7 +115,7 @@ impl Servant for Desk {
         }))
     }
 
-    fn again(&self) -> bool {
+    fn has_more(&self) -> bool {
         !self.due.is_empty()
     }
 }

@@ -4,10 +4,10 @@
 
 mod awaited;
 mod cell;
-mod content;
-mod content_fields;
 mod desk;
 mod outcomes;
+mod payload_builder;
+mod payload_fields;
 mod placed;
 mod request;
 mod sample;
@@ -17,12 +17,12 @@ mod servant;
 
 pub use awaited::Awaited;
 pub use cell::Cell;
-pub use content::{Content, outcome_of};
-pub use content_fields::{data_in, results_of, text_in, word_in};
 pub use desk::Desk;
 pub use outcomes::{bad_outcome, named_imports, no_such_method, no_such_object, refused_call};
-pub use placed::{any_again, ask_at, call_at, call_view_at, poll_at, tell_at};
+pub use payload_builder::{PayloadBuilder, outcome_of};
+pub use payload_fields::{data_in, results_of, text_in, word_in};
+pub use placed::{any_has_more, call_at, call_view_at, next_call_at, on_response_at, poll_at};
 pub use request::RequestView;
 pub use sample::Sample;
 pub use script::Script;
-pub use servant::{Ask, Reply, Servant, Settled};
+pub use servant::{OutgoingCall, Reply, Servant, Settled};

@@ -2,10 +2,10 @@
 
 ghost use Rattle.std.specs.Prelude.{◌≡◌, ◌<◌, IfOk, OnOk, length, true};
 ghost use Rattle.cp_servants.specs.Requests.{request_of};
-ghost use Rattle.cp_servants.specs.Servant.{AsksAt, CallsAt, PollsAt, TellsAt, SomeMaySayMore};
+ghost use Rattle.cp_servants.specs.Servant.{NextCallsAt, CallsAt, PollsAt, OnResponseAt, SomeMaySayMore};
 
 use crate::request::RequestView;
-use crate::servant::{Ask, Reply, Servant, Settled};
+use crate::servant::{OutgoingCall, Reply, Servant, Settled};
 use cp_refs::{Outcome, Request};
 use std::alloc::{AllocError, Global};
 
@@ -48,34 +48,37 @@ pub fn poll_at<O: Servant>(objects: &mut [O], place: usize) -> Result<Option<Set
 }
 
 /// The next call that the object at a place makes. `Err`: memory ran out for it.
-pub fn ask_at<O: Servant>(objects: &mut [O], place: usize) -> Result<Option<Ask>, AllocError>
+pub fn next_call_at<O: Servant>(
+    objects: &mut [O],
+    place: usize,
+) -> Result<Option<OutgoingCall>, AllocError>
     requires { place < length objects.old }
-    ensures { IfOk result (λ ask. AsksAt O.kind place ask objects.old objects.new) }
+    ensures { IfOk result (λ call. NextCallsAt O.kind place call objects.old objects.new) }
 {
-    let ask = objects[place].ask()?;
-    Ok(ask)
+    let next_call = objects[place].next_call()?;
+    Ok(next_call)
 }
 
 /// Tells the object at a place what a call of its own came to. `Err`: memory ran out for it.
-pub fn tell_at<O: Servant>(
+pub fn on_response_at<O: Servant>(
     objects: &mut [O],
     place: usize,
-    mark: u64,
+    call_id: u64,
     outcome: Outcome,
 ) -> Result<(), AllocError>
     requires { place < length objects.old }
-    ensures { OnOk result (TellsAt O.kind place mark outcome objects.old objects.new) }
+    ensures { OnOk result (OnResponseAt O.kind place call_id outcome objects.old objects.new) }
 {
-    objects[place].told(mark, outcome)?;
+    objects[place].on_response(call_id, outcome)?;
     Ok(())
 }
 
 /// Whether one of the objects may give more though nothing more comes: then poll again before you wait for the peer.
-pub fn any_again<O: Servant>(objects: &[O]) -> bool
+pub fn any_has_more<O: Servant>(objects: &[O]) -> bool
     ensures { result ≡ true → SomeMaySayMore O.kind objects.now }
 {
     for object in objects {
-        if object.again() {
+        if object.has_more() {
             return true;
         }
     }

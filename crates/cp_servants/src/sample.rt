@@ -50,11 +50,11 @@ impl Servant for Sample {
         }
     }
 
-    fn again(&self) -> bool {
+    fn has_more(&self) -> bool {
         match self {
-            Sample::Desk(desk) => desk.again(),
-            Sample::Cell(cell) => cell.again(),
-            Sample::Script(script) => script.again(),
+            Sample::Desk(desk) => desk.has_more(),
+            Sample::Cell(cell) => cell.has_more(),
+            Sample::Script(script) => script.has_more(),
         }
     }
 }

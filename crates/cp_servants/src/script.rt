@@ -44,7 +44,7 @@ impl Servant for Script {
         }
     }
 
-    fn again(&self) -> bool {
+    fn has_more(&self) -> bool {
         !self.settled.is_empty()
     }
 }

@@ -2,7 +2,7 @@
 
 ghost use Rattle.std.specs.Prelude.{◌≡◌, true, IfOk, OnOk};
 ghost use Rattle.cp_servants.specs.Requests.{request_of};
-ghost use Rattle.cp_servants.specs.Servant.{Kind, any, Asks, IsTold};
+ghost use Rattle.cp_servants.specs.Servant.{Kind, any, NextCalls, OnResponse};
 
 use crate::request::RequestView;
 use cp_refs::{Cap, Outcome, Request};
@@ -31,12 +31,12 @@ pub struct Settled {
 /// A call that an object makes.
 /// Objects are asked for calls and don't get the connection: so they need no lifetime, and no call comes in the middle of another.
 #[derive(Drop)]
-pub struct Ask {
+pub struct OutgoingCall {
     /// An import that the object was given, or an object or a promise of this end.
     pub cap: Cap,
     pub request: Request,
     /// With it the object is told what the call came to.
-    pub mark: u64,
+    pub call_id: u64,
 }
 
 /// An object that answers calls, at once or when it is polled. `Err` ends the serving.
@@ -68,7 +68,7 @@ pub trait Servant: Drop {
 
     /// Whether a further poll may give more, though nothing more comes to the object: then a driver that could wait
     /// for its peer polls again first. `serve` asks no object for this, as its rounds follow the messages.
-    fn again(&self) -> bool
+    fn has_more(&self) -> bool
         ensures { result ≡ true → kind.may_go_on self.now }
     {
         // The contract says when it may be true, not when it must be, so this body serves any object.
@@ -77,19 +77,19 @@ pub trait Servant: Drop {
 
     /// The next call that the object makes, if it makes one more. A driver that lets objects call asks for these after
     /// each call, poll and outcome that the object got, until there is none. `serve` lets none call.
-    fn ask(&mut self) -> Result<Option<Ask>, AllocError>
-        ensures { IfOk result (λ ask. Asks kind self.old ask self.new) }
+    fn next_call(&mut self) -> Result<Option<OutgoingCall>, AllocError>
+        ensures { IfOk result (λ call. NextCalls kind self.old call self.new) }
     {
         // The contract allows this of every kind, so this body serves any object.
         Ok(None)
     }
 
-    /// What a call of the object's came to, with the call's mark. The question is finished then: its imports stay until
+    /// What a call of the object's came to, with the call's number. The question is finished then: its imports stay until
     /// the object gives them up.
-    fn told(&mut self, mark: u64, outcome: Outcome) -> Result<(), AllocError>
-        ensures { OnOk result (IsTold kind self.old mark outcome self.new) }
+    fn on_response(&mut self, call_id: u64, outcome: Outcome) -> Result<(), AllocError>
+        ensures { OnOk result (OnResponse kind self.old call_id outcome self.new) }
     {
-        let _ = (mark, outcome);
+        let _ = (call_id, outcome);
         Ok(())
     }
 }
@@ -117,15 +117,15 @@ impl Servant for Box<dyn Servant> {
         (**self).poll()
     }
 
-    fn again(&self) -> bool {
-        (**self).again()
+    fn has_more(&self) -> bool {
+        (**self).has_more()
     }
 
-    fn ask(&mut self) -> Result<Option<Ask>, AllocError> {
-        (**self).ask()
+    fn next_call(&mut self) -> Result<Option<OutgoingCall>, AllocError> {
+        (**self).next_call()
     }
 
-    fn told(&mut self, mark: u64, outcome: Outcome) -> Result<(), AllocError> {
-        (**self).told(mark, outcome)
+    fn on_response(&mut self, call_id: u64, outcome: Outcome) -> Result<(), AllocError> {
+        (**self).on_response(call_id, outcome)
     }
 }

@@ -11,8 +11,8 @@ use Rattle.cp_tables.specs.declared.exchange.Stage.TheVariants as stages
 use Rattle.cp_messages.specs.Written.{message_written}
 use Rattle.cp_messages.specs.declared.call.Call.{Call}
 use Rattle.cp_messages.specs.declared.descriptor.Descriptor.{Descriptor}
-use Rattle.cp_messages.specs.declared.disembargo.Context.{Context}
-use Rattle.cp_messages.specs.declared.disembargo.Context.TheVariants as contexts
+use Rattle.cp_messages.specs.declared.disembargo.DisembargoContext.{DisembargoContext}
+use Rattle.cp_messages.specs.declared.disembargo.DisembargoContext.TheVariants as contexts
 use Rattle.cp_messages.specs.declared.message.Message.{Message}
 use Rattle.cp_messages.specs.declared.message.Message.TheVariants as messages
 use Rattle.cp_messages.specs.declared.resolve.Resolution.{Resolution}
@@ -43,7 +43,7 @@ use Rattle.cp_vat_machine.specs.Capacity.{has_capacity, Fresh, message_fits}
 use Rattle.cp_vat_machine.specs.Writing.{WritesDescriptors, promised}
 use Rattle.cp_vat_machine.specs.Receiving.{answer_of, path_of, release_exports, released, ReceivesCaps}
 use Rattle.cp_vat_machine.specs.Give.{ResolvesEnd, Tells, settled, value_for, last_for, Settle, SettleTied, Returns, given, gone, GiveBy, GiveAnswer, GiveOwnBy, Give, without_question}
-use Rattle.cp_vat_machine.specs.Go.{Underway, underway, finish_of, finish_after, GoOut, Go, GoTo, Leave, stays, leaves, finds_table_full, without_call, IsNext}
+use Rattle.cp_vat_machine.specs.Go.{PendingCall, underway, finish_of, finish_after, GoOut, Go, GoTo, Leave, stays, leaves, finds_table_full, without_call, IsNext}
 use Rattle.cp_vat_machine.specs.InUse.{is_own_question, is_question_used, is_import_used, is_promise_used, is_unsettled}
 use Rattle.cp_vat_machine.specs.Calling.{Standing, plain, on_wire, came_to, reference_of, called, own_call, mark_of, marked, FirstEmbargoed, GoBack, GoByValue, GoFrom, OwnDone, Opens, call_refusals, DoCall}
 use Rattle.cp_vat_machine.specs.Doing.{Quietly, answer_refusals, resolve_refusals, value_refusals, Resolves, told_if, FinishBy, Finishes, without_import, without_promise}
@@ -127,7 +127,7 @@ finish_silent q stages.Open = refl
 finish_silent q stages.Finished = refl
 finish_silent q stages.Returned = refl
 
-out_silent : (s : State) (call : Underway) (target : Target) (origin : Origin) (done : Done) → GoOut s call target origin (Ok done) → IsSilent done
+out_silent : (s : State) (call : PendingCall) (target : Target) (origin : Origin) (done : Done) → GoOut s call target origin (Ok done) → IsSilent done
 out_silent s call target (origins.Answer a) done goes =
     let first = then_out {A = ℕ} {B = Done} (Fresh s.entries.questions) _ done goes in
     let parts = then_out {A = List Descriptor × State} {B = Done} (WritesDescriptors s call.request.caps) _ done first.2 in
@@ -136,14 +136,14 @@ out_silent s call target (origins.Own q) done goes =
     let parts = then_out {A = List Descriptor × State} {B = Done} (WritesDescriptors s call.request.caps) _ done goes.2 in
     rw (ok_in _ _ parts.2) (finish_silent q goes.0.stage)
 
-go_silent : (s : State) (call : Underway) (route : Route) (done : Done) → Go s call route (Ok done) → IsSilent done
+go_silent : (s : State) (call : PendingCall) (route : Route) (done : Done) → Go s call route (Ok done) → IsSilent done
 go_silent s call (routes.Deliver k) done goes = rw (ok_in _ _ goes) refl
 go_silent s call (routes.Import i) done goes = out_silent s call (targets.ImportedCap i) call.origin done goes
 go_silent s call (routes.Pipe q path) done goes = out_silent s call (targets.PromisedAnswer (promised q path)) call.origin done goes
 go_silent s call (routes.Wait gate) done goes = rw (ok_in _ _ goes) refl
 go_silent s call (routes.Fail x) done goes = give_silent s call.origin (outcomes.Failed x) done goes
 
-goes_silent : (s : State) (call : Underway) (cap : Cap) (done : Done) → GoTo s call cap (Ok done) → IsSilent done
+goes_silent : (s : State) (call : PendingCall) (cap : Cap) (done : Done) → GoTo s call cap (Ok done) → IsSilent done
 goes_silent s call cap done goes = go_silent s call goes.0 done goes.2
 
 leave_silent : {old : State} {all : List Effect} {out : Result State PeerFault} → Leave old all out → closes all ≡ false
@@ -154,12 +154,12 @@ leave_silent (finds_table_full call cap next goes) = refl
 
 -- ---- the application's calls
 
-embargoed_silent : (s : State) (call : Underway) (cap value : Cap) (done : Done) → FirstEmbargoed s call cap value (Ok done) → IsSilent done
+embargoed_silent : (s : State) (call : PendingCall) (cap value : Cap) (done : Done) → FirstEmbargoed s call cap value (Ok done) → IsSilent done
 embargoed_silent s call cap value done does =
     let parts = then_out {A = ℕ} {B = Done} (Fresh s.marks.embargoes) _ done does in
     rw (ok_in _ _ parts.2) refl
 
-back_silent : (s : State) (call : Underway) (cap value : Cap) (o : Option (Option ℕ)) (done : Done) → GoBack s call cap value o (Ok done) → IsSilent done
+back_silent : (s : State) (call : PendingCall) (cap value : Cap) (o : Option (Option ℕ)) (done : Done) → GoBack s call cap value o (Ok done) → IsSilent done
 back_silent s call cap value None done does = goes_silent s call value done does
 back_silent s call cap value (Some None) done does = embargoed_silent s call cap value done does
 back_silent s call cap value (Some (Some n)) done does = go_silent s call (routes.Wait (gates.Embargo n)) done does
@@ -243,16 +243,16 @@ module _ (s : State) where
 -- ---- messages that come
 
 module _ (s : State) where
-  export_silent : (call : Underway) (o : Option (Counted Cap)) (done : Done) → GoToExport s call o (Ok done) → IsSilent done
+  export_silent : (call : PendingCall) (o : Option (Counted Cap)) (done : Done) → GoToExport s call o (Ok done) → IsSilent done
   export_silent call None done goes = absurd goes
   export_silent call (Some entry) done goes = goes_silent s call entry.kept done goes
 
-  at_answer_silent : (call : Underway) (a : ℕ) (path : List ℕ) (o : Option (Option Outcome)) (done : Done) → GoToAnswer s call a path o (Ok done) → IsSilent done
+  at_answer_silent : (call : PendingCall) (a : ℕ) (path : List ℕ) (o : Option (Option Outcome)) (done : Done) → GoToAnswer s call a path o (Ok done) → IsSilent done
   at_answer_silent call a path None done goes = absurd goes
   at_answer_silent call a path (Some None) done goes = go_silent s call (routes.Wait (gates.Answer a path)) done goes
   at_answer_silent call a path (Some (Some outcome)) done goes = goes_silent s call (cap_at outcome path) done goes
 
-  target_silent : (call : Underway) (target : Target) (done : Done) → GoToTarget s call target (Ok done) → IsSilent done
+  target_silent : (call : PendingCall) (target : Target) (done : Done) → GoToTarget s call target (Ok done) → IsSilent done
   target_silent call (targets.ImportedCap e) done goes = export_silent call (get s.counts.exports e) done goes
   target_silent call (targets.PromisedAnswer answer) done goes = at_answer_silent call answer.question_id (path_of answer.transform) (answer_of s answer.question_id) done goes
   target_silent call (targets.Unknown n) done goes = absurd goes
@@ -342,7 +342,7 @@ module _ (s : State) where
   ends_by n None done is = ok_out is
   ends_by n (Some c) done is = rw (ok_in _ _ is) refl
 
-  disembargo_comes : (context : Context) (target : Target) (done : Done) → OnDisembargo s context target (Ok done) → IsSilent done
+  disembargo_comes : (context : DisembargoContext) (target : Target) (done : Done) → OnDisembargo s context target (Ok done) → IsSilent done
   disembargo_comes (contexts.SenderLoopback n) target done does = echoes_by n target done (unless_out {A = Done} {F = PeerFault} (target_faults s target) _ done does)
   disembargo_comes (contexts.ReceiverLoopback n) target done does = ends_by n (get s.marks.embargoes n) done does
   disembargo_comes contexts.Accept target done does = absurd does

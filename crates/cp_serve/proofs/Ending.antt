@@ -7,7 +7,7 @@ use Rattle.cp_messages.specs.declared.message.Message.{Message}
 use Rattle.cp_stream.specs.declared.fault.StreamFault.TheVariants as streams
 use Rattle.cp_stream.specs.Read.{FailedOnce}
 use Rattle.cp_vat_machine.specs.declared.effect.Effect.{Effect}
-use Rattle.cp_connection.specs.declared.happening.Tally.{Tally}
+use Rattle.cp_connection.specs.declared.event.ConnectionStats.{ConnectionStats}
 use Rattle.cp_tail_calls.specs.Bridging.{sent_of}
 use Rattle.cp_connection.specs.Effects.{AreFramesOf}
 use Rattle.cp_connection.specs.Link.{Link}
@@ -85,7 +85,7 @@ module _ {A : Type 0} {kind : Kind A} where
           → Appends to.bytes after.bytes (ready_of s) → after.failures ≡ to.failures → Closes kind first old seen before gave new others.items after
       closes_more new after l e moved same =
           let sent : List Message = went.0.sent in
-          let tally : new.connection.tally ≡ s.connection.tally = ap (λ (x : Link). x.tally) l in
+          let stats : new.connection.stats ≡ s.connection.stats = ap (λ (x : Link). x.stats) l in
           record {
             sent = h.sent ++ sent;
             last = written went.0;
@@ -95,12 +95,12 @@ module _ {A : Type 0} {kind : Kind A} where
                 (rests_after went.2 went.3 (record s.connection { unwritten = [] }) refl refl refl refl);
             writes = writes_both before to after h.writes (lands_writes to after (ready_of s) moved same goes);
             counts = λ n i.
-                ap (λ (t : Tally). t.sent) tally ∙ went.2.counts (n + length h.sent) (h.counts n i)
+                ap (λ (t : ConnectionStats). t.sent) stats ∙ went.2.counts (n + length h.sent) (h.counts n i)
                 ∙ ap (λ (es : List Effect). min ((n + length h.sent) + length (sent ++ sent_of es)) (2 ^ 64 - 1)) went.3
                 ∙ ap (λ (ms : List Message). min ((n + length h.sent) + length ms) (2 ^ 64 - 1)) (append-nil sent)
                 ∙ ap (λ (k : ℕ). min k (2 ^ 64 - 1)) (add_assoc n (length h.sent) (length sent) ∙ ap (λ (k : ℕ). n + k) (sym (length-append h.sent sent)));
             all_out = ap (λ (x : Server). x.connection.unwritten) (is_written_out s new ready l e);
-            same_messages = ap (λ (t : Tally). t.messages) tally ∙ ap (λ (t : Tally). t.messages) went.2.same_tally ∙ h.same_messages;
+            same_messages = ap (λ (t : ConnectionStats). t.messages) stats ∙ ap (λ (t : ConnectionStats). t.messages) went.2.same_stats ∙ h.same_messages;
             same_mode = ap (λ (x : Link). x.mode) l ∙ went.2.same_mode ∙ h.same_mode;
           }
 

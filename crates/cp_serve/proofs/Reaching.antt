@@ -27,8 +27,8 @@ use Rattle.cp_vat_machine.specs.declared.fault.VatFault.TheVariants as vat_fault
 use Rattle.cp_vat_machine.proofs.Basics.{none_out}
 use Rattle.cp_connection.specs.declared.fault.ConnectionFault.{ConnectionFault}
 use Rattle.cp_connection.specs.declared.fault.ConnectionFault.TheVariants as connections
-use Rattle.cp_connection.specs.declared.happening.Happening.{Happening}
-use Rattle.cp_connection.specs.declared.happening.Tally.{Tally}
+use Rattle.cp_connection.specs.declared.event.ConnectionEvent.{ConnectionEvent}
+use Rattle.cp_connection.specs.declared.event.ConnectionStats.{ConnectionStats}
 use Rattle.cp_connection.specs.Doing.{Does}
 use Rattle.cp_tail_calls.specs.Bridging.{sent_of}
 use Rattle.cp_connection.specs.Effects.{happening_by, AreFramesOf}
@@ -40,11 +40,11 @@ use Rattle.cp_connection.specs.Refusing.{refusal_of}
 use Rattle.cp_connection.proofs.Living.{lives_move}
 use Rattle.cp_connection.proofs.Moving.{moves_received, moves_unreceived}
 use Rattle.cp_servants.specs.Servant.{Kind}
-use Rattle.cp_makers.specs.Hall.{HallKind}
-use Rattle.cp_makers.specs.Listed.{listed}
-use Rattle.cp_objects.specs.Receiving.{IsCutShort, is_unreceived, ran_out}
-use Rattle.cp_objects.specs.Rounds as rounds
-use Rattle.cp_objects.specs.Work as objects
+use Rattle.cp_objects.specs.ObjectTable.{ObjectTableKind}
+use Rattle.cp_objects.specs.Listed.{listed}
+use Rattle.cp_dispatch.specs.Receiving.{IsCutShort, is_unreceived, ran_out}
+use Rattle.cp_dispatch.specs.Rounds as rounds
+use Rattle.cp_dispatch.specs.Work as objects
 use Rattle.cp_serve.specs.declared.fault.ServeFault.{ServeFault}
 use Rattle.cp_serve.specs.declared.fault.ServeFault.TheVariants as faults
 use Rattle.cp_serve.specs.declared.serving.Server.{Server}
@@ -87,7 +87,7 @@ grown mode bytes rest front taken h = subst (λ (x : List ℕ). Messages mode st
 -- ---- bytes that are to go out
 
 -- what was to go out still is, before what came after it
-pub moves_grow : {a b : Link} {taken : List ℕ} {handed : List Happening} → Moves a taken [] handed b → (more : List ℕ) × (b.unwritten ≡ a.unwritten ++ more)
+pub moves_grow : {a b : Link} {taken : List ℕ} {handed : List ConnectionEvent} → Moves a taken [] handed b → (more : List ℕ) × (b.unwritten ≡ a.unwritten ++ more)
 moves_grow h = (h.bytes, sym h.goes_out)
 
 pub kept_front : (u v more : List ℕ) (n : ℕ) → v ≡ u ++ more → n ≡ length u → take n v ≡ u
@@ -144,7 +144,7 @@ module _ {A : Type 0} {kind : Kind A} {mode : Mode} {start : List A} {held : Dev
     rests = rests_as r.rests (record s.connection { reading = state }) refl refl refl refl;
     writes = r.writes;
     all_ready = r.all_ready;
-    place = place_stays bytes rest more s.connection.tally.bytes r.place;
+    place = place_stays bytes rest more s.connection.stats.bytes r.place;
     counted = r.counted;
     counted_sent = r.counted_sent;
     same_mode = r.same_mode;
@@ -167,8 +167,8 @@ module _ {A : Type 0} {kind : Kind A} {mode : Mode} {start : List A} {held : Dev
     begins : IsAllDone r.last (record (owed s) { link = mid })
     begins = rests_as r.rests mid (ap (λ (l : Link). l.vat) reads.same) (ap (λ (l : Link). l.tails) reads.same) (ap (λ (l : Link). l.happened) reads.same) (ap (λ (l : Link). l.fault) reads.same)
 
-    counts_bytes : mid.tally.bytes ≡ min (s.connection.tally.bytes + length (rest ++ front)) (2 ^ 64 - 1)
-    counts_bytes = ap (λ (t : Tally). t.bytes) (reads.counts rest on.came)
+    counts_bytes : mid.stats.bytes ≡ min (s.connection.stats.bytes + length (rest ++ front)) (2 ^ 64 - 1)
+    counts_bytes = ap (λ (t : ConnectionStats). t.bytes) (reads.counts rest on.came)
 
     is_frame : IsFrameOf mode standard (rest ++ front) m
     is_frame = subst (λ (l : Bounds). IsFrameOf mode l (rest ++ front) m) r.same_limits (subst (λ (x : Mode). IsFrameOf x s.connection.limits (rest ++ front) m) r.same_mode (reads.is_frame rest on.came))
@@ -198,12 +198,12 @@ module _ {A : Type 0} {kind : Kind A} {mode : Mode} {start : List A} {held : Dev
           rests = rests_after matches none new.connection refl refl refl refl;
           writes = writes_both held (ahead to s.connection.unwritten) (ahead to new.connection.unwritten) r.writes (queued mode next.sent matches.bytes s.connection.unwritten new.connection.unwritten to frames_of goes_out);
           all_ready = ready;
-          place = place_more bytes rest front s.connection.tally.bytes new.connection.tally.bytes (rest_fits mode standard bytes r.taken rest r.messages) r.place (ap (λ (t : Tally). t.bytes) matches.same_tally ∙ counts_bytes);
+          place = place_more bytes rest front s.connection.stats.bytes new.connection.stats.bytes (rest_fits mode standard bytes r.taken rest r.messages) r.place (ap (λ (t : ConnectionStats). t.bytes) matches.same_stats ∙ counts_bytes);
           counted =
-              counts_one (length r.taken) s.connection.tally.messages new.connection.tally.messages r.counted (ap (λ (t : Tally). t.messages) matches.same_tally ∙ ap (λ (t : Tally). t.messages) (reads.counts rest on.came))
+              counts_one (length r.taken) s.connection.stats.messages new.connection.stats.messages r.counted (ap (λ (t : ConnectionStats). t.messages) matches.same_stats ∙ ap (λ (t : ConnectionStats). t.messages) (reads.counts rest on.came))
               ∙ ap (λ (n : ℕ). min n (2 ^ 64 - 1)) (sym (length_push r.taken m));
           counted_sent =
-              matches.counts (length r.sent) (ap (λ (t : Tally). t.sent) (reads.counts rest on.came) ∙ r.counted_sent)
+              matches.counts (length r.sent) (ap (λ (t : ConnectionStats). t.sent) (reads.counts rest on.came) ∙ r.counted_sent)
               ∙ ap (λ (es : List Effect). min (length r.sent + length (next.sent ++ sent_of es)) (2 ^ 64 - 1)) none
               ∙ ap (λ (ms : List Message). min (length r.sent + length ms) (2 ^ 64 - 1)) (append-nil next.sent)
               ∙ ap (λ (n : ℕ). min n (2 ^ 64 - 1)) (sym (length-append r.sent next.sent));
@@ -262,7 +262,7 @@ module _ {A : Type 0} {kind : Kind A} {mode : Mode} {start : List A} {held : Dev
     fault =
         fault_of_rest mode (rest ++ piece) left.bytes refusal
         (subst (λ (l : Bounds). HasFault mode l (rest ++ piece) refusal) r.same_limits (subst (λ (x : Mode). HasFault x s.connection.limits (rest ++ piece) refusal) r.same_mode (h.1 rest on.came)));
-    place = h.0 ∙ place_stays bytes rest piece s.connection.tally.bytes r.place;
+    place = h.0 ∙ place_stays bytes rest piece s.connection.stats.bytes r.place;
   })
   stops_unread bytes rest piece from left s r on connections.OutOfMemory h = cut_there bytes rest piece left.bytes r
   stops_unread bytes rest piece from left s r on connections.Closed h = absurd h
@@ -318,9 +318,9 @@ refusal_full refusal = by (refusal_is refusal)
     by (inr h) = ap fault_of h.1
 
 -- nothing is worked off where nothing happened
-works_none : {H : Type 0} {hall : HallKind H} {old new : objects.Work} {seen others : H} → old.link.happened ≡ [] → rounds.WorksOff hall old new seen others → (new ≡ old) × (others ≡ seen)
+works_none : {H : Type 0} {table : ObjectTableKind H} {old new : objects.Work} {seen others : H} → old.link.happened ≡ [] → rounds.WorksOff table old new seen others → (new ≡ old) × (others ≡ seen)
 works_none none (rounds.none_left e) = (refl, refl)
-works_none none (rounds.handles first link hands handled rest) = let e : ◌≡◌ {A = List Happening} [] (first ∷ link.happened) = sym none ∙ hands.0 in absurd (cc (e))
+works_none none (rounds.handles first link hands handled rest) = let e : ◌≡◌ {A = List ConnectionEvent} [] (first ∷ link.happened) = sym none ∙ hands.0 in absurd (cc (e))
 
 module _ {A : Type 0} {kind : Kind A} {mode : Mode} {start : List A} {held : Device} where
   -- what was reached is seen of what the server owes, and of how much is ready
@@ -335,9 +335,9 @@ module _ {A : Type 0} {kind : Kind A} {mode : Mode} {start : List A} {held : Dev
     rests = subst (λ (w : objects.Work). IsAllDone h.last w) (sym same) h.rests;
     writes = subst (λ (l : Link). Writes mode h.sent held (ahead to l.unwritten)) (sym link) h.writes;
     all_ready = ready ∙ h.all_ready ∙ ap (λ (l : Link). length l.unwritten) (sym link);
-    place = subst (λ (l : Link). IsPlace bytes rest l.tally.bytes) (sym link) h.place;
-    counted = ap (λ (l : Link). l.tally.messages) link ∙ h.counted;
-    counted_sent = ap (λ (l : Link). l.tally.sent) link ∙ h.counted_sent;
+    place = subst (λ (l : Link). IsPlace bytes rest l.stats.bytes) (sym link) h.place;
+    counted = ap (λ (l : Link). l.stats.messages) link ∙ h.counted;
+    counted_sent = ap (λ (l : Link). l.stats.sent) link ∙ h.counted_sent;
     same_mode = ap (λ (l : Link). l.mode) link ∙ h.same_mode;
     same_limits = ap (λ (l : Link). l.limits) link ∙ h.same_limits;
   }
@@ -523,7 +523,7 @@ rests_new mode = record {
     frames = refl;
     goes_out = refl;
     counts = λ n e. e ∙ ap (λ (k : ℕ). min k (2 ^ 64 - 1)) (omega arith);
-    same_tally = refl;
+    same_stats = refl;
     same_mode = refl;
     same_limits = refl;
     same_reading = refl;
@@ -550,9 +550,9 @@ module _ {A : Type 0} {kind : Kind A} where
           rests = subst (λ (x : objects.Work). IsAllDone new_work x) (sym (new.owes s.connection ∙ ap (λ (x : Link). objects.begun false x) l)) (rests_new mode);
           writes = subst (λ (d : Device). Writes mode [] held d) (sym (ahead_none held s.connection.unwritten (ap (λ (x : Link). x.unwritten) l))) (writes_none held);
           all_ready = new.ready ∙ ap (λ (x : List ℕ). length x) (sym (ap (λ (x : Link). x.unwritten) l));
-          place = ap (λ (x : Link). x.tally.bytes) l ∙ omega arith;
-          counted = ap (λ (x : Link). x.tally.messages) l ∙ omega arith;
-          counted_sent = ap (λ (x : Link). x.tally.sent) l ∙ omega arith;
+          place = ap (λ (x : Link). x.stats.bytes) l ∙ omega arith;
+          counted = ap (λ (x : Link). x.stats.messages) l ∙ omega arith;
+          counted_sent = ap (λ (x : Link). x.stats.sent) l ∙ omega arith;
           same_mode = ap (λ (x : Link). x.mode) l;
           same_limits = ap (λ (x : Link). x.limits) l;
         },

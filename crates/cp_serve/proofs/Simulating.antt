@@ -35,9 +35,9 @@ use Rattle.cp_tail_calls.specs.Bridging.{sent_of}
 use Rattle.cp_tail_calls.specs.Serving.{closes}
 use Rattle.cp_connection.specs.declared.fault.ConnectionFault.{ConnectionFault}
 use Rattle.cp_connection.specs.declared.fault.ConnectionFault.TheVariants as faults
-use Rattle.cp_connection.specs.declared.happening.Happening.{Happening}
-use Rattle.cp_connection.specs.declared.happening.Happening.TheVariants as happenings
-use Rattle.cp_connection.specs.declared.happening.Tally.{Tally}
+use Rattle.cp_connection.specs.declared.event.ConnectionEvent.{ConnectionEvent}
+use Rattle.cp_connection.specs.declared.event.ConnectionEvent.TheVariants as happenings
+use Rattle.cp_connection.specs.declared.event.ConnectionStats.{ConnectionStats}
 use Rattle.cp_connection.specs.Doing.{Does, Acts}
 use Rattle.cp_connection.specs.Effects.{happening_by, AreFramesOf}
 use Rattle.cp_connection.specs.Link.{Link}
@@ -46,21 +46,21 @@ use Rattle.cp_connection.specs.Refusing.{refusal_of}
 use Rattle.cp_connection.proofs.Concluding.{refused_same, no_effects, was_still}
 use Rattle.cp_connection.proofs.Noting.{closes_both, frames_both, happening_both, sent_both}
 use Rattle.cp_connection.proofs.Serving.{served_none, steps_alone}
-use Rattle.cp_servants.specs.declared.servant.Ask.{Ask}
+use Rattle.cp_servants.specs.declared.servant.OutgoingCall.{OutgoingCall}
 use Rattle.cp_servants.specs.declared.servant.Reply.{Reply}
 use Rattle.cp_servants.specs.declared.servant.Reply.TheVariants as replies
 use Rattle.cp_servants.specs.declared.servant.Settled.{Settled}
 use Rattle.cp_servants.specs.Outcomes.{bad_outcome, no_such_object}
 use Rattle.cp_servants.specs.Servant.{Kind}
-use Rattle.cp_makers.specs.Listed.{listed}
-use Rattle.cp_objects.specs.declared.asker.Asker.{Asker}
-use Rattle.cp_objects.specs.declared.notice.Notice.{Notice}
-use Rattle.cp_objects.specs.declared.notice.Notice.TheVariants as notices
-use Rattle.cp_objects.specs.Work as objects
-use Rattle.cp_objects.specs.Calling as calling
-use Rattle.cp_objects.specs.Pledging as pledging
-use Rattle.cp_objects.specs.Rounds as rounds
-use Rattle.cp_objects.proofs.Holding.{holds_unnoted, gives_up_all, tries_all}
+use Rattle.cp_objects.specs.Listed.{listed}
+use Rattle.cp_dispatch.specs.declared.question_owner.QuestionOwner.{QuestionOwner}
+use Rattle.cp_dispatch.specs.declared.event.DispatchEvent.{DispatchEvent}
+use Rattle.cp_dispatch.specs.declared.event.DispatchEvent.TheVariants as notices
+use Rattle.cp_dispatch.specs.Work as objects
+use Rattle.cp_dispatch.specs.Calling as calling
+use Rattle.cp_dispatch.specs.PromiseRequests as pledging
+use Rattle.cp_dispatch.specs.Rounds as rounds
+use Rattle.cp_dispatch.proofs.Holding.{holds_unnoted, gives_up_all, tries_all}
 use Rattle.cp_serve.specs.Work.{Work, Did, IsDone, Answers, is_taken, was_closed, is_replaced, Replies, Tries, is_released, is_used, is_dropped, TriesEach, Releases}
 use Rattle.cp_serve.specs.Service.{Delivers, to_object, to_none, WorksOff, none_left, acts, Settles, gives_none, is_stranger, is_awaited, PollsFrom, Rounds, TakesMessage, takes, written}
 use Rattle.cp_serve.specs.Service as service
@@ -166,24 +166,24 @@ was_shut : (s new : State) (origin : Origin) (outcome : Outcome) (all : List Eff
 was_shut s new origin outcome all (step.was_closed event shut) = shut
 was_shut s new origin outcome all (step.refused event still does) = absurd (answer_closed s origin outcome does)
 
--- ---- why the vat closed, as notices say
+-- ---- why the vat closed, as events say
 
-reason_settled : (ns : List Notice) (q : ℕ) (outcome : Outcome) → reason_in (ns ++ notices.Settled q outcome ∷ []) ≡ reason_in ns
+reason_settled : (ns : List DispatchEvent) (q : ℕ) (outcome : Outcome) → reason_in (ns ++ notices.Settled q outcome ∷ []) ≡ reason_in ns
 reason_settled [] q outcome = refl
 reason_settled (notices.Settled p other ∷ ns) q outcome = reason_settled ns q outcome
 reason_settled (notices.Closed reason ∷ ns) q outcome = refl
 
-reason_closed : (ns : List Notice) (reason : Reason) → reason_in ns ≡ None → reason_in (ns ++ notices.Closed reason ∷ []) ≡ Some reason
+reason_closed : (ns : List DispatchEvent) (reason : Reason) → reason_in ns ≡ None → reason_in (ns ++ notices.Closed reason ∷ []) ≡ Some reason
 reason_closed [] reason h = refl
 reason_closed (notices.Settled q outcome ∷ ns) reason h = reason_closed ns reason h
 reason_closed (notices.Closed other ∷ ns) reason h = none_out (sym h)
 
--- the first notice says so, or the others do
-pub reason_first : (n : Notice) (more : List Notice) (reason : Reason) → Some reason ≡ reason_in (n ∷ []) → Some reason ≡ reason_in (n ∷ more)
+-- the first event says so, or the others do
+pub reason_first : (n : DispatchEvent) (more : List DispatchEvent) (reason : Reason) → Some reason ≡ reason_in (n ∷ []) → Some reason ≡ reason_in (n ∷ more)
 reason_first (notices.Settled q outcome) more reason e = none_out (sym e)
 reason_first (notices.Closed other) more reason e = e
 
-pub reason_later : (n : Notice) (more : List Notice) → None ≡ reason_in (n ∷ []) → reason_in (n ∷ more) ≡ reason_in more
+pub reason_later : (n : DispatchEvent) (more : List DispatchEvent) → None ≡ reason_in (n ∷ []) → reason_in (n ∷ more) ≡ reason_in more
 reason_later (notices.Settled q outcome) more e = refl
 reason_later (notices.Closed other) more e = none_out e
 
@@ -241,7 +241,7 @@ module _ (base : Link) (w : Work) (o : objects.Work) (h : Matches base w o) wher
     frames = h.frames;
     goes_out = h.goes_out;
     counts = h.counts;
-    same_tally = h.same_tally;
+    same_stats = h.same_stats;
     same_mode = h.same_mode;
     same_limits = h.same_limits;
     same_reading = h.same_reading;
@@ -252,7 +252,7 @@ module _ (base : Link) (w : Work) (o : objects.Work) (h : Matches base w o) wher
   }
 
   -- effects were worked off
-  worked : (es : List Effect) (sent : List Message) (c : Option Reason) (hs : List Happening) (ns : List Notice) → hs ≡ happening_by es → sent ++ sent_of es ≡ w.sent ++ sent_of w.effects
+  worked : (es : List Effect) (sent : List Message) (c : Option Reason) (hs : List ConnectionEvent) (ns : List DispatchEvent) → hs ≡ happening_by es → sent ++ sent_of es ≡ w.sent ++ sent_of w.effects
       → ClosesBy c es w.vat.is_closed → is_over c es ≡ is_over w.closed w.effects → reason_in ns ≡ c
       → Matches base (record w { effects = es; sent = sent; closed = c }) (record o { link = record o.link { happened = hs }; notices = ns })
   worked es sent c hs ns happens all closes_by over reason = record {
@@ -268,7 +268,7 @@ module _ (base : Link) (w : Work) (o : objects.Work) (h : Matches base w o) wher
     frames = subst (λ (ms : List Message). AreFramesOf base.mode ms h.bytes) (sym all) h.frames;
     goes_out = h.goes_out;
     counts = λ n e. h.counts n e ∙ ap (λ (ms : List Message). min (n + length ms) (2 ^ 64 - 1)) (sym all);
-    same_tally = h.same_tally;
+    same_stats = h.same_stats;
     same_mode = h.same_mode;
     same_limits = h.same_limits;
     same_reading = h.same_reading;
@@ -299,7 +299,7 @@ module _ (base : Link) (w : Work) (o : objects.Work) (h : Matches base w o) wher
         none_call = h.none_call;
         none_asked = h.none_asked;
         none_held = h.none_held;
-        happens = d.happens ∙ ap (λ (x : List Happening). x ++ happening_by d.effects) h.happens ∙ sym (happening_both w.effects d.effects here.1);
+        happens = d.happens ∙ ap (λ (x : List ConnectionEvent). x ++ happening_by d.effects) h.happens ∙ sym (happening_both w.effects d.effects here.1);
         bytes = h.bytes ++ d.bytes;
         frames =
             subst (λ (ms : List Message). AreFramesOf base.mode ms (h.bytes ++ d.bytes)) all
@@ -308,7 +308,7 @@ module _ (base : Link) (w : Work) (o : objects.Work) (h : Matches base w o) wher
         counts = λ n e.
             d.counts (n + length (w.sent ++ sent_of w.effects)) (h.counts n e)
             ∙ ap (λ (k : ℕ). min k (2 ^ 64 - 1)) (add_assoc n (length (w.sent ++ sent_of w.effects)) (length (sent_of d.effects)) ∙ ap (λ (k : ℕ). n + k) (sym (length-append (w.sent ++ sent_of w.effects) (sent_of d.effects)) ∙ ap (λ (ms : List Message). length ms) all));
-        same_tally = d.same_tally ∙ ap (λ (t : Tally). record t { sent = link.tally.sent }) h.same_tally;
+        same_stats = d.same_stats ∙ ap (λ (t : ConnectionStats). record t { sent = link.stats.sent }) h.same_stats;
         same_mode = d.same_mode ∙ h.same_mode;
         same_limits = d.same_limits ∙ h.same_limits;
         same_reading = d.same_reading ∙ h.same_reading;
@@ -465,20 +465,20 @@ follows_settles {base = base} {w = w} {o = o} h settled gave (rounds.is_awaited 
 -- ---- objects that may not call make no calls
 
 module _ {A : Type 0} {kind : Kind A} where
-  next_none : {number : ℕ} {o new : objects.Work} {ask : Option Ask} {seen others : Vec A} → o.may_call ≡ false → calling.NextCall (listed kind) number o ask new seen others
-      → (ask ≡ None) × (new ≡ o) × (others ≡ seen)
-  next_none off (calling.asks link may still asked kept is) = absurd (true≢false (sym may ∙ off))
+  next_none : {number : ℕ} {o new : objects.Work} {next_call : Option OutgoingCall} {seen others : Vec A} → o.may_call ≡ false → calling.NextCall (listed kind) number o next_call new seen others
+      → (next_call ≡ None) × (new ≡ o) × (others ≡ seen)
+  next_none off (calling.next_calls link may still asked kept is) = absurd (true≢false (sym may ∙ off))
   next_none off (calling.is_unasked why none still same) = (none, still, same)
 
   no_calls : {number : ℕ} {o new : objects.Work} {seen others : Vec A} → o.may_call ≡ false → calling.MakesCalls (listed kind) number o new seen others → (new ≡ o) × (others ≡ seen)
   no_calls off (calling.makes_none next) = let none = next_none off next in (none.1, none.2)
-  no_calls off (calling.makes_one ask next made more) = none_out (sym (next_none off next).0)
+  no_calls off (calling.makes_one next_call next made more) = none_out (sym (next_none off next).0)
 
 -- ---- objects of a list make no promises
 
-no_pledges : {A : Type 0} {kind : Kind A} {old new : Link} {seen others : Vec A} → pledging.KeepsPledges (listed kind) old new seen others → (new ≡ old) × (others ≡ seen)
-no_pledges (pledging.none_left none) = (refl, none.1)
-no_pledges (pledging.keeps pledge handed kept rest) = none_out (sym handed.0)
+no_promise_requests : {A : Type 0} {kind : Kind A} {old new : Link} {seen others : Vec A} → pledging.KeepsPromiseRequests (listed kind) old new seen others → (new ≡ old) × (others ≡ seen)
+no_promise_requests (pledging.none_left none) = (refl, none.1)
+no_promise_requests (pledging.keeps promise_request handed kept rest) = none_out (sym handed.0)
 
 -- ---- effects that are worked off
 
@@ -489,7 +489,7 @@ abbrev HasNoSend : List Effect → Type 0
 HasNoSend (effects.Send m ∷ more) = ⊥
 HasNoSend other = Unit {0}
 
-nothing_first : {first : Happening} {more : List Happening} → first ∷ more ≡ [] → ⊥
+nothing_first : {first : ConnectionEvent} {more : List ConnectionEvent} → first ∷ more ≡ [] → ⊥
 nothing_first e = cc (e)
 
 first_none : (es : List Effect) → HasNoSend es → happening_by es ≡ [] → es ≡ []
@@ -520,11 +520,11 @@ module _ {A : Type 0} {kind : Kind A} where
 
   -- a call that is delivered
   delivers : {base : Link} {w : Work} {o given mid new : objects.Work} {link : Link} {seen between kept others : Vec A} (k : ℕ) (origin : Origin) (ticket : ℕ) (call : Request)
-      (reply : Reply) → Matches base w o → rounds.Gives (listed kind) k ticket call reply o given seen between → pledging.KeepsPledges (listed kind) given.link link between kept
+      (reply : Reply) → Matches base w o → rounds.Gives (listed kind) k ticket call reply o given seen between → pledging.KeepsPromiseRequests (listed kind) given.link link between kept
       → objects.Replies (λ outcome. outcome) (record given { link = link }) origin ticket reply mid → calling.MakesCalls (listed kind) k mid new kept others
       → (next : Work) × Delivers kind w seen.items k origin ticket call next others.items × Matches base next new
   delivers {base = base} {w = w} {o = o} {given = given} {mid = mid} {seen = seen} {between = between} {others = others} k origin ticket call reply h gives pledged replied called =
-      let quiet = no_pledges pledged in
+      let quiet = no_promise_requests pledged in
       let is : record given { link = _ } ≡ o = ap (λ (l : Link). record given { link = l }) quiet.0 ∙ unnoted gives in
       let more = follows_replies h origin ticket reply (subst (λ (x : objects.Work). objects.Replies (λ outcome. outcome) x origin ticket reply mid) is replied) in
       let none = no_calls more.2.none_call called in
@@ -540,11 +540,11 @@ module _ {A : Type 0} {kind : Kind A} where
           to_none (at_least k (length seen.items) past)
           (subst (λ (g : List ℕ). Answers (record w { given_up = g }) origin no_such_object next) (append-nil w.given_up) (subst (λ (x : Reply). Replies w origin ticket x next) is r)) (ap (λ (v : Vec A). v.items) (same ∙ still))
 
--- what one happening asks
+-- what one event asks
 abbrev Acted : {A : Type 0} → Kind A → Link → Work → objects.Work → Vec A → Vec A → Type 0
 Acted kind base v mid seen between = (effect : Effect) × (rest : List Effect) × (next : Work) × (v.effects ≡ effect ∷ rest) × service.Acts kind effect (record v { effects = rest }) seen.items next between.items × Matches base next mid
 
-module _ {base : Link} {o : objects.Work} (first : Happening) (link : Link) (out : HandsOut o.link (Some first) link) (v : Work) (h : Matches base v o) where
+module _ {base : Link} {o : objects.Work} (first : ConnectionEvent) (link : Link) (out : HandsOut o.link (Some first) link) (v : Work) (h : Matches base v o) where
   -- the first of what happened is that of the first effect, and the others are those of the others
   happens_by : (effect : Effect) (rest : List Effect) → v.effects ≡ effect ∷ rest → first ∷ link.happened ≡ happening_by (effect ∷ rest)
   happens_by effect rest e = sym out.0 ∙ h.happens ∙ ap happening_by e
@@ -564,12 +564,12 @@ module _ {base : Link} {o : objects.Work} (first : Happening) (link : Link) (out
         let all : first ∷ link.happened ≡ happenings.Delivered k origin ticket call ∷ happening_by rest = happens_by (effects.Deliver k origin ticket call) rest e in
         let heads : first ≡ happenings.Delivered k origin ticket call = cc (all) in
         let tails : link.happened ≡ happening_by rest = cc (all) in
-        let parts = subst (λ (x : Happening). rounds.Handles (listed kind) x (record o { link = link }) mid seen between) heads handled in
+        let parts = subst (λ (x : ConnectionEvent). rounds.Handles (listed kind) x (record o { link = link }) mid seen between) heads handled in
         let done = delivers k origin ticket call parts.0 (one_taken (effects.Deliver k origin ticket call) rest e refl refl tails) parts.6 parts.7 parts.8 parts.9 in
         (effects.Deliver k origin ticket call, rest, done.0, e, done.1, done.2)
 
     one_settled : (q : ℕ) (outcome : Outcome) (rest : List Effect) → v.effects ≡ effects.Settled q outcome ∷ rest → Acted kind base v mid seen between
-    one_settled q outcome rest e = by (subst (λ (x : Happening). rounds.Handles (listed kind) x (record o { link = link }) mid seen between) heads handled)
+    one_settled q outcome rest e = by (subst (λ (x : ConnectionEvent). rounds.Handles (listed kind) x (record o { link = link }) mid seen between) heads handled)
       where
         all : first ∷ link.happened ≡ happenings.Settled q outcome ∷ happening_by rest
         all = happens_by (effects.Settled q outcome) rest e
@@ -594,14 +594,14 @@ module _ {base : Link} {o : objects.Work} (first : Happening) (link : Link) (out
               (worked base (record v { effects = rest }) (record o { link = link }) here rest v.sent v.closed link.happened (o.notices ++ notices.Settled q outcome ∷ []) tails refl here.closes_by refl
               (reason_settled o.notices q outcome ∙ here.reason)),
         )
-        by (calling.to_object asker other got done hears calls) = none_out (sym (get-empty nat_cmp q) ∙ ap (λ (t : Table Asker). get t q) (sym h.none_asked) ∙ got)
+        by (calling.to_object owner other got done hears calls) = none_out (sym (get-empty nat_cmp q) ∙ ap (λ (t : Table QuestionOwner). get t q) (sym h.none_asked) ∙ got)
 
     one_closed : (reason : Reason) (rest : List Effect) → v.effects ≡ effects.Closed reason ∷ rest → Acted kind base v mid seen between
     one_closed reason rest e =
         let all : first ∷ link.happened ≡ happenings.Closed reason ∷ [] = happens_by (effects.Closed reason) rest e in
         let heads : first ≡ happenings.Closed reason = cc (all) in
         let tails : link.happened ≡ [] = cc (all) in
-        let notes = subst (λ (x : Happening). rounds.Handles (listed kind) x (record o { link = link }) mid seen between) heads handled in
+        let notes = subst (λ (x : ConnectionEvent). rounds.Handles (listed kind) x (record o { link = link }) mid seen between) heads handled in
         let by : ClosesBy v.closed (effects.Closed reason ∷ rest) v.vat.is_closed = subst (λ (x : List Effect). ClosesBy v.closed x v.vat.is_closed) e h.closes_by in
         let none : v.closed ≡ None = not_closed_yet v.closed (effects.Closed reason) rest v.vat.is_closed by in
         let shut : v.vat.is_closed ≡ true = subst (λ (c : Option Reason). ClosesBy c (effects.Closed reason ∷ rest) v.vat.is_closed) none by refl in (
@@ -645,7 +645,7 @@ module _ {A : Type 0} {kind : Kind A} where
   follows_polls (rounds.none_left past) w h rest = (w, service.none_left past, h, rest)
   follows_polls {base = base} {o = o} (rounds.has_ended some) w h rest = (w, service.is_closed (closed_work base w o h some rest), h, rest)
   follows_polls {base = base} {o = o} {seen = seen} {others = others} {gave = gave} (rounds.polls {mid = mid} {last = last} number settled first more still next polled pledged settles calls off tail e) w h rest =
-      let quiet = no_pledges pledged in
+      let quiet = no_promise_requests pledged in
       let one = follows_settles h settled first (subst (λ (l : Link). rounds.Settles (λ outcome. outcome) (record o { link = l }) settled first mid) quiet.0 settles) in
       let none = no_calls one.2.none_call calls in
       let two = follows_works_off off one.0 (subst (λ (x : objects.Work). Matches base one.0 x) (sym none.0) one.2) in
@@ -715,7 +715,7 @@ rests_after {w = w} {o = o} h none link vat tails happened fault = record {
     frames = subst (λ (es : List Effect). AreFramesOf link.mode (sent_of es) []) (sym none) refl;
     goes_out = sym (append-nil link.unwritten);
     counts = λ n e. e ∙ ap (λ (k : ℕ). min k (2 ^ 64 - 1)) (and_none n) ∙ ap (λ (es : List Effect). min (n + length (sent_of es)) (2 ^ 64 - 1)) (sym none);
-    same_tally = refl;
+    same_stats = refl;
     same_mode = refl;
     same_limits = refl;
     same_reading = refl;

@@ -11,13 +11,13 @@ use Rattle.cp_connection.specs.declared.fault.ConnectionFault.TheVariants as fau
 use Rattle.cp_connection.specs.Counting.{CountsMore}
 use Rattle.cp_connection.specs.Effects.{happening_by, AreFramesOf}
 use Rattle.cp_connection.specs.Link.{Link}
-use Rattle.cp_objects.specs.declared.notice.Notice.{Notice}
-use Rattle.cp_objects.specs.declared.notice.Notice.TheVariants as notices
-use Rattle.cp_objects.specs.Work as objects
+use Rattle.cp_dispatch.specs.declared.event.DispatchEvent.{DispatchEvent}
+use Rattle.cp_dispatch.specs.declared.event.DispatchEvent.TheVariants as notices
+use Rattle.cp_dispatch.specs.Work as objects
 use Rattle.cp_serve.specs.Work.{Work}
 
--- why the vat closed, if a notice says so
-abbrev pub reason_in : List Notice → Option Reason
+-- why the vat closed, if an event says so
+abbrev pub reason_in : List DispatchEvent → Option Reason
 reason_in [] = None
 reason_in (notices.Settled q outcome ∷ more) = reason_in more
 reason_in (notices.Closed reason ∷ more) = Some reason
@@ -55,8 +55,8 @@ pub record Matches (base : Link) (w : Work) (o : objects.Work) : Type 0 where
   pub bytes : List ℕ
   pub frames : AreFramesOf base.mode (w.sent ++ sent_of w.effects) bytes
   pub goes_out : o.link.unwritten ≡ base.unwritten ++ bytes
-  pub counts : CountsMore base.tally.sent (length (w.sent ++ sent_of w.effects)) o.link.tally.sent
-  pub same_tally : o.link.tally ≡ record base.tally { sent = o.link.tally.sent }
+  pub counts : CountsMore base.stats.sent (length (w.sent ++ sent_of w.effects)) o.link.stats.sent
+  pub same_stats : o.link.stats ≡ record base.stats { sent = o.link.stats.sent }
   pub same_mode : o.link.mode ≡ base.mode
   pub same_limits : o.link.limits ≡ base.limits
   pub same_reading : o.link.reading ≡ base.reading

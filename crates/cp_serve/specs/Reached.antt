@@ -13,10 +13,10 @@ use Rattle.cp_stream.specs.Tap.{failures_of}
 use Rattle.cp_stream.specs.declared.tap.Tap.{Tap}
 use Rattle.cp_connection.specs.Counting.{CountsMore}
 use Rattle.cp_connection.specs.Link.{Link, HasCome, new_link}
-use Rattle.cp_makers.specs.Listed.{listed}
-use Rattle.cp_objects.specs.Work as work
-use Rattle.cp_objects.specs.Rounds as rounds
-use Rattle.cp_objects.specs.WorkOf.{work_of}
+use Rattle.cp_objects.specs.Listed.{listed}
+use Rattle.cp_dispatch.specs.Work as work
+use Rattle.cp_dispatch.specs.Rounds as rounds
+use Rattle.cp_dispatch.specs.WorkOf.{work_of}
 use Rattle.cp_serve.specs.declared.fault.ServeFault.{ServeFault}
 use Rattle.cp_serve.specs.declared.fault.ServeFault.TheVariants as faults
 use Rattle.cp_serve.specs.declared.report.Report.{Report}
@@ -33,7 +33,7 @@ owed s = work_of s.objects s.connection
 
 -- what a server reports
 abbrev pub report_of : Server → Report
-report_of s = record { messages = s.connection.tally.messages; sent = s.connection.tally.sent; closed = reason_in (owed s).notices }
+report_of s = record { messages = s.connection.stats.messages; sent = s.connection.stats.sent; closed = reason_in (owed s).notices }
 
 -- the device, as if these bytes had gone out to it
 abbrev pub ahead : Device → List ℕ → Device
@@ -96,9 +96,9 @@ module _ {A : Type 0} (kind : Kind A) where
     pub rests : IsAllDone last (owed s)
     pub writes : Writes mode sent held (ahead to s.connection.unwritten)
     pub all_ready : s.ready ≡ length s.connection.unwritten
-    pub place : IsPlace bytes rest s.connection.tally.bytes
-    pub counted : s.connection.tally.messages ≡ min (length taken) (2 ^ 64 - 1)
-    pub counted_sent : s.connection.tally.sent ≡ min (length sent) (2 ^ 64 - 1)
+    pub place : IsPlace bytes rest s.connection.stats.bytes
+    pub counted : s.connection.stats.messages ≡ min (length taken) (2 ^ 64 - 1)
+    pub counted_sent : s.connection.stats.sent ≡ min (length sent) (2 ^ 64 - 1)
     pub same_mode : s.connection.mode ≡ mode
     pub same_limits : s.connection.limits ≡ standard
 
@@ -121,9 +121,9 @@ module _ {A : Type 0} (kind : Kind A) where
     pub closes : ClosesAll kind first objects gave sent last others
     pub rests : IsAllDone last (owed new)
     pub writes : Writes old.connection.mode sent before after
-    pub counts : CountsMore old.connection.tally.sent (length sent) new.connection.tally.sent
+    pub counts : CountsMore old.connection.stats.sent (length sent) new.connection.stats.sent
     pub all_out : AllOut new
-    pub same_messages : new.connection.tally.messages ≡ old.connection.tally.messages
+    pub same_messages : new.connection.stats.messages ≡ old.connection.stats.messages
     pub same_mode : new.connection.mode ≡ old.connection.mode
 
   -- Rounds followed, and of what they lead to a beginning was written.

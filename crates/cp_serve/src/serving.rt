@@ -4,7 +4,7 @@ ghost use Rattle.std.specs.Prelude.{◌≡◌, ◌<◌, ◌↔◌, ◌∷◌, []
 ghost use Rattle.cp_stream.specs.Read.{IsDevice};
 ghost use Rattle.cp_stream.specs.Tap.{failures_of};
 ghost use Rattle.cp_stream.specs.Write.{Sends};
-ghost use Rattle.cp_objects.specs.Work.{Lives};
+ghost use Rattle.cp_dispatch.specs.Work.{Lives};
 ghost use Rattle.cp_serve.specs.Matching.{reason_in};
 ghost use Rattle.cp_serve.specs.Output.{IsServedAt, IsStoppedAt, ReadsUpTo, ends};
 ghost use Rattle.cp_serve.specs.Reached.{BreaksOff, EndingStops, EndsAll, FollowsIf, FrontStops, IsNew, PieceStops, Rounded, RunStops, Runs, RunsTo, RunsUnread, TakesFront, TakesPiece, TakesToEnd, TakesUnread, TakingStops, out, owed, ready_of, report_of};
@@ -12,8 +12,8 @@ ghost use Rattle.cp_serve.specs.Reached.{BreaksOff, EndingStops, EndsAll, Follow
 use crate::fault::ServeFault;
 use crate::report::Report;
 use cp_connection::Connection;
+use cp_dispatch::{DispatchEvent, Dispatcher};
 use cp_frame::Mode;
-use cp_objects::{Notice, Objects};
 use cp_servants::Servant;
 use cp_stream::{StreamFault, Tap, write_whole};
 use cp_vat_machine::Reason;
@@ -81,7 +81,7 @@ pub fn serve_each<O: Servant, R: Read, W: Write>(
 struct Server {
     alloc: Global,
     connection: Connection,
-    objects: Objects,
+    objects: Dispatcher,
     /// How many of the bytes that go out are of messages that were taken to their end.
     ready: usize,
 }
@@ -94,7 +94,7 @@ impl Server {
         Server {
             alloc,
             connection: Connection::new(alloc, mode, Limits::standard(), Some(0)),
-            objects: Objects::new(alloc),
+            objects: Dispatcher::new(alloc),
             ready: 0,
         }
     }
@@ -139,10 +139,10 @@ impl Server {
     fn report(mut self) -> Report
         ensures { result ≡ report_of self }
     {
-        let tally = self.connection.tally();
+        let stats = self.connection.stats();
         Report {
-            messages: tally.messages,
-            sent: tally.sent,
+            messages: stats.messages,
+            sent: stats.sent,
             closed: self.reason(),
         }
     }
@@ -335,13 +335,13 @@ impl Server {
     }
 }
 
-/// Why the vat closed, if a notice says so.
-fn reason_of(notice: Notice) -> Option<Reason>
+/// Why the vat closed, if an event says so.
+fn reason_of(notice: DispatchEvent) -> Option<Reason>
     ensures { result ≡ reason_in (notice ∷ []) }
 {
     match notice {
-        Notice::Closed(reason) => Some(reason),
-        Notice::Settled { .. } => None,
+        DispatchEvent::Closed(reason) => Some(reason),
+        DispatchEvent::Settled { .. } => None,
     }
 }
 

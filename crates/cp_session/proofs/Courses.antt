@@ -1,9 +1,9 @@
 -- One course of a connection after another.
 use Rattle.std.proofs.Common.{◌≡◌, ◌++◌, ◌∙◌, ℕ, List, sym, ap, append_assoc}
-use Rattle.cp_connection.specs.declared.happening.Happening.{Happening}
+use Rattle.cp_connection.specs.declared.event.ConnectionEvent.{ConnectionEvent}
 use Rattle.cp_connection.specs.Link.{Link}
 use Rattle.cp_connection.specs.Lives.{Life, Course, lives, aborts}
-use Rattle.cp_objects.proofs.Living.{life_both}
+use Rattle.cp_dispatch.proofs.Living.{life_both}
 
 -- a list that ends in another, and then has more
 ends_more : {X : Type 0} (a b c all : List X) → all ≡ a ++ b → all ++ c ≡ a ++ (b ++ c)
@@ -14,13 +14,13 @@ begins_more : {X : Type 0} (c a b all : List X) → all ≡ a ++ b → c ++ all 
 begins_more c a b all e = ap (λ x. c ++ x) e ∙ sym (append_assoc c a b)
 
 -- a life after it
-pub course_then : {a b c : Link} {taken more written further : List ℕ} {handed others : List Happening} → Course a taken written handed b → Life b more further others c
+pub course_then : {a b c : Link} {taken more written further : List ℕ} {handed others : List ConnectionEvent} → Course a taken written handed b → Life b more further others c
     → Course a (taken ++ more) (written ++ further) (handed ++ others) c
 course_then (lives life) k = lives (life_both life k)
 course_then (aborts excess before aborted life e f g) k =
     aborts excess before aborted (life_both life k) (ends_more _ _ _ _ e) (ends_more _ _ _ _ f) (ends_more _ _ _ _ g)
 
-pub course_both : {a b c : Link} {taken more written further : List ℕ} {handed others : List Happening} → Course a taken written handed b → Course b more further others c
+pub course_both : {a b c : Link} {taken more written further : List ℕ} {handed others : List ConnectionEvent} → Course a taken written handed b → Course b more further others c
     → Course a (taken ++ more) (written ++ further) (handed ++ others) c
 course_both h (lives life) = course_then h life
 course_both h (aborts excess before aborted life e f g) =

@@ -1,8 +1,8 @@
 -- A call that comes where nobody serves, and what is taken where no byte may wait.
 use Rattle.std.proofs.Common.{◌≡◌, ◌+◌, ◌++◌, ◌∷◌, List, [], sym, ap, ◌∙◌, arith, length}
 use Rattle.std.proofs.lemmas.List.{nil_from_length, length-append}
-use Rattle.cp_objects.specs.Rounds.{by_object, by_none}
-use Rattle.cp_makers.specs.Hall.{HallKind}
+use Rattle.cp_dispatch.specs.Rounds.{by_object, by_none}
+use Rattle.cp_objects.specs.ObjectTable.{ObjectTableKind}
 use Rattle.cp_servants.specs.Servant.{Kind}
 use Rattle.cp_session.specs.Doing.{drops, holds_up, takes}
 use Rattle.cp_session.specs.Laws.{NobodyServes, WrittenFirst}
@@ -17,7 +17,7 @@ pub nobody_serves : {A : Type 0} (kind : Kind A) → NobodyServes kind
 nobody_serves kind k ticket call reply old new objects others none (by_object holds calls) = absurd (nothing_in calls.front calls.before calls.back (sym none ∙ calls.was))
 nobody_serves kind k ticket call reply old new objects others none (by_none few is same left) = (is, same, left)
 
-pub written_first : {H : Type 0} (hall : HallKind H) → WrittenFirst hall
-written_first hall old new piece now count (drops draining all same) none not_draining some = absurd (not_draining draining)
-written_first hall old new piece now count (holds_up drains why is same) none not_draining some = absurd (omega (arith, is, some))
-written_first hall old new piece now count (takes mid may some front settles) none not_draining more = nil_from_length _ (omega (arith, may.few, none))
+pub written_first : {H : Type 0} (table : ObjectTableKind H) → WrittenFirst table
+written_first table old new piece now count (drops draining all same) none not_draining some = absurd (not_draining draining)
+written_first table old new piece now count (holds_up drains why is same) none not_draining some = absurd (omega (arith, is, some))
+written_first table old new piece now count (takes mid may some front settles) none not_draining more = nil_from_length _ (omega (arith, may.few, none))

@@ -4,9 +4,9 @@ use Rattle.std.proofs.lemmas.List.{length-append}
 use Rattle.cp_connection.specs.declared.fault.ConnectionFault.TheVariants as faults
 use Rattle.cp_connection.specs.Link.{Link}
 use Rattle.cp_connection.specs.Receiving as connection
-use Rattle.cp_objects.specs.Receiving.{IsCutShort, ran_out}
-use Rattle.cp_objects.specs.Work.{Lives}
-use Rattle.cp_objects.proofs.Living.{lives_both}
+use Rattle.cp_dispatch.specs.Receiving.{IsCutShort, ran_out}
+use Rattle.cp_dispatch.specs.Work.{Lives}
+use Rattle.cp_dispatch.proofs.Living.{lives_both}
 
 -- memory ran out after bytes were taken
 pub cut_later : {H : Type 0} {old mid done new : Link} {objects others : H} (piece : List ℕ) (count : ℕ) → connection.Receives old piece count mid → Lives mid done → Lives done new

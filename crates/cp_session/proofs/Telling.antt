@@ -1,8 +1,8 @@
 -- Which event is told, and what the program knows then.
 use Rattle.std.proofs.Common.{◌≡◌, ◌∙◌, Bool, true, false, if◌then◌else◌, Option, Some, None, refl, sym, ap}
-use Rattle.cp_objects.specs.declared.notice.Notice.TheVariants as notices
-use Rattle.cp_objects.specs.Rounds.{HandsOver}
-use Rattle.cp_objects.specs.Work.{Work}
+use Rattle.cp_dispatch.specs.declared.event.DispatchEvent.TheVariants as notices
+use Rattle.cp_dispatch.specs.Rounds.{HandsOver}
+use Rattle.cp_dispatch.specs.Work.{Work}
 use Rattle.cp_vat_machine.specs.declared.effect.Reason.{Reason}
 use Rattle.cp_session.specs.declared.event.SessionEvent.{SessionEvent}
 use Rattle.cp_session.specs.declared.event.SessionEvent.TheVariants as events

@@ -3,8 +3,8 @@ use Rattle.std.proofs.Common.{◌≡◌, ◌⊎◌, ◌∙◌, ℕ, Bool, true, 
 use Rattle.std.proofs.lemmas.Bool.{false≢true}
 use Rattle.cp_connection.specs.declared.excess.Excess.{Excess}
 use Rattle.cp_connection.specs.declared.fault.ConnectionFault.{ConnectionFault}
-use Rattle.cp_makers.specs.Hall.{HallKind}
-use Rattle.cp_makers.specs.Listed.{listed}
+use Rattle.cp_objects.specs.ObjectTable.{ObjectTableKind}
+use Rattle.cp_objects.specs.Listed.{listed}
 use Rattle.cp_servants.specs.Servant.{Kind}
 use Rattle.cp_session.specs.declared.limits.SessionLimits.{SessionLimits}
 use Rattle.cp_session.specs.declared.progress.Limit.TheVariants as limits
@@ -17,7 +17,7 @@ use Rattle.cp_session.specs.Doing.{IsStopped, alarm_of, due_of, is_stopped, limi
 use Rattle.cp_session.specs.Laws.{LimitsAlone, SeeksNone}
 use Rattle.cp_session.specs.Progress as going
 use Rattle.cp_session.specs.Progress.{TicksTo, closing, earlier, ended_by, excess_by, finished}
-use Rattle.cp_session.specs.Runs.{Deed, Does, Runs}
+use Rattle.cp_session.specs.Runs.{Transfer, Does, Runs}
 use Rattle.cp_session.specs.Runs as runs
 use Rattle.cp_session.specs.Search as seeking
 use Rattle.cp_session.specs.Search.{Seeks}
@@ -58,79 +58,79 @@ module _ {H : Type 0} where
   failing : (new : State H) (fault : ConnectionFault) → new.progress.fault ≡ Some fault → SeeksNone new
   failing new fault is = inr (subst (λ (f : Option ConnectionFault). IsSome f) (sym is) refl)
 
-seeks_sweep : {H : Type 0} {hall : HallKind H} {objects : H} {old new : Service} → Seeks hall objects old new → new.sweep ≡ old.sweep
+seeks_sweep : {H : Type 0} {table : ObjectTableKind H} {objects : H} {old new : Service} → Seeks table objects old new → new.sweep ≡ old.sweep
 seeks_sweep (seeking.none_due why same) = ap (λ (s : Service). s.sweep) same
 seeks_sweep (seeking.releases work due released same) = ap (λ (s : Service). s.sweep) same
 
--- Of a hall of which no object may go.
-module _ {H : Type 0} (hall : HallKind H) (stay : (objects : H) → hall.guests objects ≡ 0) where
-  sweeps_none : {now : ℕ} {old new : Service} {objects others : H} → Sweeps hall now old new objects others → new.sweep ≡ old.sweep
+-- Of a table of which no object may go.
+module _ {H : Type 0} (table : ObjectTableKind H) (stay : (objects : H) → table.guests objects ≡ 0) where
+  sweeps_none : {now : ℕ} {old new : Service} {objects others : H} → Sweeps table now old new objects others → new.sweep ≡ old.sweep
   sweeps_none (sweeping.none_may_go none same left) = ap (λ (s : Service). s.sweep) same
   sweeps_none {objects = objects} (sweeping.waits some early same left) = absurd (omega (arith, stay objects, some))
   sweeps_none {objects = objects} (sweeping.sweeps some due swept) = absurd (omega (arith, stay objects, some))
 
-  polls_sweep : {now : ℕ} {old new : Service} {objects others : H} → Polls hall now old new objects others → new.sweep ≡ old.sweep
+  polls_sweep : {now : ℕ} {old new : Service} {objects others : H} → Polls table now old new objects others → new.sweep ≡ old.sweep
   polls_sweep h = sweeps_none h.sweeps ∙ seeks_sweep h.seeks
 
-  follows_sweep : (now : ℕ) (old new : Service) (objects others : H) (has_ended : Bool) → Follows hall now has_ended old new objects others → new.sweep ≡ old.sweep
+  follows_sweep : (now : ℕ) (old new : Service) (objects others : H) (has_ended : Bool) → Follows table now has_ended old new objects others → new.sweep ≡ old.sweep
   follows_sweep now old new objects others true h = polls_sweep h
   follows_sweep now old new objects others false h = ap (λ (s : Service). s.sweep) h.0
 
-  takes_sweep : {now : ℕ} {old new : Service} {objects others : H} (piece : List ℕ) (count : ℕ) → Takes hall now old piece count new objects others → new.sweep ≡ old.sweep
+  takes_sweep : {now : ℕ} {old new : Service} {objects others : H} (piece : List ℕ) (count : ℕ) → Takes table now old piece count new objects others → new.sweep ≡ old.sweep
   takes_sweep {now = now} {old = old} piece count h = follows_sweep now (record old { work = h.work }) _ _ _ h.has_ended h.follows
 
-  left_still : {old new : State H} {now : ℕ} → doing.Leaves hall old now new → SeeksNone old → SeeksNone new
+  left_still : {old new : State H} {now : ℕ} → doing.Leaves table old now new → SeeksNone old → SeeksNone new
   left_still (doing.stays why same) none = same_still same none
   left_still (doing.leaves settled same) none = same_still same none
 
-  settled_still : {old new : State H} {now : ℕ} → doing.Settles hall old now new → SeeksNone old → SeeksNone new
+  settled_still : {old new : State H} {now : ℕ} → doing.Settles table old now new → SeeksNone old → SeeksNone new
   settled_still h none = left_still h.left_so (same_still h.heeds none)
 
-  received_still : {old new : State H} (piece : List ℕ) (now count : ℕ) → doing.Receives hall old piece now count new → SeeksNone old → SeeksNone new
+  received_still : {old new : State H} (piece : List ℕ) (now count : ℕ) → doing.Receives table old piece now count new → SeeksNone old → SeeksNone new
   received_still piece now count (doing.drops draining all same) none = same_still same none
   received_still piece now count (doing.holds_up drains why zero same) none = same_still same none
   received_still {old = old} piece now count (doing.takes mid may some taken settles) none =
       settled_still settles (still old mid (takes_sweep piece count taken.takes) (ap (λ (p : Progress). p.fault) taken.progress) none)
 
-  ended_still : {old new : State H} {now : ℕ} → doing.EndsBytes hall old now new → SeeksNone old → SeeksNone new
+  ended_still : {old new : State H} {now : ℕ} → doing.EndsBytes table old now new → SeeksNone old → SeeksNone new
   ended_still {old = old} (doing.finishes mid serves done settles) none =
       settled_still settles (still old mid (polls_sweep done.ends.polls) (ap (λ (p : Progress). p.fault) done.progress) none)
   ended_still {old = old} (doing.is_known mid serves known settles) none =
       let fault = ap (λ (s : State H). s.progress.fault) known ∙ closing_fault old.progress.phase (finished old.progress) in
       settled_still settles (still old mid (ap (λ (s : State H). s.service.sweep) known) fault none)
 
-  polled_still : {old new : State H} {now : ℕ} → doing.PollsOn hall old now new → SeeksNone old → SeeksNone new
+  polled_still : {old new : State H} {now : ℕ} → doing.PollsOn table old now new → SeeksNone old → SeeksNone new
   polled_still (doing.rests why same) none = same_still same none
   polled_still {old = old} (doing.polls mid more done settles) none =
       settled_still settles (still old mid (polls_sweep done.works.polls) (ap (λ (s : State H). s.progress.fault) done.same) none)
 
-  in_time_still : (old new : State H) {now : ℕ} {objects others : H} → (IsStopped old → ⊥) → SweepsInTime hall now old.service new.service objects others
+  in_time_still : (old new : State H) {now : ℕ} {objects others : H} → (IsStopped old → ⊥) → SweepsInTime table now old.service new.service objects others
       → new.progress.fault ≡ old.progress.fault → SeeksNone old → SeeksNone new
   in_time_still old new open_yet (sweeping.too_early early same left) fault none = still old new (ap (λ (s : Service). s.sweep) same) fault none
   in_time_still old new {now = now} open_yet (sweeping.in_time due swept) fault (inl none) = absurd (subst (λ (t : Option ℕ). HasCome now t) none due)
   in_time_still old new open_yet (sweeping.in_time due swept) fault (inr faulty) = absurd (open_yet (inr (inl faulty)))
 
-  passed_still : {old new : State H} {now : ℕ} → (IsStopped old → ⊥) → doing.PassesTime hall now old new → SeeksNone old → SeeksNone new
+  passed_still : {old new : State H} {now : ℕ} → (IsStopped old → ⊥) → doing.PassesTime table now old new → SeeksNone old → SeeksNone new
   passed_still open_yet (doing.too_early early same) none = same_still same none
   passed_still {old = old} {new = new} open_yet (doing.passes due acts) none = in_time_still old new open_yet acts.sweeps (ap (λ (s : State H). s.progress.fault) acts.same) none
   passed_still {new = new} open_yet (doing.runs_out_of_memory due link allowed is) none = failing new _ (ap (λ (p : Progress). p.fault) is)
 
-  gone_by_still : {old new : State H} {now : ℕ} → doing.GoesBy hall now old new → SeeksNone old → SeeksNone new
+  gone_by_still : {old new : State H} {now : ℕ} → doing.GoesBy table now old new → SeeksNone old → SeeksNone new
   gone_by_still (inl passed) none = passed_still passed.0 passed.1 none
   gone_by_still (inr stopped) none = same_still stopped.1 none
 
-  ticked_still : {old new : State H} {now : ℕ} → doing.Ticks hall old now new → SeeksNone old → SeeksNone new
+  ticked_still : {old new : State H} {now : ℕ} → doing.Ticks table old now new → SeeksNone old → SeeksNone new
   ticked_still {old = old} h none =
       settled_still h.settles (gone_by_still h.goes_by (still old h.ticked (ap (λ (s : State H). s.service.sweep) h.same) (ticked_fault h.ticks) none))
 
-  refused_still : {old new : State H} {now : ℕ} → doing.IsRefused hall old now new → SeeksNone old → SeeksNone new
+  refused_still : {old new : State H} {now : ℕ} → doing.IsRefused table old now new → SeeksNone old → SeeksNone new
   refused_still (doing.was_over over same) none = same_still same none
   refused_still {old = old} (doing.refuses mid at_work refuses is settles) none =
       let fault = ap (λ (s : State H). s.progress.fault) is
       ∙ ended_fault (excess_by limits.Kept old.progress.phase) (record old.progress { limit = Some limits.Kept }) in
       settled_still settles (still old mid (ap (λ (s : State H). s.service.sweep) is) fault none)
 
-  done_still : {old new : State H} {deed : Deed} → Does hall old deed new → SeeksNone old → SeeksNone new
+  done_still : {old new : State H} {transfer : Transfer} → Does table old transfer new → SeeksNone old → SeeksNone new
   done_still (runs.receives piece now count done is) none = received_still piece now count done none
   done_still (runs.fails piece now fault cut is) none = settled_still cut.settles (failing cut.mid _ (ap (λ (p : Progress). p.fault) cut.cut.progress))
   done_still (runs.ends now done is) none = ended_still done none
@@ -145,7 +145,7 @@ module _ {H : Type 0} (hall : HallKind H) (stay : (objects : H) → hall.guests 
   done_still (runs.hands_on waker handed is) none = same_still handed.1 none
   done_still (runs.calls call is_call did is) none = same_still did.2 none
 
-  run_still : {first last : State H} {deed : Deed} → Runs hall first deed last → SeeksNone first → SeeksNone last
+  run_still : {first last : State H} {transfer : Transfer} → Runs table first transfer last → SeeksNone first → SeeksNone last
   run_still runs.begins none = none
   run_still (runs.goes_on before_it does is) none = done_still does (run_still before_it none)
 
@@ -163,12 +163,12 @@ due_alone true limit alarm why = refl
 due_alone false limit alarm (inl stopped) = absurd (false≢true stopped)
 due_alone false limit alarm (inr none) = ap (λ (a : Option ℕ). earlier limit a) none ∙ none_earlier limit
 
-alone : {H : Type 0} (hall : HallKind H) (state : State H) → hall.deadline state.objects ≡ None → SeeksNone state → due_of hall state ≡ limit_of state
-alone hall state wakes_none (inl none) = due_alone (is_stopped state) (limit_of state) (alarm_of hall state) (inr (nones_earlier _ _ wakes_none none))
-alone hall state wakes_none (inr faulty) = due_alone (is_stopped state) (limit_of state) (alarm_of hall state) (inl (is_one _ _ _ (inr (inl faulty))))
+alone : {H : Type 0} (table : ObjectTableKind H) (state : State H) → table.deadline state.objects ≡ None → SeeksNone state → due_of table state ≡ limit_of state
+alone table state wakes_none (inl none) = due_alone (is_stopped state) (limit_of state) (alarm_of table state) (inr (nones_earlier _ _ wakes_none none))
+alone table state wakes_none (inr faulty) = due_alone (is_stopped state) (limit_of state) (alarm_of table state) (inl (is_one _ _ _ (inr (inl faulty))))
 
 pub limits_alone : {A : Type 0} (kind : Kind A) → LimitsAlone kind
 limits_alone kind = (
   λ options objects now. inl refl,
-  λ first last deed run none. let none_yet = run_still (listed kind) (λ objects. refl) run none in (none_yet, alone (listed kind) last refl none_yet),
+  λ first last transfer run none. let none_yet = run_still (listed kind) (λ objects. refl) run none in (none_yet, alone (listed kind) last refl none_yet),
 )

@@ -13,15 +13,15 @@ use Rattle.cp_connection.specs.Doing.{Acts}
 use Rattle.cp_connection.specs.Excess.{excess_of}
 use Rattle.cp_connection.specs.Link.{Link}
 use Rattle.cp_connection.specs.Receiving.{Wrote}
-use Rattle.cp_makers.specs.declared.family.Family.{Family}
-use Rattle.cp_makers.specs.declared.waker.Waker.{Waker}
-use Rattle.cp_makers.specs.Family.{adding, kin_of}
-use Rattle.cp_makers.specs.Hall.{HallKind}
-use Rattle.cp_objects.specs.declared.notice.Notice.{Notice}
-use Rattle.cp_objects.specs.declared.notice.Notice.TheVariants as notices
-use Rattle.cp_objects.specs.Receiving.{IsCutShort}
-use Rattle.cp_objects.specs.Rounds.{HandsOver}
-use Rattle.cp_objects.specs.Work.{Work, Lives}
+use Rattle.cp_objects.specs.declared.objects.Objects.{Objects}
+use Rattle.cp_objects.specs.declared.waker.Waker.{Waker}
+use Rattle.cp_objects.specs.Objects.{adding, objects_of}
+use Rattle.cp_objects.specs.ObjectTable.{ObjectTableKind}
+use Rattle.cp_dispatch.specs.declared.event.DispatchEvent.{DispatchEvent}
+use Rattle.cp_dispatch.specs.declared.event.DispatchEvent.TheVariants as notices
+use Rattle.cp_dispatch.specs.Receiving.{IsCutShort}
+use Rattle.cp_dispatch.specs.Rounds.{HandsOver}
+use Rattle.cp_dispatch.specs.Work.{Work, Lives}
 use Rattle.cp_session.specs.declared.event.SessionEvent.{SessionEvent}
 use Rattle.cp_session.specs.declared.event.SessionEvent.TheVariants as events
 use Rattle.cp_session.specs.declared.progress.Limit.{Limit}
@@ -64,9 +64,9 @@ abbrev pub Exports : {A : Type 0} → Option Cap → A → State (Vec A) → Sta
 Exports (Some cap) object old new = Lists (old.objects.items ++ object ∷ []) old new
 Exports None object old new = new ≡ old
 
--- a family has an object more, which stays, and nothing else changed
-abbrev pub Adds : {A : Type 0} → A → State (Family A) → State (Family A) → Type 0
-Adds object old new = (new ≡ record old { objects = new.objects }) × (kin_of new.objects ≡ adding object (kin_of old.objects))
+-- there is an object more, which stays, and nothing else changed
+abbrev pub Adds : {A : Type 0} → A → State (Objects A) → State (Objects A) → Type 0
+Adds object old new = (new ≡ record old { objects = new.objects }) × (objects_of new.objects ≡ adding object (objects_of old.objects))
 
 module _ {H : Type 0} where
   -- More of the peer is taken while little waits to be written.
@@ -95,10 +95,10 @@ module _ {H : Type 0} where
   fault_of state = or_else state.progress.fault (link_of state).fault
 
 -- Of objects of one kind.
-module _ {H : Type 0} (hall : HallKind H) where
+module _ {H : Type 0} (table : ObjectTableKind H) where
   -- something may be given though nothing more comes
   abbrev pub GivesMore : State H → Type 0
-  GivesMore state = (IsStopped state → ⊥) × MayGive hall state.service state.objects
+  GivesMore state = (IsStopped state → ⊥) × MayGive table state.service state.objects
 
   -- why nothing is given, whatever the objects say
   abbrev pub GivesNone : State H → Type 0
@@ -128,15 +128,15 @@ module _ {H : Type 0} (hall : HallKind H) where
   -- The first bytes of a piece were taken at this time, up to the end of a message, and what that asks of the objects was done.
   pub record TakesIn (old : State H) (piece : List ℕ) (now count : ℕ) (new : State H) : Type 0 where
     pub at : H
-    pub times : hall.is_at now old.objects at
-    pub takes : Takes hall now old.service piece count new.service at new.objects
+    pub times : table.is_at now old.objects at
+    pub takes : Takes table now old.service piece count new.service at new.objects
     pub limits : new.limits ≡ old.limits
     pub progress : new.progress ≡ taken_at old.progress now (taken_of (link_of new).reading)
 
   -- Why they weren't. Nothing more is taken then, and where something is too much the peer is told so.
   pub record IsCut (old : State H) (piece : List ℕ) (now : ℕ) (fault : ConnectionFault) (new : State H) : Type 0 where
     pub at : H
-    pub times : hall.is_at now old.objects at
+    pub times : table.is_at now old.objects at
     pub link : Link
     pub cut : IsCutShort (link_of old) piece fault link at new.objects
     pub refuses : Refuses (excess_of fault) link (link_of new)
@@ -161,15 +161,15 @@ module _ {H : Type 0} (hall : HallKind H) where
   -- The peer's bytes ended after a message, and the objects were polled.
   pub record Finishes (now : ℕ) (old new : State H) : Type 0 where
     pub at : H
-    pub times : hall.is_at now old.objects at
-    pub ends : Ends hall now old.service new.service at new.objects
+    pub times : table.is_at now old.objects at
+    pub ends : Ends table now old.service new.service at new.objects
     pub limits : new.limits ≡ old.limits
     pub progress : new.progress ≡ finished old.progress
 
   -- Why they didn't, or memory ran out as the objects were polled. Nothing more is taken then.
   pub record IsUnfinished (now : ℕ) (old : State H) (fault : ConnectionFault) (new : State H) : Type 0 where
     pub at : H
-    pub times : hall.is_at now old.objects at
+    pub times : table.is_at now old.objects at
     pub unended : IsUnended (link_of old) fault (link_of new) at new.objects
     pub limits : new.limits ≡ old.limits
     pub progress : new.progress ≡ failed (finished old.progress) fault
@@ -191,8 +191,8 @@ module _ {H : Type 0} (hall : HallKind H) where
   -- What happened was worked off, and the objects were polled.
   pub record GoesOn (now : ℕ) (old new : State H) : Type 0 where
     pub at : H
-    pub times : hall.is_at now old.objects at
-    pub works : WorksOn hall now old.service new.service at new.objects
+    pub times : table.is_at now old.objects at
+    pub works : WorksOn table now old.service new.service at new.objects
     pub same : new ≡ record old { service = new.service; objects = new.objects }
 
   -- Memory ran out for that. Nothing more is taken then.
@@ -231,16 +231,16 @@ module _ {H : Type 0} (hall : HallKind H) where
 
   -- when an object is to be woken, or objects are to be sought that nothing refers to
   abbrev pub alarm_of : State H → Option ℕ
-  alarm_of state = earlier (hall.deadline state.objects) state.service.sweep.at
+  alarm_of state = earlier (table.deadline state.objects) state.service.sweep.at
 
   -- Those objects are woken whose time has come, and those are dropped that nothing refers to, where the time for that has come. Of the connection nothing is
   -- done but calls of the application.
   pub record ActsInTime (now : ℕ) (old new : State H) : Type 0 where
     pub at : H
     pub woken : H
-    pub times : hall.is_at now old.objects at
-    pub wakes : hall.wakes_due at woken
-    pub sweeps : SweepsInTime hall now old.service new.service woken new.objects
+    pub times : table.is_at now old.objects at
+    pub wakes : table.wakes_due at woken
+    pub sweeps : SweepsInTime table now old.service new.service woken new.objects
     pub same : new ≡ record old { service = new.service; objects = new.objects }
     pub lives : Lives (link_of old) (link_of new)
 
@@ -257,11 +257,11 @@ module _ {H : Type 0} (hall : HallKind H) where
 
   -- an object is woken, and nothing else is done
   abbrev pub Wakes : ℕ → State H → State H → Type 0
-  Wakes object old new = hall.wakes object old.objects new.objects × (new ≡ record old { objects = new.objects })
+  Wakes object old new = table.wakes object old.objects new.objects × (new ≡ record old { objects = new.objects })
 
   -- whom an object wants to be woken of another session is handed out, and nothing else is done
   abbrev pub HandsOn : Option Waker → State H → State H → Type 0
-  HandsOn waker old new = hall.hands_on waker old.objects new.objects × (new ≡ record old { objects = new.objects })
+  HandsOn waker old new = table.hands_on waker old.objects new.objects × (new ≡ record old { objects = new.objects })
 
   -- when a limit of time is met, if no byte moves before; or that time has come, unless nothing more is given
   abbrev pub due_of : State H → Option ℕ
@@ -273,7 +273,7 @@ module _ {H : Type 0} (hall : HallKind H) where
     pub told : Option Excess
     pub ticked : State H
     pub mid : State H
-    pub ticks : TicksTo old.limits old.progress (kept_of old.service.work (hall.guests old.objects)) now told ticked.progress
+    pub ticks : TicksTo old.limits old.progress (kept_of old.service.work (table.guests old.objects)) now told ticked.progress
     pub refuses : Refuses told (link_of old) (link_of ticked)
     pub same : ticked ≡ with_progress (linked old (link_of ticked)) ticked.progress
     pub goes_by : GoesBy now ticked mid
@@ -286,8 +286,8 @@ module _ {H : Type 0} (hall : HallKind H) where
     refuses : (mid : State H) → old.progress.phase ≢ phases.Over → Refuses (excess_by limits.Kept old.progress.phase) (link_of old) (link_of mid)
         → mid ≡ with_progress (linked old (link_of mid)) (met limits.Kept old.progress) → Settles mid now new → IsRefused old now new
 
--- what is told of a notice, or where there is none
-abbrev pub told_of : {H : Type 0} → State H → Option Notice → Option SessionEvent
+-- what is told of an event, or where there is none
+abbrev pub told_of : {H : Type 0} → State H → Option DispatchEvent → Option SessionEvent
 told_of state (Some (notices.Settled question outcome)) = Some (events.Outcome question outcome)
 told_of state (Some (notices.Closed reason)) = if state.progress.is_told then None else Some (events.Closed reason)
 told_of state None = if state.progress.is_told then None else ending_by state.progress.limit (fault_of state) state.progress.phase
@@ -300,7 +300,7 @@ knows_by (Some other) told = true
 
 -- An event is handed out, if there is one: each outcome that came, once and in order, and what says why nothing more is taken, once.
 pub record Tells {H : Type 0} (old : State H) (event : Option SessionEvent) (new : State H) : Type 0 where
-  pub notice : Option Notice
+  pub notice : Option DispatchEvent
   pub work : Work
   pub hands : HandsOver old.service.work notice work
   pub is : event ≡ told_of old notice

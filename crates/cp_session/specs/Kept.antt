@@ -4,12 +4,12 @@ use Rattle.std.specs.FinMap.{len}
 use Rattle.cp_frame.specs.Reader.{taken_of}
 use Rattle.cp_refs.specs.Memory.{counted}
 use Rattle.cp_vat.specs.Kept.{entries_of}
-use Rattle.cp_connection.specs.Contents.{happened_memory, kept_contents}
-use Rattle.cp_objects.specs.Noticed.{noticed_memory}
-use Rattle.cp_objects.specs.Work.{Work}
+use Rattle.cp_connection.specs.Contents.{event_memory, kept_contents}
+use Rattle.cp_dispatch.specs.Noticed as dispatch
+use Rattle.cp_dispatch.specs.Work.{Work}
 
 -- The bytes that are kept: of the open message, of what waits to be written, 640 for each entry of the vat and each object that may go, 272 for each promise, and
 -- of the contents that the vat keeps and that weren't taken.
 abbrev pub kept_of : Work → ℕ → ℕ
 kept_of work guests =
-    counted (taken_of work.link.reading + length work.link.unwritten + (entries_of work.link.vat + guests) * 640 + len work.link.vat.values.promises * 272 + kept_contents work.link + happened_memory work.link.happened + noticed_memory work.notices)
+    counted (taken_of work.link.reading + length work.link.unwritten + (entries_of work.link.vat + guests) * 640 + len work.link.vat.values.promises * 272 + kept_contents work.link + event_memory work.link.happened + dispatch.event_memory work.notices)

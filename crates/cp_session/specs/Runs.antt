@@ -5,9 +5,9 @@ use Rattle.cp_vat_machine.specs.declared.event.Value.{Value}
 use Rattle.cp_connection.specs.declared.fault.ConnectionFault.{ConnectionFault}
 use Rattle.cp_connection.specs.Link.{Link}
 use Rattle.cp_connection.specs.Lives.{IsCall}
-use Rattle.cp_makers.specs.declared.waker.Waker.{Waker}
-use Rattle.cp_makers.specs.Hall.{HallKind}
-use Rattle.cp_objects.specs.Receiving.{IsCutShort, is_unreceived, ran_out}
+use Rattle.cp_objects.specs.declared.waker.Waker.{Waker}
+use Rattle.cp_objects.specs.ObjectTable.{ObjectTableKind}
+use Rattle.cp_dispatch.specs.Receiving.{IsCutShort, is_unreceived, ran_out}
 use Rattle.cp_session.specs.declared.event.SessionEvent.{SessionEvent}
 use Rattle.cp_session.specs.declared.progress.Phase.{Phase}
 use Rattle.cp_session.specs.declared.progress.Phase.TheVariants as phases
@@ -22,7 +22,7 @@ pub record Call : Type 0 where
 -- What one call of a session did. It was given these bytes, of which its connection took those, and dropped the others; and it was told that these were written.
 -- The program made these calls, woke these objects, refused the peer at these times, and said at those that time passed. These events were handed out, and so were
 -- these objects of other sessions, which are to be woken. All the times that it was given are these.
-pub record Deed : Type 0 where
+pub record Transfer : Type 0 where
   pub given : List ℕ
   pub taken : List ℕ
   pub written : List ℕ
@@ -35,16 +35,16 @@ pub record Deed : Type 0 where
   pub times : List ℕ
 
 -- nothing of all this
-abbrev pub nothing : Deed
+abbrev pub nothing : Transfer
 nothing =
     record { given = []; taken = []; written = []; called = []; roused = []; refused = []; ticked = []; told = []; woken = []; times = [] }
 
 -- a call at this time, and nothing else of all this
-abbrev pub called_at : ℕ → Deed
+abbrev pub called_at : ℕ → Transfer
 called_at now = record nothing { times = now ∷ [] }
 
 -- one after the other
-abbrev pub both : Deed → Deed → Deed
+abbrev pub both : Transfer → Transfer → Transfer
 both one other = record {
   given = one.given ++ other.given;
   taken = one.taken ++ other.taken;
@@ -59,7 +59,7 @@ both one other = record {
 }
 
 -- these bytes were given at this time, and what the connection took of them
-abbrev pub giving : ℕ → List ℕ → List ℕ → Deed
+abbrev pub giving : ℕ → List ℕ → List ℕ → Transfer
 giving now given taken = record (called_at now) { given = given; taken = taken }
 
 -- what a connection takes of bytes that are given: none while its peer's close is waited for
@@ -73,28 +73,28 @@ abbrev pub taken_by : {H : Type 0} {old : Link} {piece : List ℕ} {fault : Conn
 taken_by (is_unreceived taken unreceived same) = taken
 taken_by {piece = piece} (ran_out count mid received lives memory) = take count piece
 
-module _ {H : Type 0} (hall : HallKind H) where
+module _ {H : Type 0} (table : ObjectTableKind H) where
   -- one call of a session
-  pub data Does (old : State H) : Deed → State H → Type 0 where
-    receives : {deed : Deed} {new : State H} (piece : List ℕ) (now count : ℕ) → Receives hall old piece now count new
-        → deed ≡ giving now (take count piece) (taken_in old.progress.phase (take count piece)) → Does old deed new
-    fails : {deed : Deed} {new : State H} (piece : List ℕ) (now : ℕ) (fault : ConnectionFault) (cut : IsUntaken hall old piece now fault new)
-        → deed ≡ giving now [] (taken_by cut.cut.cut) → Does old deed new
-    ends : {deed : Deed} {new : State H} (now : ℕ) → EndsBytes hall old now new → deed ≡ called_at now → Does old deed new
-    ends_inside : {deed : Deed} {new : State H} (now : ℕ) (fault : ConnectionFault) → EndsCut hall old now fault new → deed ≡ called_at now → Does old deed new
-    polls : {deed : Deed} {new : State H} (now : ℕ) → PollsOn hall old now new → deed ≡ called_at now → Does old deed new
-    runs_out : {deed : Deed} {new : State H} (now : ℕ) → RunsOut hall old now new → deed ≡ called_at now → Does old deed new
-    writes : {deed : Deed} {new : State H} (count now : ℕ) → Writes hall old count now new
-        → deed ≡ record (called_at now) { written = take count (link_of old).unwritten } → Does old deed new
-    ticks : {deed : Deed} {new : State H} (now : ℕ) → Ticks hall old now new → deed ≡ record (called_at now) { ticked = now ∷ [] } → Does old deed new
-    refuses : {deed : Deed} {new : State H} (now : ℕ) → IsRefused hall old now new → deed ≡ record (called_at now) { refused = now ∷ [] } → Does old deed new
-    tells : {deed : Deed} {new : State H} (event : Option SessionEvent) → Tells old event new → deed ≡ record nothing { told = option_to_list event } → Does old deed new
-    wakes : {deed : Deed} {new : State H} (object : ℕ) → Wakes hall object old new → deed ≡ record nothing { roused = object ∷ [] } → Does old deed new
-    hands_on : {deed : Deed} {new : State H} (waker : Option Waker) → HandsOn hall waker old new → deed ≡ record nothing { woken = option_to_list waker }
-        → Does old deed new
-    calls : {deed : Deed} {new : State H} (call : Call) → IsCall call.event → Did old call.event call.result new → deed ≡ record nothing { called = call ∷ [] } → Does old deed new
+  pub data Does (old : State H) : Transfer → State H → Type 0 where
+    receives : {transfer : Transfer} {new : State H} (piece : List ℕ) (now count : ℕ) → Receives table old piece now count new
+        → transfer ≡ giving now (take count piece) (taken_in old.progress.phase (take count piece)) → Does old transfer new
+    fails : {transfer : Transfer} {new : State H} (piece : List ℕ) (now : ℕ) (fault : ConnectionFault) (cut : IsUntaken table old piece now fault new)
+        → transfer ≡ giving now [] (taken_by cut.cut.cut) → Does old transfer new
+    ends : {transfer : Transfer} {new : State H} (now : ℕ) → EndsBytes table old now new → transfer ≡ called_at now → Does old transfer new
+    ends_inside : {transfer : Transfer} {new : State H} (now : ℕ) (fault : ConnectionFault) → EndsCut table old now fault new → transfer ≡ called_at now → Does old transfer new
+    polls : {transfer : Transfer} {new : State H} (now : ℕ) → PollsOn table old now new → transfer ≡ called_at now → Does old transfer new
+    runs_out : {transfer : Transfer} {new : State H} (now : ℕ) → RunsOut table old now new → transfer ≡ called_at now → Does old transfer new
+    writes : {transfer : Transfer} {new : State H} (count now : ℕ) → Writes table old count now new
+        → transfer ≡ record (called_at now) { written = take count (link_of old).unwritten } → Does old transfer new
+    ticks : {transfer : Transfer} {new : State H} (now : ℕ) → Ticks table old now new → transfer ≡ record (called_at now) { ticked = now ∷ [] } → Does old transfer new
+    refuses : {transfer : Transfer} {new : State H} (now : ℕ) → IsRefused table old now new → transfer ≡ record (called_at now) { refused = now ∷ [] } → Does old transfer new
+    tells : {transfer : Transfer} {new : State H} (event : Option SessionEvent) → Tells old event new → transfer ≡ record nothing { told = option_to_list event } → Does old transfer new
+    wakes : {transfer : Transfer} {new : State H} (object : ℕ) → Wakes table object old new → transfer ≡ record nothing { roused = object ∷ [] } → Does old transfer new
+    hands_on : {transfer : Transfer} {new : State H} (waker : Option Waker) → HandsOn table waker old new → transfer ≡ record nothing { woken = option_to_list waker }
+        → Does old transfer new
+    calls : {transfer : Transfer} {new : State H} (call : Call) → IsCall call.event → Did old call.event call.result new → transfer ≡ record nothing { called = call ∷ [] } → Does old transfer new
 
   -- Calls of a session, one after another, and nothing else, which together did this.
-  pub data Runs (first : State H) : Deed → State H → Type 0 where
+  pub data Runs (first : State H) : Transfer → State H → Type 0 where
     begins : Runs first nothing first
-    goes_on : {before deed all : Deed} {mid new : State H} → Runs first before mid → Does mid deed new → all ≡ both before deed → Runs first all new
+    goes_on : {before transfer all : Transfer} {mid new : State H} → Runs first before mid → Does mid transfer new → all ≡ both before transfer → Runs first all new

@@ -4,10 +4,10 @@ use Rattle.cp_connection.specs.declared.fault.ConnectionFault.{ConnectionFault}
 use Rattle.cp_connection.specs.declared.fault.ConnectionFault.TheVariants as faults
 use Rattle.cp_connection.specs.Link.{Link}
 use Rattle.cp_connection.specs.Receiving.{EndsWell, EndsBadly}
-use Rattle.cp_makers.specs.Hall.{HallKind}
-use Rattle.cp_objects.specs.Receiving.{Receives}
-use Rattle.cp_objects.specs.Rounds.{Rounds, WorksOff}
-use Rattle.cp_objects.specs.Work.{Work, Lives}
+use Rattle.cp_objects.specs.ObjectTable.{ObjectTableKind}
+use Rattle.cp_dispatch.specs.Receiving.{Receives}
+use Rattle.cp_dispatch.specs.Rounds.{Rounds, WorksOff}
+use Rattle.cp_dispatch.specs.Work.{Work, Lives}
 use Rattle.cp_session.specs.Search.{Seeks}
 use Rattle.cp_session.specs.Service.{Service, with_link}
 use Rattle.cp_session.specs.Sweep.{Sweeps}
@@ -17,7 +17,7 @@ abbrev pub HasGiven : Service → Type 0
 HasGiven service = (service.gave ≡ false) × (service.work.link.happened ≡ [])
 
 -- Of objects of one kind.
-module _ {H : Type 0} (hall : HallKind H) where
+module _ {H : Type 0} (table : ObjectTableKind H) where
   -- Each object is polled once that is to be. Then the imports and promises go that nobody holds, where that is due, and the objects are dropped that nothing refers
   -- to, where that is. Nothing else was done with the connection.
   pub record Polls (now : ℕ) (old new : Service) (objects others : H) : Type 0 where
@@ -25,9 +25,9 @@ module _ {H : Type 0} (hall : HallKind H) where
     pub work : Work
     pub between : H
     pub released : Service
-    pub rounds : Rounds hall old.work gave work objects between
-    pub seeks : Seeks hall between (record old { work = work; gave = gave }) released
-    pub sweeps : Sweeps hall now released new between others
+    pub rounds : Rounds table old.work gave work objects between
+    pub seeks : Seeks table between (record old { work = work; gave = gave }) released
+    pub sweeps : Sweeps table now released new between others
     pub lives : Lives old.work.link new.work.link
 
   -- after a message each object is polled once
@@ -40,14 +40,14 @@ module _ {H : Type 0} (hall : HallKind H) where
     pub has_ended : Bool
     pub work : Work
     pub between : H
-    pub receives : Receives hall old.work piece count has_ended work objects between
+    pub receives : Receives table old.work piece count has_ended work objects between
     pub follows : Follows now has_ended (record old { work = work }) new between others
 
   -- What happened was worked off, and each object was polled. Nothing else was done with the connection.
   pub record WorksOn (now : ℕ) (old new : Service) (objects others : H) : Type 0 where
     pub work : Work
     pub between : H
-    pub works : WorksOff hall old.work work objects between
+    pub works : WorksOff table old.work work objects between
     pub polls : Polls now (record old { work = work }) new between others
     pub lives : Lives old.work.link new.work.link
 
@@ -60,7 +60,7 @@ module _ {H : Type 0} (hall : HallKind H) where
   -- what may be given though nothing more comes: an object gave what was awaited at the last poll, or says that it may give more; or something happened that
   -- wasn't worked off
   abbrev pub MayGive : Service → H → Type 0
-  MayGive service objects = (service.gave ≡ true) ⊎ ((service.work.link.happened ≢ []) ⊎ hall.may_go_on objects)
+  MayGive service objects = (service.gave ≡ true) ⊎ ((service.work.link.happened ≢ []) ⊎ table.may_go_on objects)
 
 -- Why the peer's bytes don't end well: they end inside a message, and no object was polled; or memory ran out after that.
 pub data IsUnended {H : Type 0} (old : Link) (fault : ConnectionFault) (new : Link) (objects others : H) : Type 0 where

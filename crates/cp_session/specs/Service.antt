@@ -1,8 +1,8 @@
 -- A connection with what is done for its objects.
 use Rattle.std.specs.Prelude.{Bool, false, if◌then◌else◌, Option, Some, None}
 use Rattle.cp_connection.specs.Link.{Link, new_link_with_tails}
-use Rattle.cp_objects.specs.Work.{Work, begun}
-use Rattle.cp_objects.specs.WorkOf.{work_of}
+use Rattle.cp_dispatch.specs.Work.{Work, begun}
+use Rattle.cp_dispatch.specs.WorkOf.{work_of}
 use Rattle.cp_session.specs.declared.options.SessionOptions.{SessionOptions}
 use Rattle.cp_session.specs.declared.endpoint.Endpoint.{Endpoint}
 use Rattle.cp_session.specs.declared.search.Search.{Search}

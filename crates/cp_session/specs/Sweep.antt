@@ -1,9 +1,9 @@
 -- When objects that nothing refers to are sought, and dropped.
 use Rattle.std.specs.Prelude.{◌≡◌, ◌⊎◌, ℕ, ◌≤◌, ◌+◌, ◌-◌, ◌/◌, ◌^◌, min, nat_lt, if◌then◌else◌, Option, Some, None}
 use Rattle.std.specs.Option.{unwrap_or}
-use Rattle.cp_makers.specs.Hall.{HallKind}
-use Rattle.cp_objects.specs.Dropping.{DropsIdle}
-use Rattle.cp_objects.specs.Work.{Work}
+use Rattle.cp_objects.specs.ObjectTable.{ObjectTableKind}
+use Rattle.cp_dispatch.specs.Dropping.{DropsIdle}
+use Rattle.cp_dispatch.specs.Work.{Work}
 use Rattle.cp_session.specs.declared.sweep.Sweep.{Sweep}
 use Rattle.cp_session.specs.Service.{Service}
 
@@ -38,19 +38,19 @@ again_from before objects now =
 abbrev pub swept_from : ℕ → ℕ → ℕ → ℕ → Sweep
 swept_from before objects messages now = record { from = paid_by objects messages; at = again_from before objects now }
 
-module _ {H : Type 0} (hall : HallKind H) where
+module _ {H : Type 0} (table : ObjectTableKind H) where
   -- The objects that nothing refers to are dropped.
   pub record SweepsAll (now : ℕ) (old new : Service) (objects others : H) : Type 0 where
     pub work : Work
-    pub drops : DropsIdle hall old.work work objects others
-    pub is : new ≡ record old { work = work; sweep = swept_from (hall.guests objects) (hall.guests others) work.link.tally.messages now }
+    pub drops : DropsIdle table old.work work objects others
+    pub is : new ≡ record old { work = work; sweep = swept_from (table.guests objects) (table.guests others) work.link.stats.messages now }
 
   -- They are, where messages or time paid for it, and else later; and where no object may go nothing is done.
   pub data Sweeps (now : ℕ) (old new : Service) (objects others : H) : Type 0 where
-    none_may_go : hall.guests objects ≡ 0 → new ≡ old → others ≡ objects → Sweeps now old new objects others
-    waits : 1 ≤ hall.guests objects → (IsSweepDue old.work.link.tally.messages now old.sweep → ⊥) → new ≡ record old { sweep = later now old.sweep } → others ≡ objects
+    none_may_go : table.guests objects ≡ 0 → new ≡ old → others ≡ objects → Sweeps now old new objects others
+    waits : 1 ≤ table.guests objects → (IsSweepDue old.work.link.stats.messages now old.sweep → ⊥) → new ≡ record old { sweep = later now old.sweep } → others ≡ objects
         → Sweeps now old new objects others
-    sweeps : 1 ≤ hall.guests objects → IsSweepDue old.work.link.tally.messages now old.sweep → SweepsAll now old new objects others → Sweeps now old new objects others
+    sweeps : 1 ≤ table.guests objects → IsSweepDue old.work.link.stats.messages now old.sweep → SweepsAll now old new objects others → Sweeps now old new objects others
 
   -- Time passed: they are dropped where the time has come.
   pub data SweepsInTime (now : ℕ) (old new : Service) (objects others : H) : Type 0 where

@@ -1,9 +1,9 @@
 //! A connection, with what is done for its objects after each message.
 
 ghost use Rattle.std.specs.Prelude.{◌≡◌, ◌<◌, ◌≤◌, ◌↔◌, IsSome, IsTrue, IfOk, IfErr, OnOk, length, nat_lt, true, false};
-ghost use Rattle.cp_objects.specs.Receiving.{IsCutShort};
-ghost use Rattle.cp_objects.specs.Work.{Lives, begun};
-ghost use Rattle.cp_objects.specs.WorkOf.{work_of};
+ghost use Rattle.cp_dispatch.specs.Receiving.{IsCutShort};
+ghost use Rattle.cp_dispatch.specs.Work.{Lives, begun};
+ghost use Rattle.cp_dispatch.specs.WorkOf.{work_of};
 ghost use Rattle.cp_connection.specs.Link.{Link};
 ghost use Rattle.cp_frame.specs.Reader.{taken_of};
 ghost use Rattle.cp_session.specs.Kept.{kept_of};
@@ -17,8 +17,8 @@ use crate::options::SessionOptions;
 use crate::search::Search;
 use crate::sweep::{Sweep, has_come};
 use cp_connection::{Connection, ConnectionFault, Excess};
-use cp_makers::Hall;
-use cp_objects::Objects;
+use cp_dispatch::Dispatcher;
+use cp_objects::ObjectTable;
 use std::alloc::{AllocError, Global};
 
 /// The bytes that an entry of a vat takes at most, its content aside, and those that a promise takes.
@@ -30,7 +30,7 @@ const PROMISE: u64 = 272;
 #[derive(Drop)]
 pub(crate) struct Endpoint {
     pub(crate) connection: Connection,
-    pub(crate) work: Objects,
+    pub(crate) work: Dispatcher,
     /// When imports and promises are sought that nobody holds, if they are.
     search: Option<Search>,
     /// An object gave what was awaited when all were polled last.
@@ -58,13 +58,13 @@ impl Endpoint {
     }
 
     /// Takes a piece up to the end of a message, and says how many bytes. After a message each object is polled once.
-    pub(crate) fn receive<H: Hall>(
+    pub(crate) fn receive<H: ObjectTable>(
         &mut self,
         objects: &mut H,
         piece: &[u8],
         now: u64,
     ) -> Result<usize, ConnectionFault>
-        ensures takes { IfOk result (λ count. Takes H.hall now (service_of self.old) piece.now count (service_of self.new) objects.old objects.new) }
+        ensures takes { IfOk result (λ count. Takes H.table now (service_of self.old) piece.now count (service_of self.new) objects.old objects.new) }
         ensures some { IfOk result (λ count. 0 < length piece.now → 0 < count) }
         ensures few { IfOk result (λ count. count ≤ length piece.now) }
         ensures cut { IfErr result (λ fault. IsCutShort self.old.connection piece.now fault self.new.connection objects.old objects.new) }
@@ -75,8 +75,12 @@ impl Endpoint {
     }
 
     /// Ends the peer's bytes, and polls each object once.
-    pub(crate) fn end<H: Hall>(&mut self, objects: &mut H, now: u64) -> Result<(), ConnectionFault>
-        ensures ends { OnOk result (Ends H.hall now (service_of self.old) (service_of self.new) objects.old objects.new) }
+    pub(crate) fn end<H: ObjectTable>(
+        &mut self,
+        objects: &mut H,
+        now: u64,
+    ) -> Result<(), ConnectionFault>
+        ensures ends { OnOk result (Ends H.table now (service_of self.old) (service_of self.new) objects.old objects.new) }
         ensures unended { IfErr result (λ fault. IsUnended self.old.connection fault self.new.connection objects.old objects.new) }
     {
         self.connection.end()?;
@@ -85,8 +89,12 @@ impl Endpoint {
     }
 
     /// Does what happened asks of the objects, and polls each of them once.
-    pub(crate) fn poll<H: Hall>(&mut self, objects: &mut H, now: u64) -> Result<(), AllocError>
-        ensures works { OnOk result (WorksOn H.hall now (service_of self.old) (service_of self.new) objects.old objects.new) }
+    pub(crate) fn poll<H: ObjectTable>(
+        &mut self,
+        objects: &mut H,
+        now: u64,
+    ) -> Result<(), AllocError>
+        ensures works { OnOk result (WorksOn H.table now (service_of self.old) (service_of self.new) objects.old objects.new) }
         ensures lives { Lives self.old.connection self.new.connection }
     {
         self.work.work_off(&mut self.connection, objects)?;
@@ -105,11 +113,11 @@ impl Endpoint {
     }
 
     /// Whether a poll may give more, though nothing more comes.
-    pub(crate) fn has_more<H: Hall>(&self, objects: &H) -> bool
-        ensures more { result ≡ true → MayGive H.hall (service_of self.now) objects.now }
+    pub(crate) fn has_more<H: ObjectTable>(&self, objects: &H) -> bool
+        ensures more { result ≡ true → MayGive H.table (service_of self.now) objects.now }
         ensures none { result ≡ false → HasGiven (service_of self.now) }
     {
-        self.gave || self.connection.held().happenings > 0 || objects.again()
+        self.gave || self.connection.held().events > 0 || objects.has_more()
     }
 
     /// Whether the connection ended.
@@ -128,8 +136,8 @@ impl Endpoint {
 
     /// The bytes that are kept: of the open message, of what waits to be written, `ENTRY` for each entry of the vat and each object that
     /// may go, `PROMISE` for each promise, and of the contents that the vat keeps and that weren't taken.
-    pub(crate) fn kept<H: Hall>(&self, objects: &H) -> u64
-        ensures { result ≡ kept_of (service_of self.now).work (H.hall.guests objects.now) }
+    pub(crate) fn kept<H: ObjectTable>(&self, objects: &H) -> u64
+        ensures { result ≡ kept_of (service_of self.now).work (H.table.guests objects.now) }
     {
         let held = self.connection.held();
         let bytes = held.came.saturating_add(held.unwritten as u64);
@@ -137,20 +145,20 @@ impl Endpoint {
         let entries = entries.saturating_mul(ENTRY);
         let promises = (held.promises as u64).saturating_mul(PROMISE);
         let tables = entries.saturating_add(promises);
-        let happened = self.connection.happened_memory();
-        let untaken = happened.saturating_add(self.work.noticed_memory());
+        let happened = self.connection.event_memory();
+        let untaken = happened.saturating_add(self.work.event_memory());
         let contents = held.contents.saturating_add(untaken);
         bytes.saturating_add(tables).saturating_add(contents)
     }
 
     /// Where a message ended, polls each object once.
-    fn follow<H: Hall>(
+    fn follow<H: ObjectTable>(
         &mut self,
         objects: &mut H,
         has_ended: bool,
         now: u64,
     ) -> Result<(), AllocError>
-        ensures follows { OnOk result (Follows H.hall now has_ended (service_of self.old) (service_of self.new) objects.old objects.new) }
+        ensures follows { OnOk result (Follows H.table now has_ended (service_of self.old) (service_of self.new) objects.old objects.new) }
         ensures lives { Lives self.old.connection self.new.connection }
     {
         if !has_ended {
@@ -160,8 +168,8 @@ impl Endpoint {
     }
 
     /// Polls each object once, and then lets imports and promises go that nobody holds, where it is due.
-    fn round<H: Hall>(&mut self, objects: &mut H, now: u64) -> Result<(), AllocError>
-        ensures polls { OnOk result (Polls H.hall now (service_of self.old) (service_of self.new) objects.old objects.new) }
+    fn round<H: ObjectTable>(&mut self, objects: &mut H, now: u64) -> Result<(), AllocError>
+        ensures polls { OnOk result (Polls H.table now (service_of self.old) (service_of self.new) objects.old objects.new) }
         ensures lives { Lives self.old.connection self.new.connection }
     {
         self.gave = self.work.round(&mut self.connection, objects)?;
@@ -177,8 +185,12 @@ impl Endpoint {
     }
 
     /// Time passed: seeks objects and promises that nothing refers to, where it is time for that.
-    pub(crate) fn tick<H: Hall>(&mut self, objects: &mut H, now: u64) -> Result<(), AllocError>
-        ensures sweeps { OnOk result (SweepsInTime H.hall now (service_of self.old) (service_of self.new) objects.old objects.new) }
+    pub(crate) fn tick<H: ObjectTable>(
+        &mut self,
+        objects: &mut H,
+        now: u64,
+    ) -> Result<(), AllocError>
+        ensures sweeps { OnOk result (SweepsInTime H.table now (service_of self.old) (service_of self.new) objects.old objects.new) }
         ensures lives { Lives self.old.connection self.new.connection }
     {
         if !has_come(self.sweep.at, now) {
@@ -188,14 +200,14 @@ impl Endpoint {
     }
 
     /// Drops the objects and promises that nothing refers to, where messages or time paid for it, and else later.
-    fn sweep_objects<H: Hall>(&mut self, objects: &mut H, now: u64) -> Result<(), AllocError>
-        ensures sweeps { OnOk result (Sweeps H.hall now (service_of self.old) (service_of self.new) objects.old objects.new) }
+    fn sweep_objects<H: ObjectTable>(&mut self, objects: &mut H, now: u64) -> Result<(), AllocError>
+        ensures sweeps { OnOk result (Sweeps H.table now (service_of self.old) (service_of self.new) objects.old objects.new) }
         ensures lives { Lives self.old.connection self.new.connection }
     {
         if objects.guests() == 0 {
             return Ok(());
         }
-        if self.sweep.is_due(self.connection.tally().messages, now) {
+        if self.sweep.is_due(self.connection.stats().messages, now) {
             return self.sweep_all(objects, now);
         }
         self.sweep = self.sweep.later(now);
@@ -203,20 +215,20 @@ impl Endpoint {
     }
 
     /// Drops the objects and promises that nothing refers to.
-    fn sweep_all<H: Hall>(&mut self, objects: &mut H, now: u64) -> Result<(), AllocError>
-        ensures sweeps { OnOk result (SweepsAll H.hall now (service_of self.old) (service_of self.new) objects.old objects.new) }
+    fn sweep_all<H: ObjectTable>(&mut self, objects: &mut H, now: u64) -> Result<(), AllocError>
+        ensures sweeps { OnOk result (SweepsAll H.table now (service_of self.old) (service_of self.new) objects.old objects.new) }
         ensures lives { Lives self.old.connection self.new.connection }
     {
         let before = objects.guests();
         self.work.drop_idle(&mut self.connection, objects)?;
-        let messages = self.connection.tally().messages;
+        let messages = self.connection.stats().messages;
         self.sweep = Sweep::after(before, objects.guests(), messages, now);
         Ok(())
     }
 
     /// Where it is due, lets the imports and promises go that nothing of the vat uses and that no object has.
-    fn release_idle<H: Hall>(&mut self, objects: &H) -> Result<(), AllocError>
-        ensures seeks { OnOk result (Seeks H.hall objects.now (service_of self.old) (service_of self.new)) }
+    fn release_idle<H: ObjectTable>(&mut self, objects: &H) -> Result<(), AllocError>
+        ensures seeks { OnOk result (Seeks H.table objects.now (service_of self.old) (service_of self.new)) }
         ensures lives { Lives self.old.connection self.new.connection }
     {
         if !self.is_due(objects) {
@@ -225,26 +237,26 @@ impl Endpoint {
         // `idle` names these and what promises came to, so the vat needs no further call for this.
         self.work.release_idle(&mut self.connection, objects)?;
         let held = self.connection.held();
-        let messages = self.connection.tally().messages;
+        let messages = self.connection.stats().messages;
         self.search = Some(Search::after(held.imports, held.promises, messages));
         Ok(())
     }
 
     /// Whether imports and promises are sought now that nobody holds.
-    fn is_due<H: Hall>(&self, objects: &H) -> bool
-        ensures { IsTrue result ↔ IsDue H.hall objects.now self.now.search (service_of self.now).work }
+    fn is_due<H: ObjectTable>(&self, objects: &H) -> bool
+        ensures { IsTrue result ↔ IsDue H.table objects.now self.now.search (service_of self.now).work }
     {
         match self.search {
             Some(search) => {
-                self.may_hold_idle(objects) && search.is_due(self.connection.tally().messages)
+                self.may_hold_idle(objects) && search.is_due(self.connection.stats().messages)
             }
             None => false,
         }
     }
 
     /// Whether there are more imports than objects hold, or promises that none knows.
-    fn may_hold_idle<H: Hall>(&self, objects: &H) -> bool
-        ensures { IsTrue result ↔ MayHoldIdle H.hall objects.now (service_of self.now).work }
+    fn may_hold_idle<H: ObjectTable>(&self, objects: &H) -> bool
+        ensures { IsTrue result ↔ MayHoldIdle H.table objects.now (service_of self.now).work }
     {
         let held = self.connection.held();
         self.work.held_imports() < held.imports || objects.unknown_promises(held.promises) > 0
@@ -252,13 +264,13 @@ impl Endpoint {
 }
 
 /// Nothing is owed to objects, which may call or not.
-fn objects_that(may_call: bool, alloc: Global) -> Objects
+fn objects_that(may_call: bool, alloc: Global) -> Dispatcher
     ensures { (link : Link) → work_of result link ≡ begun may_call link }
 {
     if may_call {
-        Objects::that_call(alloc)
+        Dispatcher::that_call(alloc)
     } else {
-        Objects::new(alloc)
+        Dispatcher::new(alloc)
     }
 }
 

@@ -3,7 +3,7 @@
 ghost use Rattle.cp_session.specs.Budget.{KeepNoMore, StaysWithin};
 ghost use Rattle.cp_session.specs.Laws.{LimitsAlone, LivesOn, NobodyServes, WrittenFirst};
 
-use cp_makers::Hall;
+use cp_objects::ObjectTable;
 use cp_servants::Servant;
 
 /// A call that comes where nobody serves fails with `no such object`, and nothing else is done for it.
@@ -12,8 +12,8 @@ pub fn nobody_serves<O: Servant>()
 {}
 
 /// Where no byte may wait, nothing is taken of the peer before all that is to go out was written.
-pub fn written_first<H: Hall>()
-    ensures { WrittenFirst H.hall }
+pub fn written_first<H: ObjectTable>()
+    ensures { WrittenFirst H.table }
 {}
 
 /// A session of a list of objects is to be ticked for its limits alone: whatever is done with it, its deadline is that of its limits.
@@ -25,8 +25,8 @@ pub fn due_by_limits<O: Servant>()
 /// Whatever is done with a session, its connection took the bytes that it was given, but those that were dropped, and was told which
 /// were written. With what holds of each connection (`cp_connection::lives_behind_until_abort`) that says which messages came, and that
 /// nothing was written but what was sent. (`export` and `add` add an object, and do nothing with the connection.)
-pub fn lives<H: Hall>()
-    ensures { LivesOn H.hall }
+pub fn lives<H: ObjectTable>()
+    ensures { LivesOn H.table }
 {}
 
 /// Where sessions are within their budget, all together keep no more than a share each and the pool.

@@ -4,8 +4,8 @@ ghost use Rattle.std.specs.Prelude.{◌≡◌, ◌↔◌, ◌≤◌, ◌⊎◌, 
 ghost use Rattle.cp_vat_machine.specs.declared.event.Event.TheVariants as machine;
 ghost use Rattle.cp_vat_machine.specs.declared.event.Value.TheVariants as values;
 ghost use Rattle.cp_connection.specs.Doing.{answered};
-ghost use Rattle.cp_objects.specs.Work.{Lives};
-ghost use Rattle.cp_objects.specs.declared.notice.Notice.TheVariants as notices;
+ghost use Rattle.cp_dispatch.specs.Work.{Lives};
+ghost use Rattle.cp_dispatch.specs.declared.event.DispatchEvent.TheVariants as notices;
 ghost use Rattle.cp_session.specs.Doing.{ActsInTime, Adds, Did, EndsBytes, EndsCut, Exports, Finishes, GivesMore, GivesNone, GoesBy, GoesOn, HandsOn, HasMore, HasNone, IsCut, IsRefused, IsUnfinished, IsSettled, IsStopped, IsUnsettled, IsUntaken, IsUnworked, KeepsRest, Lists, MayTake, PassesTime, PollsOn, Receives, RunsOut, Settles, TakesIn, Tells, Ticks, Wakes, Writes, alarm_of, due_of, ending_by, fault_of, knows_by, next_cap, told_of};
 ghost use Rattle.cp_session.specs.Kept.{kept_of};
 ghost use Rattle.cp_session.specs.Progress.{IsDraining};
@@ -18,9 +18,9 @@ use crate::limits::SessionLimits;
 use crate::options::SessionOptions;
 use crate::progress::{Limit, Progress, earlier};
 use crate::sweep::has_come;
-use cp_connection::{ConnectionFault, Tally};
-use cp_makers::{Family, Hall, Maker, Waker};
-use cp_objects::Notice;
+use cp_connection::{ConnectionFault, ConnectionStats};
+use cp_dispatch::DispatchEvent;
+use cp_objects::{ObjectTable, Objects, ServedObject, Waker};
 use cp_refs::{Cap, PromiseId, Request};
 use cp_servants::Servant;
 use cp_vat_machine::Reason;
@@ -74,7 +74,7 @@ impl<H: Drop> Drop for Session<H> {
     }
 }
 
-impl<H: Hall> Session<H> {
+impl<H: ObjectTable> Session<H> {
     /// A session to which nothing came.
     pub fn new(alloc: Global, options: &SessionOptions, objects: H, now: u64) -> Session<H>
         ensures { state_of result ≡ new_state options.now objects now }
@@ -95,9 +95,9 @@ impl<H: Hall> Session<H> {
     /// Those of `Connection::receive`, or memory ran out for what the message leads to. The session ends, and an event says why. Where
     /// a frame is too large, an Abort says so to the peer.
     pub fn receive(&mut self, piece: &[u8], now: u64) -> Result<usize, ConnectionFault>
-        ensures receives { IfOk result (λ count. Receives H.hall (state_of self.old) piece.now now count (state_of self.new)) }
+        ensures receives { IfOk result (λ count. Receives H.table (state_of self.old) piece.now now count (state_of self.new)) }
         ensures few { IfOk result (λ count. count ≤ length piece.now) }
-        ensures untaken { IfErr result (λ fault. IsUntaken H.hall (state_of self.old) piece.now now fault (state_of self.new)) }
+        ensures untaken { IfErr result (λ fault. IsUntaken H.table (state_of self.old) piece.now now fault (state_of self.new)) }
     {
         if self.is_draining() {
             return Ok(piece.len());
@@ -119,8 +119,8 @@ impl<H: Hall> Session<H> {
     ///
     /// As those of `receive`: they end inside a message, or memory ran out.
     pub fn end(&mut self, now: u64) -> Result<(), ConnectionFault>
-        ensures ends { OnOk result (EndsBytes H.hall (state_of self.old) now (state_of self.new)) }
-        ensures cut { IfErr result (λ fault. EndsCut H.hall (state_of self.old) now fault (state_of self.new)) }
+        ensures ends { OnOk result (EndsBytes H.table (state_of self.old) now (state_of self.new)) }
+        ensures cut { IfErr result (λ fault. EndsCut H.table (state_of self.old) now fault (state_of self.new)) }
     {
         if !self.progress.is_serving() {
             self.progress.end_again();
@@ -138,8 +138,8 @@ impl<H: Hall> Session<H> {
     ///
     /// Memory ran out, and the session ends.
     pub fn poll(&mut self, now: u64) -> Result<(), AllocError>
-        ensures polls { OnOk result (PollsOn H.hall (state_of self.old) now (state_of self.new)) }
-        ensures runs_out { OnErr result (RunsOut H.hall (state_of self.old) now (state_of self.new)) }
+        ensures polls { OnOk result (PollsOn H.table (state_of self.old) now (state_of self.new)) }
+        ensures runs_out { OnErr result (RunsOut H.table (state_of self.old) now (state_of self.new)) }
     {
         if !self.has_more() {
             return Ok(());
@@ -153,7 +153,7 @@ impl<H: Hall> Session<H> {
     /// none is met objects are woken whose time has come, so that `has_more` says so, and those are dropped that nothing refers to, where
     /// it is time for that.
     pub fn tick(&mut self, now: u64)
-        ensures { Ticks H.hall (state_of self.old) now (state_of self.new) }
+        ensures { Ticks H.table (state_of self.old) now (state_of self.new) }
     {
         let kept = self.endpoint.kept(&self.objects);
         let excess = self.progress.tick(&self.limits, kept, now);
@@ -165,7 +165,7 @@ impl<H: Hall> Session<H> {
     /// Refuses the peer, as more is kept for it than a host allows: the limit of what is kept is met, whatever `kept` says. While bytes of
     /// the peer are taken an Abort says so to it first; else the session is over.
     pub fn refuse(&mut self, now: u64)
-        ensures { IsRefused H.hall (state_of self.old) now (state_of self.new) }
+        ensures { IsRefused H.table (state_of self.old) now (state_of self.new) }
     {
         if self.is_over() {
             return;
@@ -177,7 +177,7 @@ impl<H: Hall> Session<H> {
 
     /// How many bytes are kept for it, as its limit counts them: so that a host can keep all its sessions within a budget.
     pub fn kept(&self) -> u64
-        ensures { let state = state_of self.now in result ≡ kept_of state.service.work (H.hall.guests state.objects) }
+        ensures { let state = state_of self.now in result ≡ kept_of state.service.work (H.table.guests state.objects) }
     {
         self.endpoint.kept(&self.objects)
     }
@@ -185,7 +185,7 @@ impl<H: Hall> Session<H> {
     /// When to call `tick` next: a limit of time is met then, if no byte moves before, or an object is to be woken, or objects are sought
     /// that nothing refers to.
     pub fn deadline(&self) -> Option<u64>
-        ensures { result ≡ due_of H.hall (state_of self.now) }
+        ensures { result ≡ due_of H.table (state_of self.now) }
     {
         let limit = self.progress.deadline(&self.limits);
         if self.is_stopped() {
@@ -203,7 +203,7 @@ impl<H: Hall> Session<H> {
 
     /// Notes that the first bytes of `outgoing` were written, this many, at this time.
     pub fn wrote(&mut self, count: usize, now: u64)
-        ensures { Writes H.hall (state_of self.old) count now (state_of self.new) }
+        ensures { Writes H.table (state_of self.old) count now (state_of self.new) }
     {
         self.endpoint.connection.wrote(count);
         self.progress.move_at(now);
@@ -215,10 +215,10 @@ impl<H: Hall> Session<H> {
         ensures { Tells (state_of self.old) result (state_of self.new) }
     {
         match self.endpoint.work.next() {
-            Some(Notice::Settled { question, outcome }) => {
+            Some(DispatchEvent::Settled { question, outcome }) => {
                 Some(SessionEvent::Outcome { question, outcome })
             }
-            Some(Notice::Closed(reason)) => self.closing_event(reason),
+            Some(DispatchEvent::Closed(reason)) => self.closing_event(reason),
             None => self.last_event(),
         }
     }
@@ -232,8 +232,8 @@ impl<H: Hall> Session<H> {
 
     /// Whether `poll` may give more now, though nothing more comes.
     pub fn has_more(&self) -> bool
-        ensures more { result ≡ true → HasMore H.hall (state_of self.now) }
-        ensures none { result ≡ false → HasNone H.hall (state_of self.now) }
+        ensures more { result ≡ true → HasMore H.table (state_of self.now) }
+        ensures none { result ≡ false → HasNone H.table (state_of self.now) }
     {
         self.is_read() && self.gives_more()
     }
@@ -263,7 +263,7 @@ impl<H: Hall> Session<H> {
     }
 
     /// The objects.
-    pub fn hall(&self) -> &H
+    pub fn object_table(&self) -> &H
         ensures { result.now ≡ (state_of self.now).objects }
     {
         &self.objects
@@ -271,7 +271,7 @@ impl<H: Hall> Session<H> {
 
     /// Has an object polled, if it is there: then `has_more` says so.
     pub fn wake(&mut self, object: u32) -> Result<(), AllocError>
-        ensures wakes { OnOk result (Wakes H.hall object (state_of self.old) (state_of self.new)) }
+        ensures wakes { OnOk result (Wakes H.table object (state_of self.old) (state_of self.new)) }
         ensures unwoken { OnErr result (KeepsRest (state_of self.old) (state_of self.new)) }
     {
         self.objects.wake(object)
@@ -279,16 +279,16 @@ impl<H: Hall> Session<H> {
 
     /// Takes out the first object of another session that an object here wants to be woken.
     pub fn next_wake(&mut self) -> Option<Waker>
-        ensures { HandsOn H.hall result (state_of self.old) (state_of self.new) }
+        ensures { HandsOn H.table result (state_of self.old) (state_of self.new) }
     {
         self.objects.next_wake()
     }
 
     /// How many bytes and messages were taken, and how many messages were sent.
-    pub fn tally(&self) -> Tally
-        ensures { result ≡ (link_of (state_of self.now)).tally }
+    pub fn stats(&self) -> ConnectionStats
+        ensures { result ≡ (link_of (state_of self.now)).stats }
     {
-        self.endpoint.connection.tally()
+        self.endpoint.connection.stats()
     }
 
     /// Asks for the peer's bootstrap capability, and gives the question's number. Refused as `Vat::bootstrap`.
@@ -343,9 +343,9 @@ impl<H: Hall> Session<H> {
 
     /// Takes bytes up to the end of a message, at this time.
     fn take(&mut self, piece: &[u8], now: u64) -> Result<usize, ConnectionFault>
-        ensures takes { IfOk result (λ count. TakesIn H.hall (state_of self.old) piece.now now count (state_of self.new)) }
+        ensures takes { IfOk result (λ count. TakesIn H.table (state_of self.old) piece.now now count (state_of self.new)) }
         ensures few { IfOk result (λ count. count ≤ length piece.now) }
-        ensures cut { IfErr result (λ fault. IsCut H.hall (state_of self.old) piece.now now fault (state_of self.new)) }
+        ensures cut { IfErr result (λ fault. IsCut H.table (state_of self.old) piece.now now fault (state_of self.new)) }
     {
         self.objects.set_now(now);
         let taken = self.endpoint.receive(&mut self.objects, piece, now);
@@ -362,8 +362,8 @@ impl<H: Hall> Session<H> {
 
     /// Ends the bytes of the peer while they are taken.
     fn end_bytes(&mut self, now: u64) -> Result<(), ConnectionFault>
-        ensures finishes { OnOk result (Finishes H.hall now (state_of self.old) (state_of self.new)) }
-        ensures unfinished { IfErr result (λ fault. IsUnfinished H.hall now (state_of self.old) fault (state_of self.new)) }
+        ensures finishes { OnOk result (Finishes H.table now (state_of self.old) (state_of self.new)) }
+        ensures unfinished { IfErr result (λ fault. IsUnfinished H.table now (state_of self.old) fault (state_of self.new)) }
     {
         self.objects.set_now(now);
         let ended = self.endpoint.end(&mut self.objects, now);
@@ -379,8 +379,8 @@ impl<H: Hall> Session<H> {
 
     /// Does what happened asks of the objects, and polls each of them once.
     fn work_on(&mut self, now: u64) -> Result<(), AllocError>
-        ensures works { OnOk result (GoesOn H.hall now (state_of self.old) (state_of self.new)) }
-        ensures unworked { OnErr result (IsUnworked H.hall (state_of self.old) (state_of self.new)) }
+        ensures works { OnOk result (GoesOn H.table now (state_of self.old) (state_of self.new)) }
+        ensures unworked { OnErr result (IsUnworked H.table (state_of self.old) (state_of self.new)) }
     {
         self.objects.set_now(now);
         match self.endpoint.poll(&mut self.objects, now) {
@@ -394,7 +394,7 @@ impl<H: Hall> Session<H> {
 
     /// Time passes for the objects, unless nothing more is given.
     fn go_by(&mut self, now: u64)
-        ensures { GoesBy H.hall now (state_of self.old) (state_of self.new) }
+        ensures { GoesBy H.table now (state_of self.old) (state_of self.new) }
     {
         if self.is_stopped() {
             return;
@@ -404,7 +404,7 @@ impl<H: Hall> Session<H> {
 
     /// Wakes the objects whose time has come, and drops those that nothing refers to, where it is time for that.
     fn pass_time(&mut self, now: u64)
-        ensures { PassesTime H.hall now (state_of self.old) (state_of self.new) }
+        ensures { PassesTime H.table now (state_of self.old) (state_of self.new) }
     {
         if !has_come(self.alarm(), now) {
             return;
@@ -417,7 +417,7 @@ impl<H: Hall> Session<H> {
 
     /// The same, where memory suffices.
     fn act_in_time(&mut self, now: u64) -> Result<(), AllocError>
-        ensures acts { OnOk result (ActsInTime H.hall now (state_of self.old) (state_of self.new)) }
+        ensures acts { OnOk result (ActsInTime H.table now (state_of self.old) (state_of self.new)) }
         ensures same { state_of self.new ≡ record (state_of self.old) { service = (state_of self.new).service; objects = (state_of self.new).objects } }
         ensures lives { Lives (link_of (state_of self.old)) (link_of (state_of self.new)) }
     {
@@ -428,7 +428,7 @@ impl<H: Hall> Session<H> {
 
     /// When an object is to be woken, or objects are to be sought that nothing refers to.
     fn alarm(&self) -> Option<u64>
-        ensures { result ≡ alarm_of H.hall (state_of self.now) }
+        ensures { result ≡ alarm_of H.table (state_of self.now) }
     {
         earlier(self.objects.deadline(), self.endpoint.sweep_time())
     }
@@ -449,8 +449,8 @@ impl<H: Hall> Session<H> {
 
     /// Whether something may be given, though nothing more comes.
     fn gives_more(&self) -> bool
-        ensures more { result ≡ true → GivesMore H.hall (state_of self.now) }
-        ensures none { result ≡ false → GivesNone H.hall (state_of self.now) }
+        ensures more { result ≡ true → GivesMore H.table (state_of self.now) }
+        ensures none { result ≡ false → GivesNone H.table (state_of self.now) }
     {
         !self.is_stopped() && self.endpoint.has_more(&self.objects)
     }
@@ -465,7 +465,7 @@ impl<H: Hall> Session<H> {
     /// Where the connection ended nothing more is taken. Once all went out and nothing more is given, the peer's close is waited for,
     /// if it isn't there.
     fn settle(&mut self, now: u64)
-        ensures { Settles H.hall (state_of self.old) now (state_of self.new) }
+        ensures { Settles H.table (state_of self.old) now (state_of self.new) }
     {
         self.progress.heed(self.endpoint.connection.fault());
         if !self.is_settled() {
@@ -476,8 +476,8 @@ impl<H: Hall> Session<H> {
 
     /// Whether nothing is taken, all went out, and nothing more is given.
     fn is_settled(&self) -> bool
-        ensures settled { result ≡ true → IsSettled H.hall (state_of self.now) }
-        ensures unsettled { result ≡ false → IsUnsettled H.hall (state_of self.now) }
+        ensures settled { result ≡ true → IsSettled H.table (state_of self.now) }
+        ensures unsettled { result ≡ false → IsUnsettled H.table (state_of self.now) }
     {
         self.progress.is_ending() && self.outgoing().is_empty() && !self.gives_more()
     }
@@ -508,7 +508,7 @@ impl<H: Hall> Session<H> {
         Some(event)
     }
 
-    /// Why nothing more is taken, where no notice says it.
+    /// Why nothing more is taken, where no event says it.
     fn ending(&self) -> Option<SessionEvent>
         ensures { let state = state_of self.now in result ≡ ending_by state.progress.limit (fault_of state) state.progress.phase }
     {
@@ -551,8 +551,8 @@ impl<O: Servant> Session<Vec<O>> {
 }
 
 /// A session of objects that make others.
-impl<O: Maker<Makes = O>> Session<Family<O>> {
-    /// Adds an object that stays as long as the session, as `Family::add`.
+impl<O: ServedObject<Makes = O>> Session<Objects<O>> {
+    /// Adds an object that stays as long as the session, as `Objects::add`.
     pub fn add(&mut self, object: O) -> Result<Cap, AllocError>
         ensures adds { OnOk result (Adds object (state_of self.old) (state_of self.new)) }
         ensures unadded { OnErr result (KeepsRest (state_of self.old) (state_of self.new)) }

@@ -18,10 +18,10 @@ use Rattle.cp_messages.specs.declared.returned.Return.{Return}
 use Rattle.cp_messages.specs.declared.returned.Returned.{Returned}
 use Rattle.cp_messages.specs.declared.returned.Returned.TheVariants as returns
 use Rattle.cp_messages.specs.declared.small.Finish.{Finish}
-use Rattle.cp_tail_calls.specs.declared.owed.Owed.{Owed}
-use Rattle.cp_tail_calls.specs.declared.owed.Owed.TheVariants as owed
-use Rattle.cp_tail_calls.specs.declared.owed.Trigger.{Trigger}
-use Rattle.cp_tail_calls.specs.declared.owed.Trigger.TheVariants as triggers
+use Rattle.cp_tail_calls.specs.declared.forwarding.ForwardedMessage.{ForwardedMessage}
+use Rattle.cp_tail_calls.specs.declared.forwarding.ForwardedMessage.TheVariants as owed
+use Rattle.cp_tail_calls.specs.declared.forwarding.Trigger.{Trigger}
+use Rattle.cp_tail_calls.specs.declared.forwarding.Trigger.TheVariants as triggers
 use Rattle.cp_tail_calls.specs.declared.progress.Progress.{Progress}
 use Rattle.cp_tail_calls.specs.declared.progress.Progress.TheVariants as progress
 use Rattle.cp_tail_calls.specs.declared.progress.Taker.{Taker}
@@ -174,7 +174,7 @@ module _ (past : List Turn) (t last : Tails) (on : Option Message) where
   went-keeps triggers.Message m h f = subst (Keeps past) (ap (λ (p : Passed). p.1.lent) f) h
 
 module _ (past : List Turn) (stage : ℕ → Option Stage) where
-  lent-keeps : (lent : Table ℕ) (o : Owed) → Keeps past lent → Keeps (passed stage o ∷ past) (lent_with stage lent o)
+  lent-keeps : (lent : Table ℕ) (o : ForwardedMessage) → Keeps past lent → Keeps (passed stage o ∷ past) (lent_with stage lent o)
   lent-keeps lent (owed.ToVat (messages.Return r)) h i few =
       let before : count lent i ≡ lent_since i past = h i (less (lent_since i past) (lends i r.returned (stage r.answer_id)) few) in
       lent-by i r.returned (stage r.answer_id) lent (rw before few) ∙ ap (λ (n : ℕ). n + lends i r.returned (stage r.answer_id)) before
@@ -183,15 +183,15 @@ module _ (past : List Turn) (stage : ℕ → Option Stage) where
       less a b h = omega arith
   lent-keeps lent o h i few = h i few
 
-  passed-keeps : (os : List Owed) (t last : Tails) (first : Owed) → Keeps past t.lent → next_of stage t os ≡ (Some first, last) → Keeps (passed stage first ∷ past) last.lent
-  passed-keeps [] t last first h f = absurd (none≢some first (ap (λ (p : Option Owed × Tails). p.0) f))
+  passed-keeps : (os : List ForwardedMessage) (t last : Tails) (first : ForwardedMessage) → Keeps past t.lent → next_of stage t os ≡ (Some first, last) → Keeps (passed stage first ∷ past) last.lent
+  passed-keeps [] t last first h f = absurd (none≢some first (ap (λ (p : Option ForwardedMessage × Tails). p.0) f))
     where
-      none≢some : (x : Owed) → None ≡ Some x → ⊥
+      none≢some : (x : ForwardedMessage) → None ≡ Some x → ⊥
       none≢some x e = cc
   passed-keeps (o ∷ os) t last first h f =
-      subst (λ (o : Owed). Keeps (passed stage o ∷ past) last.lent) (same o first (ap (λ (p : Option Owed × Tails). p.0) f)) (subst (Keeps (passed stage o ∷ past)) (ap (λ (p : Option Owed × Tails). p.1.lent) f) (lent-keeps t.lent o h))
+      subst (λ (o : ForwardedMessage). Keeps (passed stage o ∷ past) last.lent) (same o first (ap (λ (p : Option ForwardedMessage × Tails). p.0) f)) (subst (Keeps (passed stage o ∷ past)) (ap (λ (p : Option ForwardedMessage × Tails). p.1.lent) f) (lent-keeps t.lent o h))
     where
-      same : (x y : Owed) → Some x ≡ Some y → x ≡ y
+      same : (x y : ForwardedMessage) → Some x ≡ Some y → x ≡ y
       same x y e = cc
 
 turn-keeps : (past : List Turn) (turn : Turn) (mid last : Tails) → Keeps past mid.lent → TakesTurn mid turn last → Keeps (turn ∷ past) last.lent

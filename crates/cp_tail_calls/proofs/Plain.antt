@@ -15,9 +15,9 @@ use Rattle.cp_messages.specs.declared.returned.Return.{Return}
 use Rattle.cp_messages.specs.declared.returned.Returned.{Returned}
 use Rattle.cp_messages.specs.declared.returned.Returned.TheVariants as returns
 use Rattle.cp_messages.specs.declared.small.Release.{Release}
-use Rattle.cp_tail_calls.specs.declared.owed.Owed.{Owed}
-use Rattle.cp_tail_calls.specs.declared.owed.Trigger.{Trigger}
-use Rattle.cp_tail_calls.specs.declared.owed.Trigger.TheVariants as triggers
+use Rattle.cp_tail_calls.specs.declared.forwarding.ForwardedMessage.{ForwardedMessage}
+use Rattle.cp_tail_calls.specs.declared.forwarding.Trigger.{Trigger}
+use Rattle.cp_tail_calls.specs.declared.forwarding.Trigger.TheVariants as triggers
 use Rattle.cp_tail_calls.specs.Tails.{Tails, none}
 use Rattle.cp_tail_calls.specs.Receiving.{Passed, is_to_sender, is_due, received, receive_call, receive_return, receive_returned}
 use Rattle.cp_tail_calls.specs.Sending.{sent, send_release, resolution_for}
@@ -82,9 +82,9 @@ plain_turn (came acts_on stage m on) mid h first =
 plain_turn (went trigger m on) mid h first =
     let e = sym first ∙ plain_went trigger m h in
     (ap (λ (p : Passed). p.1) e, ap (λ (p : Passed). p.0) e)
-plain_turn (passed stage first) mid h e = absurd (none_owed first (ap (λ (p : Option Owed × Tails). p.0) e))
+plain_turn (passed stage first) mid h e = absurd (none_owed first (ap (λ (p : Option ForwardedMessage × Tails). p.0) e))
   where
-    none_owed : (x : Owed) → None ≡ Some x → ⊥
+    none_owed : (x : ForwardedMessage) → None ≡ Some x → ⊥
     none_owed x e = cc
 
 pub plain_turns : PlainTurns

@@ -12,10 +12,10 @@ use Rattle.cp_messages.specs.declared.returned.Returned.{Returned}
 use Rattle.cp_messages.specs.declared.returned.Returned.TheVariants as returns
 use Rattle.cp_messages.specs.declared.small.Finish.{Finish}
 use Rattle.cp_messages.specs.declared.small.Release.{Release}
-use Rattle.cp_tail_calls.specs.declared.owed.Owed.{Owed}
-use Rattle.cp_tail_calls.specs.declared.owed.Owed.TheVariants as owed
-use Rattle.cp_tail_calls.specs.declared.owed.Trigger.{Trigger}
-use Rattle.cp_tail_calls.specs.declared.owed.Trigger.TheVariants as triggers
+use Rattle.cp_tail_calls.specs.declared.forwarding.ForwardedMessage.{ForwardedMessage}
+use Rattle.cp_tail_calls.specs.declared.forwarding.ForwardedMessage.TheVariants as owed
+use Rattle.cp_tail_calls.specs.declared.forwarding.Trigger.{Trigger}
+use Rattle.cp_tail_calls.specs.declared.forwarding.Trigger.TheVariants as triggers
 use Rattle.cp_tail_calls.specs.declared.progress.Progress.{Progress}
 use Rattle.cp_tail_calls.specs.declared.progress.Progress.TheVariants as progress
 use Rattle.cp_tail_calls.specs.declared.progress.Taker.{Taker}
@@ -37,7 +37,7 @@ abbrev ReturnedBefore : List Turn → ℕ → Return → Type 0
 ReturnedBefore past q r = OneOf (Returns q r.returned) past
 
 -- what is passed on is right
-abbrev IsOwedRight : List Turn → Owed → Type 0
+abbrev IsOwedRight : List Turn → ForwardedMessage → Type 0
 IsOwedRight past (owed.ToVat (messages.Return r)) = IsRight past r
 IsOwedRight past other = Unit {0}
 
@@ -61,11 +61,11 @@ module _ (turn : Turn) (past : List Turn) where
   right-later : (r : Return) → IsRight past r → IsRight (turn ∷ past) r
   right-later r h = (h.0, h.1, inr h.2, inr h.3, h.4)
 
-  owed-later : (o : Owed) → IsOwedRight past o → IsOwedRight (turn ∷ past) o
+  owed-later : (o : ForwardedMessage) → IsOwedRight past o → IsOwedRight (turn ∷ past) o
   owed-later (owed.ToVat (messages.Return r)) h = right-later r h
   owed-later o h = tt
 
-  all-later : (os : List Owed) → AllByRecursion (IsOwedRight past) os → AllByRecursion (IsOwedRight (turn ∷ past)) os
+  all-later : (os : List ForwardedMessage) → AllByRecursion (IsOwedRight past) os → AllByRecursion (IsOwedRight (turn ∷ past)) os
   all-later [] h = tt
   all-later (o ∷ os) h = (owed-later o h.0, all-later os h.1)
 
@@ -231,15 +231,15 @@ some-injective x y e = cc
 
 module _ (past : List Turn) (stage : ℕ → Option Stage) where
   -- what is passed on first was right, and what is left is
-  passed-right : (os : List Owed) (t last : Tails) (first : Owed) → Right past t → AllByRecursion (IsOwedRight past) os → next_of stage t os ≡ (Some first, last)
+  passed-right : (os : List ForwardedMessage) (t last : Tails) (first : ForwardedMessage) → Right past t → AllByRecursion (IsOwedRight past) os → next_of stage t os ≡ (Some first, last)
       → IsOwedRight past first × Right past last
-  passed-right [] t last first h all f = absurd (none≢some first (ap (λ (p : Option Owed × Tails). p.0) f))
+  passed-right [] t last first h all f = absurd (none≢some first (ap (λ (p : Option ForwardedMessage × Tails). p.0) f))
     where
-      none≢some : (x : Owed) → None ≡ Some x → ⊥
+      none≢some : (x : ForwardedMessage) → None ≡ Some x → ⊥
       none≢some x e = cc
   passed-right (o ∷ os) t last first h all f = (
-    subst (λ (o : Owed). IsOwedRight past o) (some-injective o first (ap (λ (p : Option Owed × Tails). p.0) f)) all.0,
-    subst (λ (t : Tails). Right past t) (ap (λ (p : Option Owed × Tails). p.1) f) (record { calls = h.calls; results = h.results; owed = all.1 }),
+    subst (λ (o : ForwardedMessage). IsOwedRight past o) (some-injective o first (ap (λ (p : Option ForwardedMessage × Tails). p.0) f)) all.0,
+    subst (λ (t : Tails). Right past t) (ap (λ (p : Option ForwardedMessage × Tails). p.1) f) (record { calls = h.calls; results = h.results; owed = all.1 }),
   )
 
 turn-right : (past : List Turn) (turn : Turn) (mid last : Tails) → Right past mid → TakesTurn mid turn last → Right (turn ∷ past) last

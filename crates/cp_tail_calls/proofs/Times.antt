@@ -15,10 +15,10 @@ use Rattle.cp_messages.specs.declared.returned.Returned.{Returned}
 use Rattle.cp_messages.specs.declared.returned.Returned.TheVariants as returns
 use Rattle.cp_messages.specs.declared.small.Finish.{Finish}
 use Rattle.cp_messages.specs.declared.small.Release.{Release}
-use Rattle.cp_tail_calls.specs.declared.owed.Owed.{Owed}
-use Rattle.cp_tail_calls.specs.declared.owed.Owed.TheVariants as owed
-use Rattle.cp_tail_calls.specs.declared.owed.Trigger.{Trigger}
-use Rattle.cp_tail_calls.specs.declared.owed.Trigger.TheVariants as triggers
+use Rattle.cp_tail_calls.specs.declared.forwarding.ForwardedMessage.{ForwardedMessage}
+use Rattle.cp_tail_calls.specs.declared.forwarding.ForwardedMessage.TheVariants as owed
+use Rattle.cp_tail_calls.specs.declared.forwarding.Trigger.{Trigger}
+use Rattle.cp_tail_calls.specs.declared.forwarding.Trigger.TheVariants as triggers
 use Rattle.cp_tail_calls.specs.declared.progress.Progress.{Progress}
 use Rattle.cp_tail_calls.specs.declared.progress.Progress.TheVariants as progress
 use Rattle.cp_tail_calls.specs.declared.progress.Taker.{Taker}
@@ -39,7 +39,7 @@ abbrev Paired : Tails → Type 0
 Paired t = Each (IsTakers t.takers) t.calls
 
 -- what waits, by what it is kept in
-abbrev waits_in : ℕ → Table ℕ → List Owed → ℕ
+abbrev waits_in : ℕ → Table ℕ → List ForwardedMessage → ℕ
 waits_in a takers os = cond (is_some (get takers a)) 1 0 + times (is_return_of a) os
 
 -- one more or less waits, as a turn takes results or answers
@@ -68,7 +68,7 @@ nothing-more : (k n m : ℕ) → m ≡ 0 → k + n ≡ k + (n + m)
 nothing-more k n m h = omega arith
 
 -- what is passed on besides changes nothing that waits
-more-owed : (a : ℕ) (takers : Table ℕ) (os more : List Owed) → times (is_return_of a) more ≡ 0 → waits_in a takers os ≡ waits_in a takers (os ++ more)
+more-owed : (a : ℕ) (takers : Table ℕ) (os more : List ForwardedMessage) → times (is_return_of a) more ≡ 0 → waits_in a takers os ≡ waits_in a takers (os ++ more)
 more-owed a takers os more h =
     nothing-more (cond (is_some (get takers a)) 1 0) (times (is_return_of a) os) (times (is_return_of a) more) h
     ∙ ap (λ (n : ℕ). cond (is_some (get takers a)) 1 0 + n) (sym (times-append (is_return_of a) os more))
@@ -108,7 +108,7 @@ module _ (a : ℕ) (t : Tails) (h : Paired t) where
       by (Some how) one = other-takers takers b q k how free one
 
   -- a question that takes results which aren't there waits
-  new-taker-waits : (b q : ℕ) (os : List Owed) → is_some (get t.takers b) ≡ false → cond (b == a) 1 0 + waits_in a t.takers os ≡ 0 + waits_in a (insert t.takers b q) os
+  new-taker-waits : (b q : ℕ) (os : List ForwardedMessage) → is_some (get t.takers b) ≡ false → cond (b == a) 1 0 + waits_in a t.takers os ≡ 0 + waits_in a (insert t.takers b q) os
   new-taker-waits b q os free =
       elim (cases_eq b a) [
         | inl same ↦ rw (equal a b same) (one same)
@@ -133,7 +133,7 @@ module _ (a : ℕ) (t : Tails) (h : Paired t) where
   taken-good : (acts_on : Call → Bool) (stage : ℕ → Option Stage) (r : Return) (q : ℕ) (kept : Option Return) → is_some (get t.takers r.answer_id) ≡ false
       → Good a t (came acts_on stage (messages.Return r) None) (taken t q (taker_by r) kept)
   taken-good acts_on stage r q (Some x) free =
-      let more : List Owed = owed.ToPeer (sent_elsewhere q x.release_param_caps) ∷ given q (taker_by r) x.returned in
+      let more : List ForwardedMessage = owed.ToPeer (sent_elsewhere q x.release_param_caps) ∷ given q (taker_by r) x.returned in
       let k : ℕ = cond (is_some (get t.takers a)) 1 0 in (
         each-insert (IsTakers t.takers) t.calls q progress.Given h tt,
         kept-waits (cond (r.answer_id == a) 1 0) k (times (is_return_of a) t.owed) (times (is_return_of a) more) refl
@@ -213,7 +213,7 @@ module _ (a : ℕ) (t : Tails) (h : Paired t) where
       by other (Some how) one = left-takers b q k how other its one
 
   -- what waited is about to be passed on
-  answered-waits : (b q : ℕ) (os more : List Owed) → get t.takers b ≡ Some q → times (is_return_of a) more ≡ cond (b == a) 1 0
+  answered-waits : (b q : ℕ) (os more : List ForwardedMessage) → get t.takers b ≡ Some q → times (is_return_of a) more ≡ cond (b == a) 1 0
       → waits_in a t.takers os ≡ waits_in a (remove t.takers b) (os ++ more)
   answered-waits b q os more its more-is =
       elim (cases_eq b a) [
@@ -253,17 +253,17 @@ module _ (a : ℕ) (t : Tails) (h : Paired t) where
   release-good r triggers.Application = (h, refl)
   release-good r triggers.Message = (h, refl)
 
-  passed-good : (stage : ℕ → Option Stage) (os : List Owed) (last : Tails) (first : Owed) → t.owed ≡ os → next_of stage t os ≡ (Some first, last)
+  passed-good : (stage : ℕ → Option Stage) (os : List ForwardedMessage) (last : Tails) (first : ForwardedMessage) → t.owed ≡ os → next_of stage t os ≡ (Some first, last)
       → Good a t (passed stage first) last
-  passed-good stage [] last first e f = absurd (none≢some (ap (λ (p : Option Owed × Tails). p.0) f))
+  passed-good stage [] last first e f = absurd (none≢some (ap (λ (p : Option ForwardedMessage × Tails). p.0) f))
     where
       none≢some : None ≡ Some first → ⊥
       none≢some e = cc
   passed-good stage (o ∷ os) last first e f =
       subst
-      (λ (o : Owed). Good a t (passed stage o) last)
-      (same (ap (λ (p : Option Owed × Tails). p.0) f))
-      (subst (λ (new : Tails). Good a t (passed stage o) new) (ap (λ (p : Option Owed × Tails). p.1) f) (h, rw e (sum (cond (is_some (get t.takers a)) 1 0) (cond (is_return_of a o) 1 0) (times (is_return_of a) os))))
+      (λ (o : ForwardedMessage). Good a t (passed stage o) last)
+      (same (ap (λ (p : Option ForwardedMessage × Tails). p.0) f))
+      (subst (λ (new : Tails). Good a t (passed stage o) new) (ap (λ (p : Option ForwardedMessage × Tails). p.1) f) (h, rw e (sum (cond (is_some (get t.takers a)) 1 0) (cond (is_return_of a o) 1 0) (times (is_return_of a) os))))
     where
       same : Some o ≡ Some first → o ≡ first
       same e = cc

@@ -11,7 +11,7 @@ use Rattle.cp_vat_machine.specs.declared.event.Event.{Event}
 use Rattle.cp_vat_machine.specs.declared.event.Event.TheVariants as events
 use Rattle.cp_vat_machine.specs.declared.event.Value.{Value}
 use Rattle.cp_vat_machine.specs.declared.event.Value.TheVariants as values
-use Rattle.cp_tail_calls.specs.declared.owed.Trigger.TheVariants as triggers
+use Rattle.cp_tail_calls.specs.declared.forwarding.Trigger.TheVariants as triggers
 use Rattle.cp_tail_calls.specs.Tails.{Tails}
 use Rattle.cp_tail_calls.specs.Serving.{Served, moment, closes, Settles, nothing_owed, has_closed, to_peer, to_vat, comes_of, gets, trigger_of, Goes, calls, takes, keeps, refuses, RunsBehind, IsStep, ServesAlone}
 

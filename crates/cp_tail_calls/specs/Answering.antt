@@ -6,8 +6,8 @@ use Rattle.cp_messages.specs.declared.message.Message.TheVariants as messages
 use Rattle.cp_messages.specs.declared.returned.Return.{Return}
 use Rattle.cp_messages.specs.declared.returned.Returned.{Returned}
 use Rattle.cp_messages.specs.declared.returned.Returned.TheVariants as returns
-use Rattle.cp_tail_calls.specs.declared.owed.Owed.{Owed}
-use Rattle.cp_tail_calls.specs.declared.owed.Owed.TheVariants as owed
+use Rattle.cp_tail_calls.specs.declared.forwarding.ForwardedMessage.{ForwardedMessage}
+use Rattle.cp_tail_calls.specs.declared.forwarding.ForwardedMessage.TheVariants as owed
 use Rattle.cp_tail_calls.specs.Runs.{Turn, came, went, passed, Did, TakesTurn}
 use Rattle.cp_tail_calls.specs.Seen.{seen_from_here}
 use Rattle.cp_tail_calls.specs.Tails.{Tails}
@@ -42,7 +42,7 @@ abbrev pub is_taking : ℕ → Turn → Bool
 is_taking a (came acts_on stage (messages.Return r) None) = r.answer_id == a
 is_taking a other = false
 
-abbrev pub is_return_of : ℕ → Owed → Bool
+abbrev pub is_return_of : ℕ → ForwardedMessage → Bool
 is_return_of a (owed.ToVat (messages.Return r)) = r.answer_id == a
 is_return_of a other = false
 

@@ -10,7 +10,7 @@ use Rattle.cp_vat_machine.specs.declared.effect.Effect.TheVariants as effects
 use Rattle.cp_vat_machine.specs.declared.event.Event.{Event}
 use Rattle.cp_vat_machine.specs.declared.event.Event.TheVariants as events
 use Rattle.cp_vat_machine.specs.declared.event.Value.{Value}
-use Rattle.cp_tail_calls.specs.declared.owed.Owed.TheVariants as owed
+use Rattle.cp_tail_calls.specs.declared.forwarding.ForwardedMessage.TheVariants as owed
 use Rattle.cp_tail_calls.specs.Runs.{Turn, came, went, passed, Did}
 use Rattle.cp_tail_calls.specs.Serving.{Served, Serves}
 use Rattle.cp_tail_calls.specs.Tails.{Tails}

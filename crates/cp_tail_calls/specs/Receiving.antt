@@ -13,8 +13,8 @@ use Rattle.cp_messages.specs.declared.returned.Return.{Return}
 use Rattle.cp_messages.specs.declared.returned.Returned.{Returned}
 use Rattle.cp_messages.specs.declared.returned.Returned.TheVariants as returns
 use Rattle.cp_messages.specs.declared.small.Finish.{Finish}
-use Rattle.cp_tail_calls.specs.declared.owed.Owed.{Owed}
-use Rattle.cp_tail_calls.specs.declared.owed.Owed.TheVariants as owed
+use Rattle.cp_tail_calls.specs.declared.forwarding.ForwardedMessage.{ForwardedMessage}
+use Rattle.cp_tail_calls.specs.declared.forwarding.ForwardedMessage.TheVariants as owed
 use Rattle.cp_tail_calls.specs.declared.progress.Progress.{Progress}
 use Rattle.cp_tail_calls.specs.declared.progress.Progress.TheVariants as progress
 use Rattle.cp_tail_calls.specs.declared.progress.Taker.{Taker}
@@ -39,7 +39,7 @@ abbrev pub to_caller : Call → Call
 to_caller c = record c { send_results_to = results_to.Caller }
 
 -- this is passed on too, last
-abbrev pub with_owed : Tails → List Owed → Tails
+abbrev pub with_owed : Tails → List ForwardedMessage → Tails
 with_owed t more = record t { owed = t.owed ++ more }
 
 -- the call under this question is so far
@@ -70,10 +70,10 @@ abbrev pub finish_of : ℕ → Finish
 finish_of q = record { question_id = q; release_result_caps = true }
 
 -- what is passed on when a question takes results
-abbrev pub finish_if : Bool → ℕ → List Owed
+abbrev pub finish_if : Bool → ℕ → List ForwardedMessage
 finish_if is_finished q = if is_finished then (owed.ToVat (messages.Finish (finish_of q)) ∷ []) else []
 
-abbrev pub given : ℕ → Taker → Returned → List Owed
+abbrev pub given : ℕ → Taker → Returned → List ForwardedMessage
 given q taker returned = owed.ToVat (return_to taker returned) ∷ finish_if taker.is_finished q
 
 -- A question takes the results of a call: they are there, or it gets them once they are.

@@ -8,8 +8,8 @@ use Rattle.cp_messages.specs.declared.message.Message.{Message}
 use Rattle.cp_messages.specs.declared.message.Message.TheVariants as messages
 use Rattle.cp_messages.specs.declared.resolve.Resolution.{Resolution}
 use Rattle.cp_messages.specs.declared.resolve.Resolution.TheVariants as resolutions
-use Rattle.cp_tail_calls.specs.declared.owed.Owed.{Owed}
-use Rattle.cp_tail_calls.specs.declared.owed.Trigger.{Trigger}
+use Rattle.cp_tail_calls.specs.declared.forwarding.ForwardedMessage.{ForwardedMessage}
+use Rattle.cp_tail_calls.specs.declared.forwarding.Trigger.{Trigger}
 use Rattle.cp_tail_calls.specs.Receiving.{is_to_sender, received}
 use Rattle.cp_tail_calls.specs.Sending.{next_of, sent}
 use Rattle.cp_tail_calls.specs.Tails.{Tails, none}
@@ -19,7 +19,7 @@ use Rattle.cp_tail_calls.specs.Tails.{Tails, none}
 pub data Turn : Type 0 where
   came : (Call → Bool) → (ℕ → Option Stage) → Message → Option Message → Turn
   went : Trigger → Message → Option Message → Turn
-  passed : (ℕ → Option Stage) → Owed → Turn
+  passed : (ℕ → Option Stage) → ForwardedMessage → Turn
 
 abbrev pub TakesTurn : Tails → Turn → Tails → Type 0
 TakesTurn old (came acts_on stage m on) new = received acts_on stage old m ≡ (on, new)

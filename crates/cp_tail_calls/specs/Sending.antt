@@ -16,13 +16,13 @@ use Rattle.cp_messages.specs.declared.returned.Returned.{Returned}
 use Rattle.cp_messages.specs.declared.returned.Returned.TheVariants as returns
 use Rattle.cp_messages.specs.declared.small.Release.{Release}
 use Rattle.cp_refs.specs.At.{null_capability}
-use Rattle.cp_tail_calls.specs.declared.owed.Owed.{Owed}
-use Rattle.cp_tail_calls.specs.declared.owed.Owed.TheVariants as owed
+use Rattle.cp_tail_calls.specs.declared.forwarding.ForwardedMessage.{ForwardedMessage}
+use Rattle.cp_tail_calls.specs.declared.forwarding.ForwardedMessage.TheVariants as owed
 use Rattle.cp_tail_calls.specs.declared.progress.Progress.{Progress}
 use Rattle.cp_tail_calls.specs.declared.progress.Progress.TheVariants as progress
 use Rattle.cp_tail_calls.specs.declared.progress.Taker.{Taker}
-use Rattle.cp_tail_calls.specs.declared.owed.Trigger.{Trigger}
-use Rattle.cp_tail_calls.specs.declared.owed.Trigger.TheVariants as triggers
+use Rattle.cp_tail_calls.specs.declared.forwarding.Trigger.{Trigger}
+use Rattle.cp_tail_calls.specs.declared.forwarding.Trigger.TheVariants as triggers
 use Rattle.cp_tail_calls.specs.Receiving.{Passed, goes_on, without_call, sent_elsewhere, given}
 use Rattle.cp_tail_calls.specs.Tails.{Tails}
 
@@ -79,11 +79,11 @@ abbrev pub lent_by : Table ℕ → Returned → Option Stage → Table ℕ
 lent_by lent (returns.Results p) (Some stages.Open) = lent_all lent p.cap_table
 lent_by lent other stage = lent
 
-abbrev pub lent_with : (ℕ → Option Stage) → Table ℕ → Owed → Table ℕ
+abbrev pub lent_with : (ℕ → Option Stage) → Table ℕ → ForwardedMessage → Table ℕ
 lent_with stage lent (owed.ToVat (messages.Return r)) = lent_by lent r.returned (stage r.answer_id)
 lent_with stage lent other = lent
 
 -- what is passed on first, and what is kept then
-abbrev pub next_of : (ℕ → Option Stage) → Tails → List Owed → Option Owed × Tails
+abbrev pub next_of : (ℕ → Option Stage) → Tails → List ForwardedMessage → Option ForwardedMessage × Tails
 next_of stage t [] = (None, t)
 next_of stage t (first ∷ rest) = (Some first, record t { owed = rest; lent = lent_with stage t.lent first })

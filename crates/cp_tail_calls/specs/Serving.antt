@@ -14,10 +14,10 @@ use Rattle.cp_vat_machine.specs.declared.event.Value.{Value}
 use Rattle.cp_vat_machine.specs.declared.event.Value.TheVariants as values
 use Rattle.cp_vat_machine.specs.declared.fault.VatFault.{VatFault}
 use Rattle.cp_vat_machine.specs.declared.fault.VatFault.TheVariants as refusals
-use Rattle.cp_tail_calls.specs.declared.owed.Owed.{Owed}
-use Rattle.cp_tail_calls.specs.declared.owed.Owed.TheVariants as owed
-use Rattle.cp_tail_calls.specs.declared.owed.Trigger.{Trigger}
-use Rattle.cp_tail_calls.specs.declared.owed.Trigger.TheVariants as triggers
+use Rattle.cp_tail_calls.specs.declared.forwarding.ForwardedMessage.{ForwardedMessage}
+use Rattle.cp_tail_calls.specs.declared.forwarding.ForwardedMessage.TheVariants as owed
+use Rattle.cp_tail_calls.specs.declared.forwarding.Trigger.{Trigger}
+use Rattle.cp_tail_calls.specs.declared.forwarding.Trigger.TheVariants as triggers
 use Rattle.cp_tail_calls.specs.Receiving.{received}
 use Rattle.cp_tail_calls.specs.Sending.{next_of, sent}
 use Rattle.cp_tail_calls.specs.Tails.{Tails}
@@ -64,7 +64,7 @@ abbrev pub trigger_of : Event → Trigger
 trigger_of (events.Receive m) = triggers.Message
 trigger_of other = triggers.Application
 
-abbrev pub owed_by : Option Tails → List Owed
+abbrev pub owed_by : Option Tails → List ForwardedMessage
 owed_by None = []
 owed_by (Some t) = t.owed
 

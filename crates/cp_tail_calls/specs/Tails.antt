@@ -3,7 +3,7 @@ use Rattle.std.specs.Prelude.{ℕ, List, []}
 use Rattle.std.specs.FinMap.{empty}
 use Rattle.cp_tables.specs.Table.{Table}
 use Rattle.cp_messages.specs.declared.returned.Return.{Return}
-use Rattle.cp_tail_calls.specs.declared.owed.Owed.{Owed}
+use Rattle.cp_tail_calls.specs.declared.forwarding.ForwardedMessage.{ForwardedMessage}
 use Rattle.cp_tail_calls.specs.declared.progress.Progress.{Progress}
 
 -- How far each call of the peer's is that has results to itself, by its question; results of such calls that no question took yet; the questions of this
@@ -14,7 +14,7 @@ pub record Tails : Type 0 where
   pub results : Table Return
   pub takers : Table ℕ
   pub lent : Table ℕ
-  pub owed : List Owed
+  pub owed : List ForwardedMessage
 
 -- no tail calls
 abbrev pub none : Tails

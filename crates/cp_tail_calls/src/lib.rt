@@ -3,9 +3,9 @@
 #![tactic(auto)]
 
 mod behind;
+mod forwarding;
 mod laws;
 mod lending;
-mod owed;
 mod progress;
 mod receiving;
 mod results;
@@ -14,8 +14,8 @@ mod sending;
 mod tail_calls;
 
 pub use behind::OrdinaryVat;
+pub use forwarding::{ForwardedMessage, Trigger};
 pub use laws::{
     answered_once, bridges_turns, plain_turns, right_results, runs_behind, serves_alone, takes_back,
 };
-pub use owed::{Owed, Trigger};
 pub use tail_calls::TailCalls;

@@ -4,11 +4,11 @@ ghost use Rattle.std.specs.Prelude.{◌≡◌, ◌&&◌, ◌∷◌, IfOk, OnOk};
 ghost use Rattle.std.specs.Option.{option_map};
 ghost use Rattle.std.specs.FinMap.{get};
 ghost use Rattle.cp_rpc.specs.Viewed.{viewed, viewed_call, viewed_return};
-ghost use Rattle.cp_tail_calls.specs.declared.owed.Owed.TheVariants.{ToPeer};
+ghost use Rattle.cp_tail_calls.specs.declared.forwarding.ForwardedMessage.TheVariants.{ToPeer};
 ghost use Rattle.cp_tail_calls.specs.Receiving.{finish_of, finish_taken, given, is_due, is_to_sender, is_untaken, let_go, receive_call, receive_finish, receive_return, return_of_none, return_to, sent_elsewhere, taken, to_caller, with_owed};
 
 use crate::behind::OrdinaryVat;
-use crate::owed::Owed;
+use crate::forwarding::ForwardedMessage;
 use crate::progress::{Progress, Taker};
 use crate::seen::seen_from_here;
 use crate::tail_calls::TailCalls;
@@ -103,7 +103,7 @@ impl TailCalls {
             ..
         } = message;
         let elsewhere = sent_elsewhere(call, release_param_caps);
-        match self.owe(Owed::ToPeer(elsewhere)) {
+        match self.owe(ForwardedMessage::ToPeer(elsewhere)) {
             Ok(()) => self.give(call, taker, returned),
             Err(fault) => {
                 drop(returned);
@@ -121,9 +121,9 @@ impl TailCalls {
     ) -> Result<(), AllocError>
         ensures { OnOk result (self.new ≡ with_owed self.old (given call taker returned)) }
     {
-        self.owe(Owed::ToVat(return_to(taker, returned)))?;
+        self.owe(ForwardedMessage::ToVat(return_to(taker, returned)))?;
         if taker.is_finished {
-            self.owe(Owed::ToVat(Message::Finish(finish_of(call))))?;
+            self.owe(ForwardedMessage::ToVat(Message::Finish(finish_of(call))))?;
         }
         Ok(())
     }
@@ -157,7 +157,7 @@ impl TailCalls {
         let release = message.release_param_caps;
         drop(self.results.remove(call));
         let _ = self.calls.remove(call);
-        self.owe(Owed::ToPeer(sent_elsewhere(call, release)))
+        self.owe(ForwardedMessage::ToPeer(sent_elsewhere(call, release)))
     }
 
     /// A call is finished before it has the results that a question takes: the vat gets that after them. A second Finish is a fault,
@@ -167,7 +167,7 @@ impl TailCalls {
     {
         let call = finish.question_id;
         if taker.is_finished {
-            self.owe(Owed::ToVat(Message::Finish(finish_of(call))))?;
+            self.owe(ForwardedMessage::ToVat(Message::Finish(finish_of(call))))?;
             return Ok(Some(finish));
         }
         let finished = Taker {

@@ -4,7 +4,7 @@ ghost use Rattle.std.specs.Prelude.{◌≡◌, Some, IfOk};
 ghost use Rattle.cp_tail_calls.specs.declared.progress.Progress.TheVariants.{Taken};
 ghost use Rattle.cp_tail_calls.specs.Sending.{resolution_for, send_release, send_return, send_return_of};
 
-use crate::owed::Trigger;
+use crate::forwarding::Trigger;
 use crate::progress::{Progress, Taker};
 use crate::receiving::sent_elsewhere;
 use crate::tail_calls::TailCalls;

@@ -1,8 +1,8 @@
 //! What is kept of tail calls.
 
 use crate::behind::OrdinaryVat;
+use crate::forwarding::{ForwardedMessage, Trigger};
 use crate::lending::lend_each;
-use crate::owed::{Owed, Trigger};
 use crate::progress::Progress;
 use crate::results::UntakenResults;
 use cp_messages::{Message, Returned};
@@ -48,7 +48,7 @@ pub struct TailCalls {
     /// How many more the vat counts of an import than the peer does.
     pub(crate) lent: Entries<u32>,
     /// What is to be passed on, in order.
-    pub(crate) owed: VecDeque<Owed>,
+    pub(crate) owed: VecDeque<ForwardedMessage>,
 }
 
 // Not derived: a crate that lets one go calls this function, and need not prove the drop of all that it holds.
@@ -152,7 +152,7 @@ impl TailCalls {
     }
 
     /// Gives what is to be passed on first. What results lend to the vat is counted, if it looks at them.
-    pub fn next<V: OrdinaryVat>(&mut self, vat: &V) -> Result<Option<Owed>, AllocError>
+    pub fn next<V: OrdinaryVat>(&mut self, vat: &V) -> Result<Option<ForwardedMessage>, AllocError>
         ensures { IfOk result (λ first. next_of (V.stage vat.now) self.old self.old.owed ≡ (first, self.new)) }
     {
         let Some(owed) = self.owed.pop_front() else {
@@ -168,10 +168,14 @@ impl TailCalls {
     }
 
     /// Counts what a message to the vat lends it.
-    fn lend_by<V: OrdinaryVat>(&mut self, vat: &V, owed: &Owed) -> Result<(), AllocError>
+    fn lend_by<V: OrdinaryVat>(
+        &mut self,
+        vat: &V,
+        owed: &ForwardedMessage,
+    ) -> Result<(), AllocError>
         ensures { OnOk result (self.new ≡ record self.old { lent = lent_with (V.stage vat.now) self.old.lent owed.now }) }
     {
-        let Owed::ToVat(Message::Return(message)) = owed else {
+        let ForwardedMessage::ToVat(Message::Return(message)) = owed else {
             return Ok(());
         };
         let Returned::Results(payload) = &message.returned else {
@@ -184,7 +188,7 @@ impl TailCalls {
     }
 
     /// Adds what is to be passed on last.
-    pub(crate) fn owe(&mut self, owed: Owed) -> Result<(), AllocError>
+    pub(crate) fn owe(&mut self, owed: ForwardedMessage) -> Result<(), AllocError>
         ensures { OnOk result (self.new ≡ with_owed self.old (owed ∷ [])) }
     {
         self.owed.push_back(owed)?;

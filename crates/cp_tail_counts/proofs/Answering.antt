@@ -13,8 +13,8 @@ use Rattle.cp_vat_pair_laws.specs.Ledger.{Traffic, params_of, results_of, lowere
 use Rattle.cp_vat_pair_laws.specs.Ledger as ledger
 use Rattle.cp_vat_pair_laws.specs.Accounts.{Accounts, is_given_up, taken_in, results_in, params_in, lowerable, lowered_by, Came}
 use Rattle.cp_vat_pair_laws.specs.Expected.{IsAwaited}
-use Rattle.cp_tail_calls.specs.declared.owed.Owed.{Owed}
-use Rattle.cp_tail_calls.specs.declared.owed.Owed.TheVariants as owed
+use Rattle.cp_tail_calls.specs.declared.forwarding.ForwardedMessage.{ForwardedMessage}
+use Rattle.cp_tail_calls.specs.declared.forwarding.ForwardedMessage.TheVariants as owed
 use Rattle.cp_tail_calls.specs.declared.progress.Progress.TheVariants as progress
 use Rattle.cp_tail_calls.specs.Receiving.{sent_elsewhere, given, taken, taker_by}
 use Rattle.cp_tail_calls.specs.Tails.{Tails}
@@ -54,14 +54,14 @@ module _ (most : ℕ) (past : List Traffic) (t : Tails) (old new : Accounts) (h 
     pub stays_owed : (e : ℕ) → owed_below most e new t ≡ owed_below most e old t
     stays_owed e = still_owed most past t old new h (λ q. q == a) comes.answers stays not_taker e
 
-    pub stays_lowers : (e : ℕ) (os : List Owed) → any (returns_one (λ q. q == a)) os ≡ false → AreRight t.calls t.takers old os
+    pub stays_lowers : (e : ℕ) (os : List ForwardedMessage) → any (returns_one (λ q. q == a)) os ≡ false → AreRight t.calls t.takers old os
         → lowers_all e new os ≡ lowers_all e old os
     stays_lowers e os none right = still_lowers most past t old new h (λ q. q == a) comes.answers stays not_taker e os none right
 
     pub stays_takers : (q : ℕ) → IfSome (get t.calls q) (IsTakers t.takers new q)
     stays_takers = still_takers most past t old new h (λ q. q == a) comes.answers stays not_taker
 
-    pub stays_right : (os : List Owed) → any (returns_one (λ q. q == a)) os ≡ false → AreRight t.calls t.takers old os → AreRight t.calls t.takers new os
+    pub stays_right : (os : List ForwardedMessage) → any (returns_one (λ q. q == a)) os ≡ false → AreRight t.calls t.takers old os → AreRight t.calls t.takers new os
     stays_right os none right = still_right most past t old new h (λ q. q == a) comes.answers stays not_taker os none right
 
   -- from the peer
@@ -186,7 +186,7 @@ module _ (most : ℕ) (past : List Traffic) (t : Tails) (old new : Accounts) (h 
 
     -- when they are there
     module _ (x : Return) (there : get t.results k ≡ Some x) where
-      abbrev more : List Owed
+      abbrev more : List ForwardedMessage
       more = owed.ToPeer (sent_elsewhere k x.release_param_caps) ∷ given k (taker_by r) x.returned
 
       abbrev giving : Tails

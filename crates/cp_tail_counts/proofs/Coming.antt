@@ -18,8 +18,8 @@ use Rattle.cp_vat_machine.proofs.Basics.{is_itself}
 use Rattle.cp_vat_pair_laws.specs.Ledger.{Traffic, params_of, results_of, is_finished}
 use Rattle.cp_vat_pair_laws.specs.Accounts.{Account, Accounts, answer_finished, Came}
 use Rattle.cp_vat_pair_laws.specs.Expected.{IsAwaited, IsKept, IsNotReturned, stage_of}
-use Rattle.cp_tail_calls.specs.declared.owed.Owed.{Owed}
-use Rattle.cp_tail_calls.specs.declared.owed.Owed.TheVariants as owed
+use Rattle.cp_tail_calls.specs.declared.forwarding.ForwardedMessage.{ForwardedMessage}
+use Rattle.cp_tail_calls.specs.declared.forwarding.ForwardedMessage.TheVariants as owed
 use Rattle.cp_tail_calls.specs.declared.progress.Progress.{Progress}
 use Rattle.cp_tail_calls.specs.declared.progress.Progress.TheVariants as progress
 use Rattle.cp_tail_calls.specs.declared.progress.Taker.{Taker}
@@ -39,7 +39,7 @@ use Rattle.cp_tail_counts.proofs.Others.{other_comes}
 -- After a second Finish of a call whose results a question waits for, the vat is about to get one of an answer that it doesn't keep.
 pub record Doomed (t : Tails) (vat : Accounts) : Type 0 where
   pub call : ℕ
-  pub rest : List Owed
+  pub rest : List ForwardedMessage
   pub first : t.owed ≡ owed.ToVat (messages.Finish (finish_of call)) ∷ rest
   pub gone : IsKept (vat.answers call) → ⊥
 
@@ -138,7 +138,7 @@ module _ (most : ℕ) (past : List Traffic) (t : Tails) (old new : Accounts) (h 
         record {
           call = k;
           rest = [];
-          first = ap (λ (os : List Owed). os ++ owed.ToVat (messages.Finish (finish_of k)) ∷ []) settled;
+          first = ap (λ (os : List ForwardedMessage). os ++ owed.ToVat (messages.Finish (finish_of k)) ∷ []) settled;
           gone = λ kept. not_kept (old.answers k) (kept_as (Some (progress.Taken taker)) called).2 (subst (λ (o : Option Account). IsKept o) (finished_now gets.1) kept);
         }
         )

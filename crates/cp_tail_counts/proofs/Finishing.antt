@@ -15,8 +15,8 @@ use Rattle.cp_vat_pair_laws.specs.Ledger.{Traffic, results_of, import_count}
 use Rattle.cp_vat_pair_laws.specs.Ledger as ledger
 use Rattle.cp_vat_pair_laws.specs.Accounts.{Account, Accounts, results_at, results_in, finish_noted, answer_finished, Came}
 use Rattle.cp_vat_pair_laws.specs.Expected.{IsKept}
-use Rattle.cp_tail_calls.specs.declared.owed.Owed.{Owed}
-use Rattle.cp_tail_calls.specs.declared.owed.Owed.TheVariants as owed
+use Rattle.cp_tail_calls.specs.declared.forwarding.ForwardedMessage.{ForwardedMessage}
+use Rattle.cp_tail_calls.specs.declared.forwarding.ForwardedMessage.TheVariants as owed
 use Rattle.cp_tail_calls.specs.declared.progress.Progress.{Progress}
 use Rattle.cp_tail_calls.specs.declared.progress.Progress.TheVariants as progress
 use Rattle.cp_tail_calls.specs.declared.progress.Taker.{Taker}
@@ -107,7 +107,7 @@ module _ (most : ℕ) (past : List Traffic) (t : Tails) (old new : Accounts) (h 
     imports : (i : ℕ) → new.imports i ≡ import_count later i + lent_of t i
     imports i = omega (arith, comes.imports i, h.imports i)
 
-    local : (calls : Table Progress) (results : Table Return) (more : List Owed) → ((q : ℕ) → (k == q) ≡ false → get calls q ≡ get t.calls q)
+    local : (calls : Table Progress) (results : Table Return) (more : List ForwardedMessage) → ((q : ℕ) → (k == q) ≡ false → get calls q ≡ get t.calls q)
         → ((q : ℕ) → (k == q) ≡ false → get results q ≡ get t.results q) → ((q : ℕ) → any (is_finish_of q) more ≡ false)
         → Locally k past later t (record t { calls = calls; results = results; owed = more }) old new
     local calls results more called kept none =
@@ -205,7 +205,7 @@ module _ (most : ℕ) (past : List Traffic) (t : Tails) (old new : Accounts) (h 
   -- when the results are there: of a call that goes, with what the peer is told of it then
   module _ (how : Progress) (called : get t.calls k ≡ Some how) (peers : results_of past k ≡ []) (at : IsAt stages.Returned (old.answers k)) (gets : Gets old (messages.Finish (finish_of k)) new)
       (none_owed : (e : ℕ) → owed_to e old how ≡ 0) (results : Table Return) (off : (q : ℕ) → (k == q) ≡ false → get results q ≡ get t.results q) (gone : get results k ≡ None)
-      (more : List Owed) (quiet : (q : ℕ) → any (is_finish_of q) more ≡ false) (none_lowered : (e : ℕ) → lowers_all e new more ≡ 0)
+      (more : List ForwardedMessage) (quiet : (q : ℕ) → any (is_finish_of q) more ≡ false) (none_lowered : (e : ℕ) → lowers_all e new more ≡ 0)
       (right : AreRight (remove t.calls k) t.takers new more) where
     abbrev left : Tails
     left = record t { calls = remove t.calls k; results = results; owed = more }
@@ -258,7 +258,7 @@ module _ (most : ℕ) (past : List Traffic) (t : Tails) (old new : Accounts) (h 
       finish_given progress.Given called was.0 was.2 gets (λ e. refl) t.results (λ q apart. refl) was.1 t.owed not_finishing (λ e. rw (settled) refl) (rw (settled) tt)
 
   -- results that no question took are let go
-  abbrev telling : Bool → List Owed
+  abbrev telling : Bool → List ForwardedMessage
   telling b = t.owed ++ owed.ToPeer (sent_elsewhere k b) ∷ []
 
   pub finish_kept : (r : Return) → get t.calls k ≡ Some progress.Untaken → get t.results k ≡ Some r → Gets old (messages.Finish (finish_of k)) new

@@ -7,7 +7,7 @@ use Rattle.cp_messages.specs.declared.message.Message.{Message}
 use Rattle.cp_messages.specs.declared.message.Message.TheVariants as messages
 use Rattle.cp_vat_pair_laws.specs.Ledger.{Traffic}
 use Rattle.cp_vat_pair_laws.specs.Accounts.{Accounts}
-use Rattle.cp_tail_calls.specs.declared.owed.Trigger.{Trigger}
+use Rattle.cp_tail_calls.specs.declared.forwarding.Trigger.{Trigger}
 use Rattle.cp_tail_calls.specs.Receiving.{Passed}
 use Rattle.cp_tail_calls.specs.Sending.{sent}
 use Rattle.cp_tail_calls.specs.Tails.{Tails}

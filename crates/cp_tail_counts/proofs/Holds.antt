@@ -15,8 +15,8 @@ use Rattle.cp_vat_machine.proofs.Basics.{or_first, or_second, is_equal}
 use Rattle.cp_vat_pair_laws.specs.Ledger.{Traffic, params_of, results_of, export_count, is_finished, import_count}
 use Rattle.cp_vat_pair_laws.specs.Accounts.{Account, Accounts, is_finish_noted, results_at, results_in, params_in}
 use Rattle.cp_vat_pair_laws.specs.Expected.{IsAwaited}
-use Rattle.cp_tail_calls.specs.declared.owed.Owed.{Owed}
-use Rattle.cp_tail_calls.specs.declared.owed.Owed.TheVariants as owed
+use Rattle.cp_tail_calls.specs.declared.forwarding.ForwardedMessage.{ForwardedMessage}
+use Rattle.cp_tail_calls.specs.declared.forwarding.ForwardedMessage.TheVariants as owed
 use Rattle.cp_tail_calls.specs.declared.progress.Progress.{Progress}
 use Rattle.cp_tail_calls.specs.declared.progress.Progress.TheVariants as progress
 use Rattle.cp_tail_calls.specs.Receiving.{sent_elsewhere}
@@ -26,25 +26,25 @@ use Rattle.cp_tail_counts.specs.Counts.{owed_below, lent_of, IsFair, IsGivenFair
 
 -- ---- what is to be passed on
 -- so is one of them
-abbrev pub any : (Owed → Bool) → List Owed → Bool
+abbrev pub any : (ForwardedMessage → Bool) → List ForwardedMessage → Bool
 any test [] = false
 any test (o ∷ os) = test o || any test os
 
-abbrev pub returns_one : (ℕ → Bool) → Owed → Bool
+abbrev pub returns_one : (ℕ → Bool) → ForwardedMessage → Bool
 returns_one test (owed.ToVat (messages.Return r)) = test r.answer_id
 returns_one test other = false
 
-abbrev pub is_finish_of : ℕ → Owed → Bool
+abbrev pub is_finish_of : ℕ → ForwardedMessage → Bool
 is_finish_of q (owed.ToVat (messages.Finish f)) = f.question_id == q
 is_finish_of q other = false
 
 -- how often it lowers an export
-abbrev pub lowers : ℕ → Accounts → Owed → ℕ
+abbrev pub lowers : ℕ → Accounts → ForwardedMessage → ℕ
 lowers e vat (owed.ToVat (messages.Return r)) = if r.release_param_caps then times e (params_in (vat.questions r.answer_id)) else 0
 lowers e vat (owed.ToVat (messages.Finish f)) = times e (results_in (vat.answers f.question_id))
 lowers e vat other = 0
 
-abbrev pub lowers_all : ℕ → Accounts → List Owed → ℕ
+abbrev pub lowers_all : ℕ → Accounts → List ForwardedMessage → ℕ
 lowers_all e vat [] = 0
 lowers_all e vat (o ∷ os) = lowers e vat o + lowers_all e vat os
 
@@ -55,7 +55,7 @@ IsAt stage (Some account) = account.stage ≡ stage
 
 -- The Return of a question is due, and its results are as the peer would send them. A Finish is that of an answer that was given, of which nothing is kept.
 -- The peer is told of a call that is kept, or that is gone.
-abbrev pub IsRight : Table Progress → Table ℕ → Accounts → Owed → Type 0
+abbrev pub IsRight : Table Progress → Table ℕ → Accounts → ForwardedMessage → Type 0
 IsRight calls takers vat (owed.ToPeer m) =
     (q : ℕ) × (m ≡ sent_elsewhere q false) × ((get calls q ≡ Some progress.Given) ⊎ (vat.answers q ≡ None))
 IsRight calls takers vat (owed.ToVat (messages.Return r)) =
@@ -66,12 +66,12 @@ IsRight calls takers vat (owed.ToVat (messages.Finish f)) =
 IsRight calls takers vat (owed.ToVat other) = ⊥
 
 -- it is passed on once
-abbrev pub IsOnce : Owed → List Owed → Type 0
+abbrev pub IsOnce : ForwardedMessage → List ForwardedMessage → Type 0
 IsOnce (owed.ToVat (messages.Return r)) os = any (returns_one (λ q. q == r.answer_id)) os ≡ false
 IsOnce (owed.ToVat (messages.Finish f)) os = any (is_finish_of f.question_id) os ≡ false
 IsOnce other os = Unit {0}
 
-abbrev pub AreRight : Table Progress → Table ℕ → Accounts → List Owed → Type 0
+abbrev pub AreRight : Table Progress → Table ℕ → Accounts → List ForwardedMessage → Type 0
 AreRight calls takers vat [] = Unit {0}
 AreRight calls takers vat (o ∷ os) = IsRight calls takers vat o × IsOnce o os × AreRight calls takers vat os
 
@@ -115,23 +115,23 @@ pub record Holds (most : ℕ) (past : List Traffic) (t : Tails) (vat : Accounts)
   pub below : (q : ℕ) → IsTrue (is_some (get t.calls q)) → q < most
 
 -- ---- lists of what is to be passed on
-pub any_append : (test : Owed → Bool) (os more : List Owed) → any test os ≡ false → any test more ≡ false → any test (os ++ more) ≡ false
+pub any_append : (test : ForwardedMessage → Bool) (os more : List ForwardedMessage) → any test os ≡ false → any test more ≡ false → any test (os ++ more) ≡ false
 any_append test [] more h k = k
 any_append test (o ∷ os) more h k =
     rw (or_first (test o) (any test os) h) (any_append test os more (or_second (test o) (any test os) h) k)
 
-pub any_more : (test : Owed → Bool) (os more : List Owed) → any test more ≡ false → any test (os ++ more) ≡ any test os
+pub any_more : (test : ForwardedMessage → Bool) (os more : List ForwardedMessage) → any test more ≡ false → any test (os ++ more) ≡ any test os
 any_more test [] more k = k
 any_more test (o ∷ os) more k = ap (λ (b : Bool). test o || b) (any_more test os more k)
 
-pub lowers_append : (e : ℕ) (vat : Accounts) (os more : List Owed) → lowers_all e vat (os ++ more) ≡ lowers_all e vat os + lowers_all e vat more
+pub lowers_append : (e : ℕ) (vat : Accounts) (os more : List ForwardedMessage) → lowers_all e vat (os ++ more) ≡ lowers_all e vat os + lowers_all e vat more
 lowers_append e vat [] more = omega arith
 lowers_append e vat (o ∷ os) more = omega (arith, lowers_append e vat os more)
 
 -- What is right stays so, and lowers as much, where each that passes a test does.
 module _ (calls mores : Table Progress) (takers takings : Table ℕ) (old new : Accounts) where
-  pub stay_right : (test : Owed → Bool) (os : List Owed) → any test os ≡ false
-      → ((o : Owed) → test o ≡ false → IsRight calls takers old o → IsRight mores takings new o) → AreRight calls takers old os → AreRight mores takings new os
+  pub stay_right : (test : ForwardedMessage → Bool) (os : List ForwardedMessage) → any test os ≡ false
+      → ((o : ForwardedMessage) → test o ≡ false → IsRight calls takers old o → IsRight mores takings new o) → AreRight calls takers old os → AreRight mores takings new os
   stay_right test [] none each right = tt
   stay_right test (o ∷ os) none each right = (
     each o (or_first (test o) (any test os) none) right.0,
@@ -139,8 +139,8 @@ module _ (calls mores : Table Progress) (takers takings : Table ℕ) (old new : 
     stay_right test os (or_second (test o) (any test os) none) each right.2,
   )
 
-  pub lower_same : (e : ℕ) (test : Owed → Bool) (os : List Owed) → any test os ≡ false
-      → ((o : Owed) → test o ≡ false → IsRight calls takers old o → lowers e new o ≡ lowers e old o) → AreRight calls takers old os
+  pub lower_same : (e : ℕ) (test : ForwardedMessage → Bool) (os : List ForwardedMessage) → any test os ≡ false
+      → ((o : ForwardedMessage) → test o ≡ false → IsRight calls takers old o → lowers e new o ≡ lowers e old o) → AreRight calls takers old os
       → lowers_all e new os ≡ lowers_all e old os
   lower_same e test [] none each right = refl
   lower_same e test (o ∷ os) none each right =
@@ -150,31 +150,31 @@ module _ (calls mores : Table Progress) (takers takings : Table ℕ) (old new : 
         lower_same e test os (or_second (test o) (any test os) none) each right.2,
       )
 
-abbrev pub never : Owed → Bool
+abbrev pub never : ForwardedMessage → Bool
 never o = false
 
-pub any_never : (os : List Owed) → any never os ≡ false
+pub any_never : (os : List ForwardedMessage) → any never os ≡ false
 any_never [] = refl
 any_never (o ∷ os) = any_never os
 
-pub returns_none : (os : List Owed) → any (returns_one (λ q. false)) os ≡ false
+pub returns_none : (os : List ForwardedMessage) → any (returns_one (λ q. false)) os ≡ false
 returns_none [] = refl
 returns_none (o ∷ os) = by o (returns_none os)
   where
-    by : (o : Owed) → any (returns_one (λ q. false)) os ≡ false → (returns_one (λ q. false) o || any (returns_one (λ q. false)) os) ≡ false
+    by : (o : ForwardedMessage) → any (returns_one (λ q. false)) os ≡ false → (returns_one (λ q. false) o || any (returns_one (λ q. false)) os) ≡ false
     by (owed.ToVat (messages.Return r)) rest = rest
     by o rest = rest
 
 -- what is passed on once isn't among others that it isn't among
-pub once_append : (o : Owed) (os more : List Owed) → IsOnce o os → IsOnce o more → IsOnce o (os ++ more)
+pub once_append : (o : ForwardedMessage) (os more : List ForwardedMessage) → IsOnce o os → IsOnce o more → IsOnce o (os ++ more)
 once_append (owed.ToVat (messages.Return r)) os more h k = any_append (returns_one (λ q. q == r.answer_id)) os more h k
 once_append (owed.ToVat (messages.Finish f)) os more h k = any_append (is_finish_of f.question_id) os more h k
 once_append other os more h k = tt
 
 -- more is passed on, of which nothing was to be
 module _ (calls mores : Table Progress) (takers takings : Table ℕ) (old new : Accounts) where
-  pub right_append : (os more : List Owed) → AreRight mores takings new os → AreRight mores takings new more → AreRight calls takers old os
-      → ((o : Owed) → IsRight calls takers old o → IsOnce o more) → AreRight mores takings new (os ++ more)
+  pub right_append : (os more : List ForwardedMessage) → AreRight mores takings new os → AreRight mores takings new more → AreRight calls takers old os
+      → ((o : ForwardedMessage) → IsRight calls takers old o → IsOnce o more) → AreRight mores takings new (os ++ more)
   right_append [] more h k was once = k
   right_append (o ∷ os) more h k was once = (
     h.0,
@@ -182,7 +182,7 @@ module _ (calls mores : Table Progress) (takers takings : Table ℕ) (old new : 
     right_append os more h.2 k was.2 once,
   )
 
-pub any_back : (test : Owed → Bool) (os more : List Owed) → any test more ≡ true → any test (os ++ more) ≡ true
+pub any_back : (test : ForwardedMessage → Bool) (os more : List ForwardedMessage) → any test more ≡ true → any test (os ++ more) ≡ true
 any_back test [] more k = k
 any_back test (o ∷ os) more k = by (test o) (any_back test os more k)
   where
@@ -191,7 +191,7 @@ any_back test (o ∷ os) more k = by (test o) (any_back test os more k)
     by false rest = rest
 
 -- a Finish that is to be passed on is that of an answer that was given
-pub finish_there : (calls : Table Progress) (takers : Table ℕ) (vat : Accounts) (q : ℕ) (os : List Owed) → AreRight calls takers vat os → any (is_finish_of q) os ≡ true
+pub finish_there : (calls : Table Progress) (takers : Table ℕ) (vat : Accounts) (q : ℕ) (os : List ForwardedMessage) → AreRight calls takers vat os → any (is_finish_of q) os ≡ true
     → IsAt stages.Returned (vat.answers q)
 finish_there calls takers vat q [] h is = absurd (true≢false (sym is))
 finish_there calls takers vat q (o ∷ os) h is = first o h.0 is (finish_there calls takers vat q os h.2)
@@ -201,7 +201,7 @@ finish_there calls takers vat q (o ∷ os) h is = first o h.0 is (finish_there c
     by f true t at is more = subst (λ (q : ℕ). IsAt stages.Returned (vat.answers q)) (is_equal f.question_id q t) at
     by f false t at is more = more is
 
-    first : (o : Owed) → IsRight calls takers vat o → (is_finish_of q o || any (is_finish_of q) os) ≡ true
+    first : (o : ForwardedMessage) → IsRight calls takers vat o → (is_finish_of q o || any (is_finish_of q) os) ≡ true
         → (any (is_finish_of q) os ≡ true → IsAt stages.Returned (vat.answers q)) → IsAt stages.Returned (vat.answers q)
     first (owed.ToVat (messages.Finish f)) right is more = by f (f.question_id == q) refl right.2 is more
     first other right is more = more is

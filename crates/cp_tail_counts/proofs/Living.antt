@@ -41,10 +41,10 @@ use Rattle.cp_vat_pair_laws.specs.Accounts.{accounts_of}
 use Rattle.cp_vat_pair_laws.specs.Orderly.{IsOrderly}
 use Rattle.cp_vat_pair_laws.proofs.NewPairs.{new_orderly}
 use Rattle.cp_vat_pair_laws.proofs.counts.Moves.{step_open}
-use Rattle.cp_tail_calls.specs.declared.owed.Owed.{Owed}
-use Rattle.cp_tail_calls.specs.declared.owed.Owed.TheVariants as owed
-use Rattle.cp_tail_calls.specs.declared.owed.Trigger.{Trigger}
-use Rattle.cp_tail_calls.specs.declared.owed.Trigger.TheVariants as triggers
+use Rattle.cp_tail_calls.specs.declared.forwarding.ForwardedMessage.{ForwardedMessage}
+use Rattle.cp_tail_calls.specs.declared.forwarding.ForwardedMessage.TheVariants as owed
+use Rattle.cp_tail_calls.specs.declared.forwarding.Trigger.{Trigger}
+use Rattle.cp_tail_calls.specs.declared.forwarding.Trigger.TheVariants as triggers
 use Rattle.cp_tail_calls.specs.declared.progress.Progress.{Progress}
 use Rattle.cp_tail_calls.specs.declared.progress.Progress.TheVariants as progress
 use Rattle.cp_tail_calls.specs.declared.progress.Taker.{Taker}
@@ -68,7 +68,7 @@ abbrev AllOpen : List Moment → Type 0
 AllOpen history = AllByRecursion (λ moment. closes moment.effects ≡ false) history
 
 -- ---- what a message leaves to be passed on
-more_for : (t : Tails) (more : List Owed) → AreForVat t → AllByRecursion IsForVat more → AllByRecursion IsForVat (t.owed ++ more)
+more_for : (t : Tails) (more : List ForwardedMessage) → AreForVat t → AllByRecursion IsForVat more → AllByRecursion IsForVat (t.owed ++ more)
 more_for t more all new = all_both IsForVat t.owed more all new
 
 call_for : (b : Bool) (t : Tails) (c : Call) → AreForVat t → AreForVat (call_if b t c).1
@@ -211,13 +211,13 @@ fits_of : (m : Message) (by : List Effect) (s vat : State) (h : Hears s vat m by
 fits_of m by s vat h is fit i =
     subst (λ (n : ℕ). n < 2 ^ 32) (same_imports by h.mid (accounts_of vat) (quiet_of m by is h.gives) h.posts i) (fit i)
 
-next_is : (stage : ℕ → Option Stage) (t mid : Tails) (os : List Owed) (first : Owed) → next_of stage t os ≡ (Some first, mid) → AllByRecursion IsForVat os → IsForVat first
-next_is stage t mid [] first next all = none_out (ap (λ (p : Option Owed × Tails). p.0) next)
-next_is stage t mid (o ∷ os) first next all = subst IsForVat (some_out (ap (λ (p : Option Owed × Tails). p.0) next)) all.0
+next_is : (stage : ℕ → Option Stage) (t mid : Tails) (os : List ForwardedMessage) (first : ForwardedMessage) → next_of stage t os ≡ (Some first, mid) → AllByRecursion IsForVat os → IsForVat first
+next_is stage t mid [] first next all = none_out (ap (λ (p : Option ForwardedMessage × Tails). p.0) next)
+next_is stage t mid (o ∷ os) first next all = subst IsForVat (some_out (ap (λ (p : Option ForwardedMessage × Tails). p.0) next)) all.0
 
-next_for : (stage : ℕ → Option Stage) (t mid : Tails) (os : List Owed) (first : Owed) → next_of stage t os ≡ (Some first, mid) → AllByRecursion IsForVat os → AreForVat mid
-next_for stage t mid [] first next all = none_out (ap (λ (p : Option Owed × Tails). p.0) next)
-next_for stage t mid (o ∷ os) first next all = subst AreForVat (ap (λ (p : Option Owed × Tails). p.1) next) all.1
+next_for : (stage : ℕ → Option Stage) (t mid : Tails) (os : List ForwardedMessage) (first : ForwardedMessage) → next_of stage t os ≡ (Some first, mid) → AllByRecursion IsForVat os → AreForVat mid
+next_for stage t mid [] first next all = none_out (ap (λ (p : Option ForwardedMessage × Tails). p.0) next)
+next_for stage t mid (o ∷ os) first next all = subst AreForVat (ap (λ (p : Option ForwardedMessage × Tails). p.1) next) all.1
 
 -- a vat that is open was so before
 settles_open : (closed : Bool) (s new : Served) (history : List Moment) (out : List Effect) → new.vat.is_closed ≡ false

@@ -8,8 +8,8 @@ use Rattle.cp_vat_machine.specs.Receiving.{times}
 use Rattle.cp_vat_machine.proofs.Basics.{is_equal}
 use Rattle.cp_vat_pair_laws.specs.Ledger.{Traffic, results_of}
 use Rattle.cp_vat_pair_laws.specs.Accounts.{Accounts, results_in}
-use Rattle.cp_tail_calls.specs.declared.owed.Owed.{Owed}
-use Rattle.cp_tail_calls.specs.declared.owed.Owed.TheVariants as owed
+use Rattle.cp_tail_calls.specs.declared.forwarding.ForwardedMessage.{ForwardedMessage}
+use Rattle.cp_tail_calls.specs.declared.forwarding.ForwardedMessage.TheVariants as owed
 use Rattle.cp_tail_calls.specs.declared.progress.Progress.{Progress}
 use Rattle.cp_tail_calls.specs.declared.progress.Progress.TheVariants as progress
 use Rattle.cp_tail_calls.specs.Tails.{Tails}
@@ -92,7 +92,7 @@ module _ (most k : ℕ) (past later : List Traffic) (t last : Tails) (old new : 
       by q false apart = owed_off e q apart
 
   -- What is to be passed on and isn't about this number stays right, and lowers as much.
-  pub item_right : ((a : ℕ) → get t.takers a ≡ None → get last.takers a ≡ None) → (o : Owed) → (old.answers k ≡ None → ⊥)
+  pub item_right : ((a : ℕ) → get t.takers a ≡ None → get last.takers a ≡ None) → (o : ForwardedMessage) → (old.answers k ≡ None → ⊥)
       → (IsAt stages.Returned (old.answers k) → ⊥) → IsRight t.calls t.takers old o → IsRight last.calls last.takers new o
   item_right takes (owed.ToPeer m) some ungiven right = (right.0, right.1, by (k == right.0) refl right.2)
     where
@@ -118,7 +118,7 @@ module _ (most k : ℕ) (past later : List Traffic) (t last : Tails) (old new : 
       by false apart = (right.0, is.calls f.question_id apart ∙ right.1, rw (is.answers f.question_id apart) right.2)
   item_right takes (owed.ToVat m) some ungiven right = absurd right
 
-  pub item_lowers : (e : ℕ) (o : Owed) → (IsAt stages.Returned (old.answers k) → ⊥) → IsRight t.calls t.takers old o → lowers e new o ≡ lowers e old o
+  pub item_lowers : (e : ℕ) (o : ForwardedMessage) → (IsAt stages.Returned (old.answers k) → ⊥) → IsRight t.calls t.takers old o → lowers e new o ≡ lowers e old o
   item_lowers e (owed.ToVat (messages.Return r)) ungiven right = rw (is.questions r.answer_id) refl
   item_lowers e (owed.ToVat (messages.Finish f)) ungiven right = by (k == f.question_id) refl
     where

@@ -13,8 +13,8 @@ use Rattle.cp_vat_machine.proofs.Basics.{is_equal, is_itself, other_number}
 use Rattle.cp_vat_pair_laws.specs.Ledger.{Traffic, results_of, import_count}
 use Rattle.cp_vat_pair_laws.specs.Ledger as ledger
 use Rattle.cp_vat_pair_laws.specs.Accounts.{Account, Accounts, taken_in, results_in, finish_noted, answer_finished, Came}
-use Rattle.cp_tail_calls.specs.declared.owed.Owed.{Owed}
-use Rattle.cp_tail_calls.specs.declared.owed.Owed.TheVariants as owed
+use Rattle.cp_tail_calls.specs.declared.forwarding.ForwardedMessage.{ForwardedMessage}
+use Rattle.cp_tail_calls.specs.declared.forwarding.ForwardedMessage.TheVariants as owed
 use Rattle.cp_tail_calls.specs.declared.progress.Progress.{Progress}
 use Rattle.cp_tail_calls.specs.declared.progress.Progress.TheVariants as progress
 use Rattle.cp_tail_calls.specs.Receiving.{sent_elsewhere}
@@ -27,7 +27,7 @@ use Rattle.cp_tail_counts.proofs.Locally.{Locally, all_answers, all_takers, owed
 use Rattle.cp_tail_counts.proofs.Answering.{asked, stays_owed, stays_lowers, stays_takers, stays_right}
 use Rattle.cp_tail_counts.proofs.Lending.{lent_as}
 
-module _ (most : ℕ) (past : List Traffic) (t : Tails) (old : Accounts) (h : Holds most past t old) (rest : List Owed) where
+module _ (most : ℕ) (past : List Traffic) (t : Tails) (old : Accounts) (h : Holds most past t old) (rest : List ForwardedMessage) where
   -- ---- the peer is told of a call
   module _ (m : Message) (is : t.owed ≡ owed.ToPeer m ∷ rest) where
     abbrev told : Tails
@@ -37,13 +37,13 @@ module _ (most : ℕ) (past : List Traffic) (t : Tails) (old : Accounts) (h : Ho
     right = rw (is) at h.owed
 
     before : (e : ℕ) → lowers_all e old t.owed ≡ lowers_all e old rest
-    before e = ap (λ (os : List Owed). lowers_all e old os) is ∙ zero_first (lowers_all e old rest)
+    before e = ap (λ (os : List ForwardedMessage). lowers_all e old os) is ∙ zero_first (lowers_all e old rest)
       where
         zero_first : (n : ℕ) → 0 + n ≡ n
         zero_first n = omega arith
 
     finishing : (q : ℕ) → any (is_finish_of q) t.owed ≡ any (is_finish_of q) rest
-    finishing q = ap (λ (os : List Owed). any (is_finish_of q) os) is
+    finishing q = ap (λ (os : List ForwardedMessage). any (is_finish_of q) os) is
 
     tells : (k : ℕ) → (get t.calls k ≡ Some progress.Given) ⊎ (old.answers k ≡ None) → Holds most (ledger.sent (sent_elsewhere k false) ∷ past) told old
     tells k known =
@@ -108,10 +108,10 @@ module _ (most : ℕ) (past : List Traffic) (t : Tails) (old : Accounts) (h : Ho
       given_comes = (rw (given_right.0.2) at passes.gets).1
 
       given_before : (e : ℕ) → lowers_all e old t.owed ≡ lowers e old (owed.ToVat (messages.Return r)) + lowers_all e old rest
-      given_before e = ap (λ (os : List Owed). lowers_all e old os) is
+      given_before e = ap (λ (os : List ForwardedMessage). lowers_all e old os) is
 
       given_finishing : (q : ℕ) → any (is_finish_of q) t.owed ≡ any (is_finish_of q) rest
-      given_finishing q = ap (λ (os : List Owed). any (is_finish_of q) os) is
+      given_finishing q = ap (λ (os : List ForwardedMessage). any (is_finish_of q) os) is
 
       fits : (before lent imports taken after : ℕ) → after ≡ before + taken → before ≡ imports + lent → after < 2 ^ 32 → lent + taken < 2 ^ 32
       fits before lent imports taken after e f less = omega arith
@@ -180,7 +180,7 @@ module _ (most : ℕ) (past : List Traffic) (t : Tails) (old : Accounts) (h : Ho
           by (Some account) at = open_ account.stage account.kept at
 
       finished_before : (e : ℕ) → lowers_all e old t.owed ≡ times e (results_in (old.answers k)) + lowers_all e old rest
-      finished_before e = ap (λ (os : List Owed). lowers_all e old os) is
+      finished_before e = ap (λ (os : List ForwardedMessage). lowers_all e old os) is
 
       finished_local : Locally k past past t finished old new
       finished_local =
@@ -189,7 +189,7 @@ module _ (most : ℕ) (past : List Traffic) (t : Tails) (old : Accounts) (h : Ho
             results = λ q apart. refl;
             answers = others_after;
             peers = λ q apart. refl;
-            finishing = λ q apart. sym (ap (λ (os : List Owed). any (is_finish_of q) os) is ∙ off q apart);
+            finishing = λ q apart. sym (ap (λ (os : List ForwardedMessage). any (is_finish_of q) os) is ∙ off q apart);
             questions = finished_comes.questions;
             takers = λ a q apart is. is;
           }
@@ -201,7 +201,7 @@ module _ (most : ℕ) (past : List Traffic) (t : Tails) (old : Accounts) (h : Ho
       turned q true e = rw (is_equal q k e) (is_itself k)
       turned q false e = other_number q k e
 
-      item_right : (o : Owed) → is_finish_of k o ≡ false → IsRight t.calls t.takers old o → IsRight t.calls t.takers new o
+      item_right : (o : ForwardedMessage) → is_finish_of k o ≡ false → IsRight t.calls t.takers old o → IsRight t.calls t.takers new o
       item_right (owed.ToPeer m) none right = (right.0, right.1, by (k == right.0) refl right.2)
         where
           by : (b : Bool) → (k == right.0) ≡ b → (get t.calls right.0 ≡ Some progress.Given) ⊎ (old.answers right.0 ≡ None)
@@ -213,7 +213,7 @@ module _ (most : ℕ) (past : List Traffic) (t : Tails) (old : Accounts) (h : Ho
       item_right (owed.ToVat (messages.Finish g)) none right = (right.0, right.1, rw (others_after g.question_id (turned g.question_id false none)) right.2)
       item_right (owed.ToVat m) none right = absurd right
 
-      item_lowers : (e : ℕ) (o : Owed) → is_finish_of k o ≡ false → IsRight t.calls t.takers old o → lowers e new o ≡ lowers e old o
+      item_lowers : (e : ℕ) (o : ForwardedMessage) → is_finish_of k o ≡ false → IsRight t.calls t.takers old o → lowers e new o ≡ lowers e old o
       item_lowers e (owed.ToVat (messages.Return r)) none right = rw (finished_comes.questions r.answer_id) refl
       item_lowers e (owed.ToVat (messages.Finish g)) none right = rw (others_after g.question_id (turned g.question_id false none)) refl
       item_lowers e o none right = refl

@@ -10,8 +10,8 @@ use Rattle.cp_tables.specs.declared.exchange.Stage.{Stage}
 use Rattle.cp_tables.specs.declared.exchange.Stage.TheVariants as stages
 use Rattle.cp_messages.specs.declared.call.Call.{Call}
 use Rattle.cp_messages.specs.declared.descriptor.Descriptor.{Descriptor}
-use Rattle.cp_messages.specs.declared.disembargo.Context.{Context}
-use Rattle.cp_messages.specs.declared.disembargo.Context.TheVariants as contexts
+use Rattle.cp_messages.specs.declared.disembargo.DisembargoContext.{DisembargoContext}
+use Rattle.cp_messages.specs.declared.disembargo.DisembargoContext.TheVariants as contexts
 use Rattle.cp_messages.specs.declared.message.Message.TheVariants as messages
 use Rattle.cp_messages.specs.declared.resolve.Resolution.{Resolution}
 use Rattle.cp_messages.specs.declared.returned.Return.{Return}
@@ -37,7 +37,7 @@ use Rattle.cp_vat_machine.specs.Capacity.{Fresh, has_capacity}
 use Rattle.cp_vat_machine.specs.Writing.{WritesDescriptors}
 use Rattle.cp_vat_machine.specs.Receiving.{answer_of, path_of, ReceivesCaps, release_exports}
 use Rattle.cp_vat_machine.specs.Give.{ResolvesEnd, Tells, settled, value_for, last_for, Settle, SettleTied, Returns, given, gone, GiveBy, GiveAnswer, GiveOwnBy, Give, without_question}
-use Rattle.cp_vat_machine.specs.Go.{Underway, underway, finish_of, finish_after, GoOut, Go, GoTo, Leave, stays, leaves, finds_table_full, without_call}
+use Rattle.cp_vat_machine.specs.Go.{PendingCall, underway, finish_of, finish_after, GoOut, Go, GoTo, Leave, stays, leaves, finds_table_full, without_call}
 use Rattle.cp_vat_machine.specs.Calling.{Standing, plain, on_wire, came_to, reference_of, called, own_call, mark_of, marked, FirstEmbargoed, GoBack, GoByValue, GoFrom, OwnDone, call_refusals, DoCall}
 use Rattle.cp_vat_machine.specs.InUse.{is_own_question, is_question_used}
 use Rattle.cp_vat_machine.specs.Doing.{DoBootstrap, DoAnswer, DoResolve, DoFinish, answer_refusals, resolve_refusals, value_refusals, Resolves, told_if, Finishes, FinishBy}
@@ -114,7 +114,7 @@ after_quiet q stages.Open = tt
 after_quiet q stages.Returned = tt
 after_quiet q stages.Finished = (tt, tt)
 
-out_quiet : (old : State) (call : Underway) (target : Target) (origin : Origin) (done : Done) → GoOut old call target origin (Ok done) → AreQuiet done.0
+out_quiet : (old : State) (call : PendingCall) (target : Target) (origin : Origin) (done : Done) → GoOut old call target origin (Ok done) → AreQuiet done.0
 out_quiet old call target (origins.Answer a) done goes =
     let first = then_out {A = ℕ} {B = Done} (Fresh old.entries.questions) _ done goes in
     let parts = then_out {A = List Descriptor × State} {B = Done} (WritesDescriptors old call.request.caps) _ done first.2 in
@@ -123,14 +123,14 @@ out_quiet old call target (origins.Own q) done goes =
     let parts = then_out {A = List Descriptor × State} {B = Done} (WritesDescriptors old call.request.caps) _ done goes.2 in
     rw (ok_in _ _ parts.2) (tt, after_quiet q goes.0.stage)
 
-go_quiet : (old : State) (call : Underway) (route : Route) (done : Done) → Go old call route (Ok done) → AreQuiet done.0
+go_quiet : (old : State) (call : PendingCall) (route : Route) (done : Done) → Go old call route (Ok done) → AreQuiet done.0
 go_quiet old call (routes.Deliver k) done goes = rw (ok_in _ _ goes) (tt, tt)
 go_quiet old call (routes.Import i) done goes = out_quiet old call (targets.ImportedCap i) call.origin done goes
 go_quiet old call (routes.Pipe q path) done goes = out_quiet old call _ call.origin done goes
 go_quiet old call (routes.Wait gate) done goes = rw (ok_in _ _ goes) tt
 go_quiet old call (routes.Fail x) done goes = give_quiet old call.origin (outcomes.Failed x) done goes
 
-goes_quiet : (old : State) (call : Underway) (cap : Cap) (done : Done) → GoTo old call cap (Ok done) → AreQuiet done.0
+goes_quiet : (old : State) (call : PendingCall) (cap : Cap) (done : Done) → GoTo old call cap (Ok done) → AreQuiet done.0
 goes_quiet old call cap done goes = go_quiet old call goes.0 done goes.2
 
 pub leave_quiet : {old : State} {all : List Effect} {out : Result State PeerFault} → Leave old all out → AreQuiet all
@@ -140,12 +140,12 @@ leave_quiet {old = old} (leaves {mid = mid} {first = first} {rest = rest} call c
 leave_quiet (finds_table_full call cap next goes) = tt
 
 -- ---- the application's calls
-embargoed_quiet : (s : State) (call : Underway) (cap value : Cap) (done : Done) → FirstEmbargoed s call cap value (Ok done) → AreQuiet done.0
+embargoed_quiet : (s : State) (call : PendingCall) (cap value : Cap) (done : Done) → FirstEmbargoed s call cap value (Ok done) → AreQuiet done.0
 embargoed_quiet s call cap value done does =
     let parts = then_out {A = ℕ} {B = Done} (Fresh s.marks.embargoes) _ done does in
     rw (ok_in _ _ parts.2) (tt, tt)
 
-back_quiet : (s : State) (call : Underway) (cap value : Cap) (o : Option (Option ℕ)) (done : Done) → GoBack s call cap value o (Ok done) → AreQuiet done.0
+back_quiet : (s : State) (call : PendingCall) (cap value : Cap) (o : Option (Option ℕ)) (done : Done) → GoBack s call cap value o (Ok done) → AreQuiet done.0
 back_quiet s call cap value None done does = goes_quiet s call value done does
 back_quiet s call cap value (Some None) done does = embargoed_quiet s call cap value done does
 back_quiet s call cap value (Some (Some n)) done does = go_quiet s call (routes.Wait (gates.Embargo n)) done does
@@ -216,7 +216,7 @@ finish_quiet old q done does =
     (Finishes old q (get old.entries.questions q)) done does)
 
 -- ---- messages that come
-target_quiet : (s : State) (call : Underway) (target : Target) (done : Done) → GoToTarget s call target (Ok done) → AreQuiet done.0
+target_quiet : (s : State) (call : PendingCall) (target : Target) (done : Done) → GoToTarget s call target (Ok done) → AreQuiet done.0
 target_quiet s call (targets.ImportedCap e) done goes = at_export (get s.counts.exports e) goes
   where
     at_export : (o : Option (Counted Cap)) → GoToExport s call o (Ok done) → AreQuiet done.0
@@ -300,7 +300,7 @@ ends_by : (old : State) (n : ℕ) (o : Option Cap) (done : Done) → Ok done ≡
 ends_by old n None done is = ok_out is
 ends_by old n (Some cap) done is = rw (ok_in _ _ is) tt
 
-pub disembargo_quiet : (old : State) (context : Context) (target : Target) (done : Done) → OnDisembargo old context target (Ok done) → AreQuiet done.0
+pub disembargo_quiet : (old : State) (context : DisembargoContext) (target : Target) (done : Done) → OnDisembargo old context target (Ok done) → AreQuiet done.0
 disembargo_quiet old (contexts.SenderLoopback n) target done does =
     echoes_by old n target done (unless_out {A = Done} {F = PeerFault} (target_faults old target) _ done does)
 disembargo_quiet old (contexts.ReceiverLoopback n) target done does = ends_by old n (get old.marks.embargoes n) done does

@@ -21,8 +21,8 @@ use Rattle.cp_vat_pair_laws.specs.Ledger.{Traffic, named_by, params_of, results_
 use Rattle.cp_vat_pair_laws.specs.Ledger as ledger
 use Rattle.cp_vat_pair_laws.specs.Accounts.{Account, Accounts, results_in, answer_given, given_at, Sent}
 use Rattle.cp_vat_pair_laws.specs.Expected.{IsAwaited}
-use Rattle.cp_tail_calls.specs.declared.owed.Owed.{Owed}
-use Rattle.cp_tail_calls.specs.declared.owed.Owed.TheVariants as owed
+use Rattle.cp_tail_calls.specs.declared.forwarding.ForwardedMessage.{ForwardedMessage}
+use Rattle.cp_tail_calls.specs.declared.forwarding.ForwardedMessage.TheVariants as owed
 use Rattle.cp_tail_calls.specs.declared.progress.Progress.{Progress}
 use Rattle.cp_tail_calls.specs.declared.progress.Progress.TheVariants as progress
 use Rattle.cp_tail_calls.specs.declared.progress.Taker.{Taker}
@@ -248,7 +248,7 @@ module _ (most : ℕ) (past : List Traffic) (t : Tails) (old new : Accounts) (h 
   elsewhere_names q = refl
 
   module _ (taker : Taker) (is : get t.calls k ≡ Some (progress.Taken taker)) where
-    abbrev passing : Bool → List Owed
+    abbrev passing : Bool → List ForwardedMessage
     passing b = owed.ToVat (return_to taker r.returned) ∷ finish_if b k
 
     abbrev giving : Bool → Tails
@@ -347,7 +347,7 @@ module _ (most : ℕ) (past : List Traffic) (t : Tails) (old new : Accounts) (h 
     return_once true a apart = rw (apart) refl
     return_once false a apart = rw (apart) refl
 
-    once : (b : Bool) (o : Owed) → IsRight t.calls t.takers old o → IsOnce o (passing b)
+    once : (b : Bool) (o : ForwardedMessage) → IsRight t.calls t.takers old o → IsOnce o (passing b)
     once b (owed.ToPeer m) right = tt
     once b (owed.ToVat (messages.Return x)) right = return_once b x.answer_id (not_taker x.answer_id right.1)
     once b (owed.ToVat (messages.Finish f)) right = no_finish b f.question_id (not_call f.question_id right.1)

@@ -17,8 +17,8 @@ use Rattle.cp_vat_machine.proofs.Basics.{is_equal, is_itself, some_out, gone_at}
 use Rattle.cp_vat_pair_laws.specs.Ledger.{Traffic, named_by, opens, returns_to, finishes, params_of, results_of, given_up, is_finished, import_count}
 use Rattle.cp_vat_pair_laws.specs.Ledger as ledger
 use Rattle.cp_vat_pair_laws.specs.Accounts.{Account, Accounts, Sent}
-use Rattle.cp_tail_calls.specs.declared.owed.Trigger.{Trigger}
-use Rattle.cp_tail_calls.specs.declared.owed.Trigger.TheVariants as triggers
+use Rattle.cp_tail_calls.specs.declared.forwarding.Trigger.{Trigger}
+use Rattle.cp_tail_calls.specs.declared.forwarding.Trigger.TheVariants as triggers
 use Rattle.cp_tail_calls.specs.Sending.{sent, resolution_for}
 use Rattle.cp_tail_calls.specs.Tails.{Tails}
 use Rattle.cp_tail_counts.specs.Peer.{heard}

@@ -5,8 +5,8 @@ use Rattle.std.proofs.Common.{◌∙◌, inl, inr}
 use Rattle.cp_messages.specs.declared.message.Message.TheVariants as messages
 use Rattle.cp_vat_pair_laws.specs.Ledger.{Traffic}
 use Rattle.cp_vat_pair_laws.specs.Accounts.{Accounts}
-use Rattle.cp_tail_calls.specs.declared.owed.Owed.{Owed}
-use Rattle.cp_tail_calls.specs.declared.owed.Owed.TheVariants as owed
+use Rattle.cp_tail_calls.specs.declared.forwarding.ForwardedMessage.{ForwardedMessage}
+use Rattle.cp_tail_calls.specs.declared.forwarding.ForwardedMessage.TheVariants as owed
 use Rattle.cp_tail_calls.specs.declared.progress.Progress.{Progress}
 use Rattle.cp_tail_calls.specs.declared.progress.Progress.TheVariants as progress
 use Rattle.cp_tail_calls.specs.Tails.{Tails}
@@ -39,7 +39,7 @@ module _ (most : ℕ) (past : List Traffic) (t : Tails) (old new : Accounts) (h 
   still_owed e =
       sum_same (λ q. owed_for e old q (get t.calls q)) (λ q. owed_for e new q (get t.calls q)) most (λ q. owed_by e q (get t.calls q) (h.takers q))
 
-  right_by : (o : Owed) → returns_one skip o ≡ false → IsRight t.calls t.takers old o → IsRight t.calls t.takers new o
+  right_by : (o : ForwardedMessage) → returns_one skip o ≡ false → IsRight t.calls t.takers old o → IsRight t.calls t.takers new o
   right_by (owed.ToPeer m) none right = (right.0, right.1, by right.2)
     where
       by : (get t.calls right.0 ≡ Some progress.Given) ⊎ (old.answers right.0 ≡ None) → (get t.calls right.0 ≡ Some progress.Given) ⊎ (new.answers right.0 ≡ None)
@@ -49,15 +49,15 @@ module _ (most : ℕ) (past : List Traffic) (t : Tails) (old new : Accounts) (h 
   right_by (owed.ToVat (messages.Finish f)) none right = (right.0, right.1, rw (same f.question_id) right.2)
   right_by (owed.ToVat m) none right = absurd right
 
-  lowers_by : (e : ℕ) (o : Owed) → returns_one skip o ≡ false → IsRight t.calls t.takers old o → lowers e new o ≡ lowers e old o
+  lowers_by : (e : ℕ) (o : ForwardedMessage) → returns_one skip o ≡ false → IsRight t.calls t.takers old o → lowers e new o ≡ lowers e old o
   lowers_by e (owed.ToVat (messages.Return r)) none right = rw ((stays r.answer_id none right.0).1) refl
   lowers_by e (owed.ToVat (messages.Finish f)) none right = rw (same f.question_id) refl
   lowers_by e o none right = refl
 
-  pub still_right : (os : List Owed) → any (returns_one skip) os ≡ false → AreRight t.calls t.takers old os → AreRight t.calls t.takers new os
+  pub still_right : (os : List ForwardedMessage) → any (returns_one skip) os ≡ false → AreRight t.calls t.takers old os → AreRight t.calls t.takers new os
   still_right os none right = stay_right t.calls t.calls t.takers t.takers old new (returns_one skip) os none (λ o none right. right_by o none right) right
 
-  pub still_lowers : (e : ℕ) (os : List Owed) → any (returns_one skip) os ≡ false → AreRight t.calls t.takers old os
+  pub still_lowers : (e : ℕ) (os : List ForwardedMessage) → any (returns_one skip) os ≡ false → AreRight t.calls t.takers old os
       → lowers_all e new os ≡ lowers_all e old os
   still_lowers e os none right =
       lower_same t.calls t.calls t.takers t.takers old new e (returns_one skip) os none (λ o none right. lowers_by e o none right) right

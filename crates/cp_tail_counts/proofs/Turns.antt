@@ -13,10 +13,10 @@ use Rattle.cp_vat_machine.proofs.Basics.{some_out, none_out, all_front, all_back
 use Rattle.cp_vat_pair_laws.specs.Ledger.{Traffic, named_by, results_of, returns_to}
 use Rattle.cp_vat_pair_laws.specs.Accounts.{Account, Accounts, answer_given, given_at, Sent}
 use Rattle.cp_vat_pair_laws.specs.Expected.{IsKept}
-use Rattle.cp_tail_calls.specs.declared.owed.Owed.{Owed}
-use Rattle.cp_tail_calls.specs.declared.owed.Owed.TheVariants as owed
-use Rattle.cp_tail_calls.specs.declared.owed.Trigger.{Trigger}
-use Rattle.cp_tail_calls.specs.declared.owed.Trigger.TheVariants as triggers
+use Rattle.cp_tail_calls.specs.declared.forwarding.ForwardedMessage.{ForwardedMessage}
+use Rattle.cp_tail_calls.specs.declared.forwarding.ForwardedMessage.TheVariants as owed
+use Rattle.cp_tail_calls.specs.declared.forwarding.Trigger.{Trigger}
+use Rattle.cp_tail_calls.specs.declared.forwarding.Trigger.TheVariants as triggers
 use Rattle.cp_tail_calls.specs.declared.progress.Progress.{Progress}
 use Rattle.cp_tail_calls.specs.declared.progress.Progress.TheVariants as progress
 use Rattle.cp_tail_calls.specs.Receiving.{Passed, given, finish_of}
@@ -33,10 +33,10 @@ use Rattle.cp_tail_counts.proofs.Passing.{passes_told, passes_return, passes_fin
 
 -- ---- the vat is about to get a Finish of an answer that it doesn't keep
 -- what is owed stays so when the vat sends a message
-owed_more : (t : Tails) (trigger : Trigger) (m : Message) → (more : List Owed) × ((sent t trigger m).1.owed ≡ t.owed ++ more)
+owed_more : (t : Tails) (trigger : Trigger) (m : Message) → (more : List ForwardedMessage) × ((sent t trigger m).1.owed ≡ t.owed ++ more)
 owed_more t trigger (messages.Return r) = by (get t.calls r.answer_id)
   where
-    by : (how : Option Progress) → (more : List Owed) × ((send_return_of t r how).1.owed ≡ t.owed ++ more)
+    by : (how : Option Progress) → (more : List ForwardedMessage) × ((send_return_of t r how).1.owed ≡ t.owed ++ more)
     by None = ([], sym (append-nil t.owed))
     by (Some progress.Untaken) = ([], sym (append-nil t.owed))
     by (Some (progress.Taken taker)) = (given r.answer_id taker r.returned, refl)
@@ -64,30 +64,30 @@ doomed_on t last old new trigger m on doomed is sends =
     record {
       call = doomed.call;
       rest = doomed.rest ++ more.0;
-      first = sym (ap (λ (p : Passed). p.1.owed) is) ∙ more.1 ∙ ap (λ (os : List Owed). os ++ more.0) doomed.first;
+      first = sym (ap (λ (p : Passed). p.1.owed) is) ∙ more.1 ∙ ap (λ (os : List ForwardedMessage). os ++ more.0) doomed.first;
       gone = λ kept.
           doomed.gone
           (kept_before (returns_to doomed.call m) (named_by m) (old.answers doomed.call) (new.answers doomed.call) (sends.answers doomed.call) kept);
     }
 
 -- ---- what is passed on
-same_first : (x y : Owed) (t last : Tails) → ◌≡◌ {A = Option Owed × Tails} (Some x, t) (Some y, last) → (x ≡ y) × (t ≡ last)
-same_first x y t last e = (some_out (ap (λ (p : Option Owed × Tails). p.0) e), ap (λ (p : Option Owed × Tails). p.1) e)
+same_first : (x y : ForwardedMessage) (t last : Tails) → ◌≡◌ {A = Option ForwardedMessage × Tails} (Some x, t) (Some y, last) → (x ≡ y) × (t ≡ last)
+same_first x y t last e = (some_out (ap (λ (p : Option ForwardedMessage × Tails). p.0) e), ap (λ (p : Option ForwardedMessage × Tails). p.1) e)
 
-none_first : {A : Type 0} (y : Owed) (t last : Tails) → ◌≡◌ {A = Option Owed × Tails} (None, t) (Some y, last) → A
-none_first y t last e = none_out (ap (λ (p : Option Owed × Tails). p.0) e)
+none_first : {A : Type 0} (y : ForwardedMessage) (t last : Tails) → ◌≡◌ {A = Option ForwardedMessage × Tails} (None, t) (Some y, last) → A
+none_first y t last e = none_out (ap (λ (p : Option ForwardedMessage × Tails). p.0) e)
 
-same_cons : (o p : Owed) (os ps : List Owed) → o ∷ os ≡ p ∷ ps → o ≡ p
+same_cons : (o p : ForwardedMessage) (os ps : List ForwardedMessage) → o ∷ os ≡ p ∷ ps → o ≡ p
 same_cons o p os ps e = cc
 
-no_cons : {A : Type 0} (o : Owed) (os : List Owed) → [] ≡ o ∷ os → A
+no_cons : {A : Type 0} (o : ForwardedMessage) (os : List ForwardedMessage) → [] ≡ o ∷ os → A
 no_cons o os e = absurd (contra e)
   where
     contra : [] ≡ o ∷ os → ⊥
     contra e = cc
 
 module _ (most : ℕ) (past : List Traffic) (t : Tails) (old new : Accounts) (stage : ℕ → Option Stage) where
-  passes_by : (h : Holds most past t old) (o : Owed) (rest : List Owed) → t.owed ≡ o ∷ rest → Does t old past (passed stage o) new
+  passes_by : (h : Holds most past t old) (o : ForwardedMessage) (rest : List ForwardedMessage) → t.owed ≡ o ∷ rest → Does t old past (passed stage o) new
       → Holds most (with_peer (passed stage o) ++ past) (record t { owed = rest; lent = lent_with stage t.lent o }) new
   passes_by h (owed.ToPeer m) rest is same = rw (same) (passes_told most past t old h rest m is)
   passes_by h (owed.ToVat (messages.Return r)) rest is passes = passes_return most past t old h rest new r is stage passes
@@ -97,25 +97,25 @@ module _ (most : ℕ) (past : List Traffic) (t : Tails) (old new : Accounts) (st
       not_right : AreRight t.calls t.takers old (owed.ToVat m ∷ rest) → IsRight t.calls t.takers old (owed.ToVat m)
       not_right right = right.0
 
-  doomed_passes : (o : Owed) → Doomed t old → (rest : List Owed) → t.owed ≡ o ∷ rest → Does t old past (passed stage o) new → ⊥
+  doomed_passes : (o : ForwardedMessage) → Doomed t old → (rest : List ForwardedMessage) → t.owed ≡ o ∷ rest → Does t old past (passed stage o) new → ⊥
   doomed_passes o doomed rest is does =
       doomed.gone
-      (expected (subst (λ (o : Owed). Does t old past (passed stage o) new) (same_cons o (owed.ToVat (messages.Finish (finish_of doomed.call))) rest doomed.rest (sym is ∙ doomed.first)) does))
+      (expected (subst (λ (o : ForwardedMessage). Does t old past (passed stage o) new) (same_cons o (owed.ToVat (messages.Finish (finish_of doomed.call))) rest doomed.rest (sym is ∙ doomed.first)) does))
     where
       expected : Passes old stage (messages.Finish (finish_of doomed.call)) new → IsKept (old.answers doomed.call)
       expected passes = passes.gets.0
 
-  passes_any : Lives most past t old → (os : List Owed) → t.owed ≡ os → (first : Owed) (last : Tails) → next_of stage t os ≡ (Some first, last)
+  passes_any : Lives most past t old → (os : List ForwardedMessage) → t.owed ≡ os → (first : ForwardedMessage) (last : Tails) → next_of stage t os ≡ (Some first, last)
       → Does t old past (passed stage first) new → Lives most (with_peer (passed stage first) ++ past) last new
   passes_any lives [] is first last e does = none_first first t last e
   passes_any lives (o ∷ rest) is first last e does =
       let same = same_first o first (record t { owed = rest; lent = lent_with stage t.lent o }) last e in
-      let does_o = subst (λ (o : Owed). Does t old past (passed stage o) new) (sym same.0) does in
+      let does_o = subst (λ (o : ForwardedMessage). Does t old past (passed stage o) new) (sym same.0) does in
       subst
       (λ (last : Tails). Lives most (with_peer (passed stage first) ++ past) last new)
       same.1
       (subst
-      (λ (first : Owed). Lives most (with_peer (passed stage first) ++ past) (record t { owed = rest; lent = lent_with stage t.lent o }) new)
+      (λ (first : ForwardedMessage). Lives most (with_peer (passed stage first) ++ past) (record t { owed = rest; lent = lent_with stage t.lent o }) new)
       same.0
       (by lives does_o is))
     where

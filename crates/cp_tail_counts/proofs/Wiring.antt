@@ -28,10 +28,10 @@ use Rattle.cp_vat_pair_laws.specs.Accounts.{Accounts, accounts_of, asked_account
 use Rattle.cp_vat_pair_laws.specs.Expected as expected
 use Rattle.cp_vat_pair_laws.specs.VatPair.{messages_sent}
 use Rattle.cp_vat_pair_laws.specs.Posting.{Posts}
-use Rattle.cp_tail_calls.specs.declared.owed.Owed.{Owed}
-use Rattle.cp_tail_calls.specs.declared.owed.Owed.TheVariants as owed
-use Rattle.cp_tail_calls.specs.declared.owed.Trigger.{Trigger}
-use Rattle.cp_tail_calls.specs.declared.owed.Trigger.TheVariants as triggers
+use Rattle.cp_tail_calls.specs.declared.forwarding.ForwardedMessage.{ForwardedMessage}
+use Rattle.cp_tail_calls.specs.declared.forwarding.ForwardedMessage.TheVariants as owed
+use Rattle.cp_tail_calls.specs.declared.forwarding.Trigger.{Trigger}
+use Rattle.cp_tail_calls.specs.declared.forwarding.Trigger.TheVariants as triggers
 use Rattle.cp_tail_calls.specs.declared.progress.Progress.{Progress}
 use Rattle.cp_tail_calls.specs.declared.progress.Progress.TheVariants as progress
 use Rattle.cp_tail_calls.specs.Receiving.{finish_if}
@@ -72,7 +72,7 @@ knows_stages s q = by (get s.entries.questions q)
         if_sent false = refl
 
 -- ---- what is owed to the vat is Returns and Finishes
-abbrev pub IsForVat : Owed → Type 0
+abbrev pub IsForVat : ForwardedMessage → Type 0
 IsForVat (owed.ToPeer m) = Unit {0}
 IsForVat (owed.ToVat (messages.Return r)) = Unit {0}
 IsForVat (owed.ToVat (messages.Finish f)) = Unit {0}

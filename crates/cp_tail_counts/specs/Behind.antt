@@ -11,9 +11,9 @@ use Rattle.cp_vat_pair_laws.specs.Ledger.{Traffic}
 use Rattle.cp_vat_pair_laws.specs.Ledger as ledger
 use Rattle.cp_vat_pair_laws.specs.Accounts.{Accounts, Sent, Came}
 use Rattle.cp_vat_pair_laws.specs.Expected.{IsExpected, stage_of}
-use Rattle.cp_tail_calls.specs.declared.owed.Owed.TheVariants as owed
-use Rattle.cp_tail_calls.specs.declared.owed.Trigger.{Trigger}
-use Rattle.cp_tail_calls.specs.declared.owed.Trigger.TheVariants as triggers
+use Rattle.cp_tail_calls.specs.declared.forwarding.ForwardedMessage.TheVariants as owed
+use Rattle.cp_tail_calls.specs.declared.forwarding.Trigger.{Trigger}
+use Rattle.cp_tail_calls.specs.declared.forwarding.Trigger.TheVariants as triggers
 use Rattle.cp_tail_calls.specs.Runs.{Turn, came, went, passed, TakesTurn}
 use Rattle.cp_tail_calls.specs.Tails.{Tails, none}
 use Rattle.cp_tail_counts.specs.Peer.{peer_past}

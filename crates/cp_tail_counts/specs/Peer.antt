@@ -4,7 +4,7 @@ use Rattle.cp_messages.specs.declared.message.Message.{Message}
 use Rattle.cp_vat_machine.specs.Supported.{is_supported}
 use Rattle.cp_vat_pair_laws.specs.Ledger.{Traffic}
 use Rattle.cp_vat_pair_laws.specs.Ledger as ledger
-use Rattle.cp_tail_calls.specs.declared.owed.Owed.TheVariants as owed
+use Rattle.cp_tail_calls.specs.declared.forwarding.ForwardedMessage.TheVariants as owed
 use Rattle.cp_tail_calls.specs.Runs.{Turn, came, went, passed}
 
 -- A message of the peer's counts where tail calls keep it, or where the vat acts on what it gets in its place.

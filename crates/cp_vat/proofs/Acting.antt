@@ -5,11 +5,11 @@ use Rattle.cp_vat_machine.specs.Then.{Done}
 use Rattle.cp_vat_machine.specs.declared.effect.Effect.{Effect}
 use Rattle.cp_vat_machine.specs.declared.fault.PeerFault.{PeerFault}
 use Rattle.cp_vat_state.specs.Halts.{Acts}
-use Rattle.cp_vat_state.specs.declared.halt.Halt.{Halt}
-use Rattle.cp_vat_state.specs.declared.halt.Halt.TheVariants as halts
+use Rattle.cp_vat_state.specs.declared.step_fault.StepFault.{StepFault}
+use Rattle.cp_vat_state.specs.declared.step_fault.StepFault.TheVariants as halts
 
 -- what meets one rule meets another that it follows from
-pub acts_by : (R Q : Result Done PeerFault → Type 0) (r : Result (Unit {0}) Halt) (before after : List Effect) (new : State) → ((out : Result Done PeerFault) → R out → Q out)
+pub acts_by : (R Q : Result Done PeerFault → Type 0) (r : Result (Unit {0}) StepFault) (before after : List Effect) (new : State) → ((out : Result Done PeerFault) → R out → Q out)
     → Acts R r before after new → Acts Q r before after new
 acts_by R Q (Ok x) before after new on h = (h.0, h.1, on _ h.2)
 acts_by R Q (Err (halts.Fault fault)) before after new on h = on _ h

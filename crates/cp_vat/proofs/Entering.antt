@@ -6,7 +6,7 @@ use Rattle.cp_messages.specs.declared.call.Call.{Call}
 use Rattle.cp_tree.specs.Node.{Node}
 use Rattle.cp_refs.specs.declared.route.Route.{Route}
 use Rattle.cp_refs.specs.declared.route.Route.TheVariants as routes
-use Rattle.cp_vat_machine.specs.Go.{Go, Underway}
+use Rattle.cp_vat_machine.specs.Go.{Go, PendingCall}
 use Rattle.cp_messages.proofs.Nones.{none-left, none-right}
 use Rattle.cp_refs.specs.declared.cap.Cap.{Cap}
 use Rattle.cp_vat_machine.specs.State.{State}
@@ -18,8 +18,8 @@ use Rattle.cp_vat_machine.specs.declared.effect.Effect.{Effect}
 use Rattle.cp_vat_machine.specs.declared.fault.PeerFault.{PeerFault}
 use Rattle.cp_vat_machine.specs.declared.fault.PeerFault.TheVariants as faults
 use Rattle.cp_vat_state.specs.Halts.{Acts, Leaves}
-use Rattle.cp_vat_state.specs.declared.halt.Halt.{Halt}
-use Rattle.cp_vat_state.specs.declared.halt.Halt.TheVariants as halts
+use Rattle.cp_vat_state.specs.declared.step_fault.StepFault.{StepFault}
+use Rattle.cp_vat_state.specs.declared.step_fault.StepFault.TheVariants as halts
 use Rattle.cp_vat.specs.Judging.{judged}
 use Rattle.cp_vat.specs.Arriving.{TakesIn}
 use Rattle.cp_vat.specs.Lending.{ActsLending}
@@ -84,26 +84,26 @@ module _ (old mid : State) (c : Call) (caps : List Cap) (passed : Ok tt ≡ judg
       )
 
 -- a fault of its capability table
-pub call_fails : (old mid : State) (c : Call) (halt : Halt) (before : List Effect) → Ok tt ≡ judged (call_faults old c) → Leaves (ReceivesCaps old c.params.cap_table) (Err halt) mid → Acts (OnCall old c) (Err halt) before before mid
+pub call_fails : (old mid : State) (c : Call) (step_fault : StepFault) (before : List Effect) → Ok tt ≡ judged (call_faults old c) → Leaves (ReceivesCaps old c.params.cap_table) (Err step_fault) mid → Acts (OnCall old c) (Err step_fault) before before mid
 call_fails old mid c (halts.Fault fault) before passed fails =
     unless_passed (call_faults old c) (λ out. Then (ReceivesCaps old c.params.cap_table) (λ taken. GoToTarget (entered taken.1 c.question_id) (peer_call taken.1 c taken.0) c.target) out) (Err fault) passed (Err fault, fails, refl)
 call_fails old mid c halts.OutOfMemory before passed fails = tt
 
 -- so whatever content it bears
-pub takes_none : (old mid : State) (c : Call) (halt : Halt) → Ok tt ≡ judged (call_faults old c) → Leaves (ReceivesCaps old c.params.cap_table) (Err halt) mid → TakesIn old c (Err halt) mid
+pub takes_none : (old mid : State) (c : Call) (step_fault : StepFault) → Ok tt ≡ judged (call_faults old c) → Leaves (ReceivesCaps old c.params.cap_table) (Err step_fault) mid → TakesIn old c (Err step_fault) mid
 takes_none old mid c (halts.Fault fault) passed fails = λ t. call_fails old mid (with_content c t) (halts.Fault fault) [] passed fails
 takes_none old mid c halts.OutOfMemory passed fails = tt
 
-pub none_taken : (old mid : State) (c : Call) (t : Node) (halt : Halt) (before after : List Effect) → TakesIn old c (Err halt) mid → Acts (OnCall old (with_content c t)) (Err halt) before after mid
+pub none_taken : (old mid : State) (c : Call) (t : Node) (step_fault : StepFault) (before after : List Effect) → TakesIn old c (Err step_fault) mid → Acts (OnCall old (with_content c t)) (Err step_fault) before after mid
 none_taken old mid c t (halts.Fault fault) before after fails = fails t
 none_taken old mid c t halts.OutOfMemory before after fails = tt
 
-pub none_lent : (old mid : State) (c : Call) (t : Node) (halt : Halt) (before after : List Effect) → TakesIn old c (Err halt) mid → ActsLending (OnCall old (with_content c t)) (Err halt) before after mid
+pub none_lent : (old mid : State) (c : Call) (t : Node) (step_fault : StepFault) (before after : List Effect) → TakesIn old c (Err step_fault) mid → ActsLending (OnCall old (with_content c t)) (Err step_fault) before after mid
 none_lent old mid c t (halts.Fault fault) before after fails = fails t
 none_lent old mid c t halts.OutOfMemory before after fails = tt
 
 -- A call that fails goes so whatever content it carries.
-pub goes_carrying : (s : State) (u : Underway) (carried : Node) (route : Route) (result : Result (Unit {0}) Halt) (before after : List Effect) (new : State)
+pub goes_carrying : (s : State) (u : PendingCall) (carried : Node) (route : Route) (result : Result (Unit {0}) StepFault) (before after : List Effect) (new : State)
     → Carries route u.request.content carried → Acts (Go s (record u { request = record u.request { content = carried } }) route) result before after new → Acts (Go s u route) result before after new
 goes_carrying s u carried (routes.Fail x) result before after new same went = went
 goes_carrying s u carried (routes.Deliver k) result before after new same went =

@@ -31,7 +31,7 @@ use Rattle.cp_vat_machine.specs.Capacity.{cap_fits, has_capacity, has_ticket, ou
 use Rattle.cp_vat_machine.specs.InUse.{caps_of, has_question, has_promise, has_import, is_local_path, is_pipelined}
 use Rattle.cp_vat_machine.specs.Receiving.{ReceivesCaps, answer_of, release_exports}
 use Rattle.cp_vat_machine.specs.Give.{without_question}
-use Rattle.cp_vat_machine.specs.Go.{Underway}
+use Rattle.cp_vat_machine.specs.Go.{PendingCall}
 use Rattle.cp_vat_machine.specs.Calling.{called, own_call, call_refusals, not_all, reference_of}
 use Rattle.cp_vat_machine.specs.Answering.{call_faults, entered, is_answering, peer_call, target_faults, with_answer}
 use Rattle.cp_vat_machine.specs.Asking.{ReceivesReturned, is_asked}
@@ -275,7 +275,7 @@ module _ (old mid : State) (c : Call) (table : List Cap) (h : Local old) (passed
   call_target = target_by c.target (back_empty (fault_if (is_answering old c.question_id) faults.QuestionInUse) (target_faults old c.target) front_none)
 
 -- What a call carries as its content doesn't matter to whether it may go.
-pub may_go_carrying : (s : State) (u : Underway) (content : Node) → MayGo s u → MayGo s (record u { request = record u.request { content = content } })
+pub may_go_carrying : (s : State) (u : PendingCall) (content : Node) → MayGo s u → MayGo s (record u { request = record u.request { content = content } })
 may_go_carrying s u content may = record { free = may.free; given = may.given; ungiven = may.ungiven; ends = may.ends }
 
 -- where a target leads that is there

@@ -17,8 +17,8 @@ use Rattle.cp_vat_machine.specs.declared.entry.QuestionEntry.{QuestionEntry}
 use Rattle.cp_vat_machine.specs.declared.fault.PeerFault.{PeerFault}
 use Rattle.cp_vat_machine.specs.declared.fault.PeerFault.TheVariants as faults
 use Rattle.cp_vat_state.specs.Halts.{Acts, Leaves}
-use Rattle.cp_vat_state.specs.declared.halt.Halt.{Halt}
-use Rattle.cp_vat_state.specs.declared.halt.Halt.TheVariants as halts
+use Rattle.cp_vat_state.specs.declared.step_fault.StepFault.{StepFault}
+use Rattle.cp_vat_state.specs.declared.step_fault.StepFault.TheVariants as halts
 use Rattle.cp_vat.specs.Receiving.{Begins}
 use Rattle.cp_vat.proofs.Acting.{acts_by}
 
@@ -41,18 +41,18 @@ begins_open old r entry exports there asked is_open lowered out is =
         out
 
 -- a fault that was met before anything was taken in
-pub begins_at_fault : (old : State) (r : Return) (halt : Halt) (mid new : State) (before after : List Effect) → Begins old r (Err halt) mid → Acts (OnReturn old r) (Err halt) before after new
+pub begins_at_fault : (old : State) (r : Return) (step_fault : StepFault) (mid new : State) (before after : List Effect) → Begins old r (Err step_fault) mid → Acts (OnReturn old r) (Err step_fault) before after new
 begins_at_fault old r (halts.Fault fault) mid new before after fails = fails
 begins_at_fault old r halts.OutOfMemory mid new before after fails = tt
 
 module _ (old mid : State) (r : Return) (forwards : Option ℕ) (goes_on : (out : Result Done PeerFault) → Then (ReceivesReturned mid r.returned) (λ taken. Settles taken.1 r.answer_id forwards taken.0) out → OnReturn old r out) where
   -- what was returned was taken in, and it settles the question
-  pub returns_settled : (last : State) (outcome : Outcome) → ReceivesReturned mid r.returned (Ok (outcome, last)) → (result : Result (Unit {0}) Halt) (before after : List Effect) (new : State)
+  pub returns_settled : (last : State) (outcome : Outcome) → ReceivesReturned mid r.returned (Ok (outcome, last)) → (result : Result (Unit {0}) StepFault) (before after : List Effect) (new : State)
       → Acts (Settles last r.answer_id forwards outcome) result before after new → Acts (OnReturn old r) result before after new
   returns_settled last outcome taken result before after new settles =
       acts_by (Settles last r.answer_id forwards outcome) (OnReturn old r) result before after new (λ out is. goes_on out (Ok (outcome, last), taken, is)) settles
 
   -- a fault of what was returned
-  pub returns_at_fault : (halt : Halt) (last new : State) (before after : List Effect) → Leaves {A = Outcome} (ReceivesReturned mid r.returned) (Err halt) last → Acts (OnReturn old r) (Err halt) before after new
+  pub returns_at_fault : (step_fault : StepFault) (last new : State) (before after : List Effect) → Leaves {A = Outcome} (ReceivesReturned mid r.returned) (Err step_fault) last → Acts (OnReturn old r) (Err step_fault) before after new
   returns_at_fault (halts.Fault fault) last new before after fails = goes_on (Err fault) (Err fault, fails, refl)
   returns_at_fault halts.OutOfMemory last new before after fails = tt

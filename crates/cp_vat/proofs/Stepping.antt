@@ -16,8 +16,8 @@ use Rattle.cp_vat_laws.specs.Sizes.{AreWritable, FitsOpen}
 use Rattle.cp_vat_laws.proofs.writable.Stepping.{steps_write}
 use Rattle.cp_vat_laws.proofs.within.Step.{does_within, receives_within, step_keeps}
 use Rattle.cp_vat_state.specs.Halts.{Acts}
-use Rattle.cp_vat_state.specs.declared.halt.Halt.{Halt}
-use Rattle.cp_vat_state.specs.declared.halt.Halt.TheVariants as halts
+use Rattle.cp_vat_state.specs.declared.step_fault.StepFault.{StepFault}
+use Rattle.cp_vat_state.specs.declared.step_fault.StepFault.TheVariants as halts
 use Rattle.cp_vat.specs.Stepping.{answered, effects_of, Calls, Ends, CallEnds, MessageEnds, BetweenEvents, Stays}
 
 module _ {A : Type 0} (value : A → Value) (event : Event) (old : State) where
@@ -89,7 +89,7 @@ module _ (m : Message) (old : State) where
   taken mid new x after (Err fault) still done ended = rw ended.0 (ran_out (events.Receive m) still ended.1)
 
   -- a message is a step
-  pub message_steps : (mid new : State) (done : Result (Unit {0}) Halt) (none after : List Effect) (result : Result (Acted (Unit {0})) VatFault) → none ≡ [] → old.is_closed ≡ false
+  pub message_steps : (mid new : State) (done : Result (Unit {0}) StepFault) (none after : List Effect) (result : Result (Acted (Unit {0})) VatFault) → none ≡ [] → old.is_closed ≡ false
       → Acts (Receives old m) done none after mid → MessageEnds mid done after result new → Step old (events.Receive m) (answered (λ _. values.Nothing) result) (effects_of result) new
   message_steps mid new (Ok x) none after result nothing still done ended =
       taken mid new x after result still (done.0, done.1 ∙ ap (λ l. l ++ done.0) nothing, done.2) ended
@@ -98,28 +98,28 @@ module _ (m : Message) (old : State) where
   message_steps mid new (Err halts.OutOfMemory) none after result nothing still done ended = rw ended.0 (ran_out (events.Receive m) still ended.1)
 
   -- after it the vat rests, if it did before
-  message_rests : (mid new : State) (done : Result (Unit {0}) Halt) (none after : List Effect) (result : Result (Acted (Unit {0})) VatFault) → none ≡ [] → BetweenEvents old → old.is_closed ≡ false
+  message_rests : (mid new : State) (done : Result (Unit {0}) StepFault) (none after : List Effect) (result : Result (Acted (Unit {0})) VatFault) → none ≡ [] → BetweenEvents old → old.is_closed ≡ false
       → Acts (Receives old m) done none after mid → MessageEnds mid done after result new → BetweenEvents new
   message_rests mid new done none after result nothing rested still acts ended open_ =
       step_keeps old new (events.Receive m) (answered (λ _. values.Nothing) result) (effects_of result) (rested still) open_ (message_steps mid new done none after result nothing still acts ended)
 
   -- each message that it sent can be written, and what the vat keeps is within the sizes, if it was before
-  message_sends : (mid new : State) (done : Result (Unit {0}) Halt) (none after : List Effect) (result : Result (Acted (Unit {0})) VatFault) → none ≡ [] → FitsOpen old → old.is_closed ≡ false
+  message_sends : (mid new : State) (done : Result (Unit {0}) StepFault) (none after : List Effect) (result : Result (Acted (Unit {0})) VatFault) → none ≡ [] → FitsOpen old → old.is_closed ≡ false
       → Acts (Receives old m) done none after mid → MessageEnds mid done after result new → AreWritable (effects_of result) × FitsOpen new
   message_sends mid new done none after result nothing fits still acts ended =
       steps_write old new (events.Receive m) (answered (λ _. values.Nothing) result) (effects_of result) fits (message_steps mid new done none after result nothing still acts ended)
 
-  pub message_writes : (mid new : State) (done : Result (Unit {0}) Halt) (none after : List Effect) (result : Result (Acted (Unit {0})) VatFault) → none ≡ [] → Stays old → old.is_closed ≡ false
+  pub message_writes : (mid new : State) (done : Result (Unit {0}) StepFault) (none after : List Effect) (result : Result (Acted (Unit {0})) VatFault) → none ≡ [] → Stays old → old.is_closed ≡ false
       → Acts (Receives old m) done none after mid → MessageEnds mid done after result new → AreWritable (effects_of result)
   message_writes mid new done none after result nothing stayed still acts ended = (message_sends mid new done none after result nothing stayed.1 still acts ended).0
 
-  pub message_stays : (mid new : State) (done : Result (Unit {0}) Halt) (none after : List Effect) (result : Result (Acted (Unit {0})) VatFault) → none ≡ [] → Stays old → old.is_closed ≡ false
+  pub message_stays : (mid new : State) (done : Result (Unit {0}) StepFault) (none after : List Effect) (result : Result (Acted (Unit {0})) VatFault) → none ≡ [] → Stays old → old.is_closed ≡ false
       → Acts (Receives old m) done none after mid → MessageEnds mid done after result new → Stays new
   message_stays mid new done none after result nothing stayed still acts ended =
       (message_rests mid new done none after result nothing stayed.0 still acts ended, (message_sends mid new done none after result nothing stayed.1 still acts ended).1)
 
   -- after its own part it holds within the event
-  pub message_within : (mid : State) (done : Result (Unit {0}) Halt) (none after : List Effect) → BetweenEvents old → old.is_closed ≡ false → Acts (Receives old m) done none after mid
+  pub message_within : (mid : State) (done : Result (Unit {0}) StepFault) (none after : List Effect) → BetweenEvents old → old.is_closed ≡ false → Acts (Receives old m) done none after mid
       → IfOk done (λ _. Within mid None [])
   message_within mid (Ok x) none after rested still acts = receives_within old m (acts.0, mid) (rested still) acts.2
-  message_within mid (Err halt) none after rested still acts = tt
+  message_within mid (Err step_fault) none after rested still acts = tt

@@ -3,7 +3,7 @@ use Rattle.std.proofs.Common.{◌≡◌, List, [], ◌∷◌, Some, None, Result
 use Rattle.cp_tree.specs.Node.{Node, null, cap, struct, list, ptrs, structs}
 use Rattle.cp_rpc.specs.Answers.{first_of}
 use Rattle.cp_rpc.specs.Looked.{look_of}
-use Rattle.cp_rpc.specs.declared.source.Look.TheVariants as looks
+use Rattle.cp_rpc.specs.declared.source.SourceKind.TheVariants as looks
 use Rattle.cp_messages.specs.Says.{Says}
 use Rattle.cp_messages.specs.Denoted.{message_denoted}
 use Rattle.cp_messages.specs.Faults.{message_faults}
@@ -15,7 +15,7 @@ use Rattle.cp_vat_machine.specs.State.{State}
 use Rattle.cp_vat_machine.specs.Resolving.{OnUnimplemented, UnknownToPeer, told, told_by}
 use Rattle.cp_vat_machine.specs.declared.fault.PeerFault.TheVariants as faults
 use Rattle.cp_vat_state.specs.Halts.{Quiet}
-use Rattle.cp_vat_state.specs.declared.halt.Halt.{Halt}
+use Rattle.cp_vat_state.specs.declared.step_fault.StepFault.{StepFault}
 
 -- A tree that is no struct says a message that isn't a Resolve.
 pub no_struct_seen : (old : State) (t : Node) → (look_of t ≡ looks.Struct → ⊥) → OnUnimplemented old t (Err faults.PeerLacksLevelOne)
@@ -43,7 +43,7 @@ says_told : (t : Node) (m : Message) → Says t m → Some m ≡ told t
 says_told t m says = sym (ap (λ fs. told_by fs (message_denoted t)) says.sound ∙ ap Some (sym says.said))
 
 -- what the peer doesn't know of a message that a tree says, it doesn't know of the tree
-pub told_quiet : (old new : State) (t root : Node) (m : Message) (r : Result (Unit {0}) Halt) → root ≡ t → Says root m → Quiet (UnknownToPeer old (Some m)) r new → Quiet (OnUnimplemented old t) r new
+pub told_quiet : (old new : State) (t root : Node) (m : Message) (r : Result (Unit {0}) StepFault) → root ≡ t → Says root m → Quiet (UnknownToPeer old (Some m)) r new → Quiet (OnUnimplemented old t) r new
 told_quiet old new t root m r same says acts =
     subst (λ q. Quiet (OnUnimplemented old q) r new) same (subst (λ o. Quiet (UnknownToPeer old o) r new) (says_told root m says) acts)
 

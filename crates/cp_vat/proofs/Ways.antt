@@ -13,7 +13,7 @@ use Rattle.cp_refs.specs.declared.values.QuestionKind.{QuestionKind}
 use Rattle.cp_refs.specs.declared.values.QuestionKind.TheVariants as kinds
 use Rattle.cp_vat_machine.specs.State.{State, Marks}
 use Rattle.cp_vat_machine.specs.Then.{Done}
-use Rattle.cp_vat_machine.specs.Go.{GoTo, Underway}
+use Rattle.cp_vat_machine.specs.Go.{GoTo, PendingCall}
 use Rattle.cp_vat_machine.specs.Calling.{GoByValue, GoFrom, Opens, called, has_mark_capacity, mark_of, marked, own_call, with_mark}
 use Rattle.cp_vat_machine.specs.Capacity.{Fresh, free}
 use Rattle.cp_vat_machine.specs.declared.effect.Effect.{Effect}
@@ -23,19 +23,19 @@ use Rattle.cp_vat_machine.specs.declared.fault.PeerFault.TheVariants as faults
 use Rattle.cp_vat_state.specs.Halts.{Acts, Becomes, IfFault, Owns}
 use Rattle.cp_vat_state.specs.Marking.{with_marks, without_mark}
 use Rattle.cp_vat_state.specs.StateOf.{state_of}
-use Rattle.cp_vat_state.specs.declared.halt.Halt.{Halt}
-use Rattle.cp_vat_state.specs.declared.halt.Halt.TheVariants as halts
+use Rattle.cp_vat_state.specs.declared.step_fault.StepFault.{StepFault}
+use Rattle.cp_vat_state.specs.declared.step_fault.StepFault.TheVariants as halts
 use Rattle.cp_vat_state.specs.declared.parts.Core.{Core}
 use Rattle.cp_vat_state.proofs.Under.{put-gone}
 use Rattle.cp_vat_rules.specs.Going.{MayGo}
 use Rattle.cp_vat_rules.specs.Ungiven.{IsUngiven}
-use Rattle.cp_vat_rules.specs.declared.go.Underway as go
+use Rattle.cp_vat_rules.specs.declared.go.PendingCall as go
 use Rattle.cp_vat.specs.Ways.{GoMarked, seen, taken_back, value_kind}
 use Rattle.cp_vat.specs.declared.going.Standing.TheVariants as references
 use Rattle.cp_vat.proofs.Acting.{acts_by}
 
 -- a call may go whatever the marks are
-pub may_marked : (s : State) (marks : Marks) (call : Underway) → MayGo s call → MayGo (with_marks s marks) call
+pub may_marked : (s : State) (marks : Marks) (call : PendingCall) → MayGo s call → MayGo (with_marks s marks) call
 may_marked s marks call may = record { free = may.free; given = may.given; ungiven = still call.origin may.ungiven; ends = may.ends }
   where
     still : (origin : Origin) → IsUngiven s origin → IsUngiven (with_marks s marks) origin
@@ -53,26 +53,26 @@ other_goes old q request cap (caps.Pipelined r path) out import object promise w
 other_goes old q request cap (caps.Broken x) out import object promise went = went
 
 -- where an opened call on the wire goes is where the application's call goes
-pub from_wire : (old now : State) (q : ℕ) (request : Request) (call : Underway) → call ≡ own_call old q request → (cap : Cap) (r : Result (Unit {0}) Halt) (before after : List Effect) (new : State) → now ≡ called old q kinds.Wire
+pub from_wire : (old now : State) (q : ℕ) (request : Request) (call : PendingCall) → call ≡ own_call old q request → (cap : Cap) (r : Result (Unit {0}) StepFault) (before after : List Effect) (new : State) → now ≡ called old q kinds.Wire
     → Acts (GoMarked now call cap) r before after new → Acts (GoFrom old q request cap (seen references.OnWire)) r before after new
 from_wire old now q request call is_call cap r before after new is acts =
     acts_by (GoMarked now call cap) (GoFrom old q request cap (seen references.OnWire)) r before after new
     (λ out met. subst (λ u. GoMarked (called old q kinds.Wire) u cap out) is_call (subst (λ s. GoMarked s call cap out) is met))
     acts
 
-module _ (old : State) (call : Underway) (cap : Cap) where
+module _ (old : State) (call : PendingCall) (cap : Cap) where
   -- there was no room for the mark
-  pub mark_stops : (halt : Halt) (before after : List Effect) (mid new : State) → Becomes (marked old cap (mark_of old cap)) (Err halt) mid → Acts (GoMarked old call cap) (Err halt) before after new
+  pub mark_stops : (step_fault : StepFault) (before after : List Effect) (mid new : State) → Becomes (marked old cap (mark_of old cap)) (Err step_fault) mid → Acts (GoMarked old call cap) (Err step_fault) before after new
   mark_stops (halts.Fault fault) before after mid new stopped = (Err fault, sym stopped, refl)
   mark_stops halts.OutOfMemory before after mid new stopped = tt
 
   module _ (mid : State) (is : marked old cap (mark_of old cap) ≡ Ok mid) where
     -- the call went after its mark
-    pub marked_goes : (r : Result (Unit {0}) Halt) (before after : List Effect) (new : State) → Acts (GoTo mid call cap) r before after new → Acts (GoMarked old call cap) r before after new
+    pub marked_goes : (r : Result (Unit {0}) StepFault) (before after : List Effect) (new : State) → Acts (GoTo mid call cap) r before after new → Acts (GoMarked old call cap) r before after new
     marked_goes r before after new acts = acts_by (GoTo mid call cap) (GoMarked old call cap) r before after new (λ out went. (Ok mid, sym is, went)) acts
 
     -- it found no room
-    pub marked_stops : (halt : Halt) (before after before' after' : List Effect) (new last : State) → Acts (GoTo mid call cap) (Err halt) before after new → Acts (GoMarked old call cap) (Err halt) before' after' last
+    pub marked_stops : (step_fault : StepFault) (before after before' after' : List Effect) (new last : State) → Acts (GoTo mid call cap) (Err step_fault) before after new → Acts (GoMarked old call cap) (Err step_fault) before' after' last
     marked_stops (halts.Fault fault) before after before' after' new last acts = (Ok mid, sym is, acts)
     marked_stops halts.OutOfMemory before after before' after' new last acts = tt
 
@@ -108,8 +108,8 @@ still_marked s put cap (Some e) some is = sym (ap (left s) is)
 
 module _ (core went : Core) (put : Marks) (cap : Cap) (is : marked (state_of core) cap (mark_of (state_of core) cap) ≡ Ok (with_marks (state_of core) put)) where
   -- a call that found no room and whose mark was taken out again leaves the parts as they were
-  pub unmarked_as_it_was : (halt : Halt) (removed : Marks) → is_some (mark_of (state_of core) cap) ≡ false → removed ≡ without_mark went.marks cap → IfFault {A = Unit {0}} (Err halt) (◌≡◌ {A = Core} went (record core { marks = put }))
-      → IfFault {A = Unit {0}} (Err halt) (◌≡◌ {A = Core} (record went { marks = removed }) core)
+  pub unmarked_as_it_was : (step_fault : StepFault) (removed : Marks) → is_some (mark_of (state_of core) cap) ≡ false → removed ≡ without_mark went.marks cap → IfFault {A = Unit {0}} (Err step_fault) (◌≡◌ {A = Core} went (record core { marks = put }))
+      → IfFault {A = Unit {0}} (Err step_fault) (◌≡◌ {A = Core} (record went { marks = removed }) core)
   unmarked_as_it_was (halts.Fault fault) removed none gone same =
       let nothing = none_marked (mark_of (state_of core) cap) none in
       let is_put = ap (λ s. s.marks) (marked_put (state_of core) (with_marks (state_of core) put) cap (mark_of (state_of core) cap) nothing is) in
@@ -120,7 +120,7 @@ module _ (core went : Core) (put : Marks) (cap : Cap) (is : marked (state_of cor
   unmarked_as_it_was halts.OutOfMemory removed none gone same = tt
 
   -- so does one whose reference was marked before
-  pub marked_as_it_was : (halt : Halt) → is_some (mark_of (state_of core) cap) ≡ true → IfFault {A = Unit {0}} (Err halt) (◌≡◌ {A = Core} went (record core { marks = put })) → IfFault {A = Unit {0}} (Err halt) (went ≡ core)
+  pub marked_as_it_was : (step_fault : StepFault) → is_some (mark_of (state_of core) cap) ≡ true → IfFault {A = Unit {0}} (Err step_fault) (◌≡◌ {A = Core} went (record core { marks = put })) → IfFault {A = Unit {0}} (Err step_fault) (went ≡ core)
   marked_as_it_was (halts.Fault fault) some same =
       let is_put : put ≡ core.marks = ap (λ s. s.marks) (still_marked (state_of core) (with_marks (state_of core) put) cap (mark_of (state_of core) cap) some is) in
       let with_marks_of : Marks → Core = λ m. record core { marks = m } in
@@ -129,9 +129,9 @@ module _ (core went : Core) (put : Marks) (cap : Cap) (is : marked (state_of cor
 
 -- ---- a call that opens its question
 -- there was no room for it
-pub opens_full : (was now : Core) (cap : Cap) (request : Request) (value : ℕ → Value) (halt : Halt) (before after : List Effect)
-    → ((fault : PeerFault) → ◌≡◌ {A = Result (ℕ × go.Underway) Halt} (Err halt) (Err (halts.Fault fault)) → Fresh was.questions (Err fault)) → IfFault {A = ℕ × go.Underway} (Err halt) (now ≡ was)
-    → Owns {A = ℕ} (Opens (state_of was) cap request) value (state_of was) (Err halt) before after (state_of now)
+pub opens_full : (was now : Core) (cap : Cap) (request : Request) (value : ℕ → Value) (step_fault : StepFault) (before after : List Effect)
+    → ((fault : PeerFault) → ◌≡◌ {A = Result (ℕ × go.PendingCall) StepFault} (Err step_fault) (Err (halts.Fault fault)) → Fresh was.questions (Err fault)) → IfFault {A = ℕ × go.PendingCall} (Err step_fault) (now ≡ was)
+    → Owns {A = ℕ} (Opens (state_of was) cap request) value (state_of was) (Err step_fault) before after (state_of now)
 opens_full was now cap request value (halts.Fault fault) before after full same = ((Err fault, full fault refl, refl), ap state_of same)
 opens_full was now cap request value halts.OutOfMemory before after full same = tt
 

@@ -10,20 +10,20 @@ use Rattle.cp_refs.specs.declared.route.Route.{Route}
 use Rattle.cp_refs.specs.declared.route.Route.TheVariants as routes
 use Rattle.cp_vat_machine.specs.State.{State}
 use Rattle.cp_vat_machine.specs.Then.{Done, Then}
-use Rattle.cp_vat_machine.specs.Go.{Go, Underway}
+use Rattle.cp_vat_machine.specs.Go.{Go, PendingCall}
 use Rattle.cp_vat_machine.specs.Answering.{GoToTarget}
 use Rattle.cp_vat_machine.specs.Asking.{OnReturn, Settles, ReceivesReturned}
 use Rattle.cp_vat_machine.specs.declared.fault.PeerFault.{PeerFault}
 use Rattle.cp_vat_laws.specs.Within.{Within}
-use Rattle.cp_vat_state.specs.declared.halt.Halt.{Halt}
-use Rattle.cp_vat_state.specs.declared.halt.Halt.TheVariants as halts
+use Rattle.cp_vat_state.specs.declared.step_fault.StepFault.{StepFault}
+use Rattle.cp_vat_state.specs.declared.step_fault.StepFault.TheVariants as halts
 use Rattle.cp_vat.specs.Returning.{AwaitsReturn}
 use Rattle.cp_vat.specs.declared.on_return.Remaining.{Remaining}
 use Rattle.cp_vat.specs.declared.on_return.Remaining.TheVariants as rests
 
 -- Nothing is left; or the question awaits its Return, and what taking in what was returned and settling it gives is what the Return does; or a
 -- fault was met.
-abbrev pub Begins : State → Return → Result Remaining Halt → State → Type 0
+abbrev pub Begins : State → Return → Result Remaining StepFault → State → Type 0
 Begins old r (Ok rests.Nothing) new = OnReturn old r (Ok ([], new))
 Begins old r (Ok (rests.Settle forwards)) new =
     AwaitsReturn new r.answer_id forwards
@@ -36,7 +36,7 @@ abbrev pub bears : ℕ → Bool → Returned → Return
 bears id release_param_caps returned = record { answer_id = id; release_param_caps = release_param_caps; returned = returned }
 
 -- so whatever the Return of this question bears
-abbrev pub BeginsReturn : State → ℕ → Bool → Result Remaining Halt → State → Type 0
+abbrev pub BeginsReturn : State → ℕ → Bool → Result Remaining StepFault → State → Type 0
 BeginsReturn old id release_param_caps result new = (returned : Returned) → Begins old (bears id release_param_caps returned) result new
 
 -- This holds within an event, with a call in hand or with none.
@@ -44,8 +44,8 @@ abbrev pub HoldsWithin : State → Type 0
 HoldsWithin s = (hand : Option Origin) × Within s hand []
 
 -- Whatever call takes this route does what the rule says of it.
-abbrev pub LeadsBy : (Underway → Result Done PeerFault → Type 0) → State → Route → Type 0
-LeadsBy Rule s route = (call : Underway) → (out : Result Done PeerFault) → Go s call route out → Rule call out
+abbrev pub LeadsBy : (PendingCall → Result Done PeerFault → Type 0) → State → Route → Type 0
+LeadsBy Rule s route = (call : PendingCall) → (out : Result Done PeerFault) → Go s call route out → Rule call out
 
 -- it is the route of a call on this target
 abbrev pub Leads : State → Target → Route → Type 0

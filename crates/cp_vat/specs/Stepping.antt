@@ -10,8 +10,8 @@ use Rattle.cp_vat_machine.specs.declared.event.Value.{Value}
 use Rattle.cp_vat_machine.specs.declared.fault.VatFault.{VatFault}
 use Rattle.cp_vat_machine.specs.declared.fault.VatFault.TheVariants as refusals
 use Rattle.cp_vat_laws.specs.Sizes.{FitsOpen}
-use Rattle.cp_vat_state.specs.declared.halt.Halt.{Halt}
-use Rattle.cp_vat_state.specs.declared.halt.Halt.TheVariants as halts
+use Rattle.cp_vat_state.specs.declared.step_fault.StepFault.{StepFault}
+use Rattle.cp_vat_state.specs.declared.step_fault.StepFault.TheVariants as halts
 
 -- The vat rests: it holds what it keeps between events, unless it is closed.
 abbrev pub BetweenEvents : State → Type 0
@@ -51,7 +51,7 @@ module _ {A : Type 0} where
       (result ≡ Err fault) × (fault ≡ refusals.OutOfMemory → new.is_closed ≡ true) × (fault ≢ refusals.OutOfMemory → new ≡ mid)
 
 -- So after a message. One at fault is answered by an Abort, and the vat is closed.
-abbrev pub MessageEnds : State → Result (Unit {0}) Halt → List Effect → Result (Acted (Unit {0})) VatFault → State → Type 0
+abbrev pub MessageEnds : State → Result (Unit {0}) StepFault → List Effect → Result (Acted (Unit {0})) VatFault → State → Type 0
 MessageEnds mid (Ok value) before result new = Ends mid value before result new
 MessageEnds mid (Err (halts.Fault fault)) before (Ok acted) new = (acted.effects ≡ aborts fault) × (new.is_closed ≡ true)
 MessageEnds mid (Err (halts.Fault fault)) before (Err refusal) new = (refusal ≡ refusals.OutOfMemory) × (new.is_closed ≡ true)

@@ -10,17 +10,17 @@ use Rattle.cp_refs.specs.declared.values.QuestionKind.{QuestionKind}
 use Rattle.cp_refs.specs.declared.values.QuestionKind.TheVariants as kinds
 use Rattle.cp_vat_machine.specs.State.{State}
 use Rattle.cp_vat_machine.specs.Then.{Done, Then}
-use Rattle.cp_vat_machine.specs.Go.{GoTo, Underway}
+use Rattle.cp_vat_machine.specs.Go.{GoTo, PendingCall}
 use Rattle.cp_vat_machine.specs.Calling.{called, mark_of, marked, own_call}
 use Rattle.cp_vat_machine.specs.Calling as machine
 use Rattle.cp_vat_machine.specs.declared.effect.Effect.{Effect}
 use Rattle.cp_vat_machine.specs.declared.fault.PeerFault.{PeerFault}
 use Rattle.cp_vat_state.specs.Halts.{Acts}
 use Rattle.cp_vat_state.specs.StateOf.{state_of}
-use Rattle.cp_vat_state.specs.declared.halt.Halt.{Halt}
+use Rattle.cp_vat_state.specs.declared.step_fault.StepFault.{StepFault}
 use Rattle.cp_vat_state.specs.declared.parts.Core.{Core}
-use Rattle.cp_vat_rules.specs.Going.{underway_of}
-use Rattle.cp_vat_rules.specs.declared.go.Underway as rules
+use Rattle.cp_vat_rules.specs.Going.{pending_call_of}
+use Rattle.cp_vat_rules.specs.declared.go.PendingCall as rules
 use Rattle.cp_vat.specs.declared.going.Standing.{Standing}
 use Rattle.cp_vat.specs.declared.going.Standing.TheVariants as references
 
@@ -47,7 +47,7 @@ WayEnds values cap (references.CameTo value) = HasRoute values value
 WayEnds values cap other = HasRoute values cap
 
 -- a call on a reference that is open on the wire marks it, and goes
-abbrev pub GoMarked : State → Underway → Cap → Result Done PeerFault → Type 0
+abbrev pub GoMarked : State → PendingCall → Cap → Result Done PeerFault → Type 0
 GoMarked old call cap out = Then (λ mid. mid ≡ marked old cap (mark_of old cap)) (λ mid. GoTo mid call cap) out
 
 -- the state without a question that was opened last, whose ticket is the next one's again
@@ -60,7 +60,7 @@ taken_back s q =
     }
 
 -- If a question of this kind was opened last by the application, and this is its call, then what is done is what the rule says of it.
-abbrev pub GoesBy : (State → ℕ → Request → Result Done PeerFault → Type 0) → QuestionKind → Core → rules.Underway → Result (Unit {0}) Halt → List Effect → List Effect → Core → Type 0
+abbrev pub GoesBy : (State → ℕ → Request → Result Done PeerFault → Type 0) → QuestionKind → Core → rules.PendingCall → Result (Unit {0}) StepFault → List Effect → List Effect → Core → Type 0
 GoesBy Rule kind now call result before after new =
-    (old : State) (q : ℕ) (request : Request) → state_of now ≡ called old q kind → underway_of call ≡ own_call old q request
+    (old : State) (q : ℕ) (request : Request) → state_of now ≡ called old q kind → pending_call_of call ≡ own_call old q request
     → Acts (Rule old q request) result before after (state_of new)

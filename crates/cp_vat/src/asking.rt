@@ -15,7 +15,7 @@ use cp_refs::{PromiseId, QuestionKind};
 use cp_rpc::{Bootstrap, Message};
 use cp_tables::LIMIT;
 use cp_vat_machine::{Effect, Mentions, PeerFault, QuestionEntry, VatFault};
-use cp_vat_state::{Core, Halt};
+use cp_vat_state::{Core, StepFault};
 
 /// Asks for the peer's bootstrap capability.
 pub(crate) fn bootstrap(core: &mut Core, effects: &mut Vec<Effect>) -> Result<u32, VatFault>
@@ -43,7 +43,7 @@ pub(crate) fn ask(
     kind: QuestionKind,
     ticket: Option<u64>,
     is_sent: bool,
-) -> Result<u32, Halt>
+) -> Result<u32, StepFault>
     requires { Local (state_of core.old) }
     ensures fresh { Meets (Fresh core.old.questions) result }
     ensures asked { IfOk result (λ q. state_of core.new ≡ asked (state_of core.old) q kind ticket is_sent) }
@@ -51,7 +51,7 @@ pub(crate) fn ask(
     ensures unchanged { IfFault result (core.new ≡ core.old) }
 {
     if core.questions.len() == LIMIT {
-        return Err(Halt::Fault(PeerFault::TableFull));
+        return Err(StepFault::Fault(PeerFault::TableFull));
     }
     let id = core.questions.open(QuestionEntry {
         forwards: None,

@@ -13,7 +13,7 @@ use cp_rpc::{
 };
 use cp_tree::{Whole, WriteFault, fits};
 use cp_vat_machine::{Effect, PeerFault};
-use cp_vat_state::{Core, Halt};
+use cp_vat_state::{Core, StepFault};
 
 /// How deep a tree is at most that an Unimplemented holds.
 /// The Unimplemented around it adds a level, and the standard limit is 64.
@@ -29,30 +29,30 @@ pub(crate) fn echo<S: Source>(
     core: &Core,
     message: &MessageIn<S>,
     effects: &mut Vec<Effect>,
-) -> Result<(), Halt>
+) -> Result<(), StepFault>
     ensures { Acts (λ out. out ≡ echoed (state_of core.now) (viewed_message S.seen message.now)) result effects.old.items effects.new.items (state_of core.now) }
 {
     if charge_message(ECHO_COST, message).is_none() {
-        return Err(Halt::Fault(PeerFault::EchoTooLarge));
+        return Err(StepFault::Fault(PeerFault::EchoTooLarge));
     }
     send_back(core, &message.message(core.alloc)?, effects)
 }
 
 /// A message is sent back as its tree, if that can be written.
-fn send_back(core: &Core, message: &Message, effects: &mut Vec<Effect>) -> Result<(), Halt>
+fn send_back(core: &Core, message: &Message, effects: &mut Vec<Effect>) -> Result<(), StepFault>
     ensures { Acts (λ out. out ≡ echoed (state_of core.now) message.now) result effects.old.items effects.new.items (state_of core.now) }
 {
     if !message.fits() {
-        return Err(Halt::Fault(PeerFault::EchoTooLarge));
+        return Err(StepFault::Fault(PeerFault::EchoTooLarge));
     }
     let root = match tree_of(core.alloc, message) {
         Ok(root) => root,
-        Err(WriteFault::OutOfMemory) => return Err(Halt::OutOfMemory),
+        Err(WriteFault::OutOfMemory) => return Err(StepFault::OutOfMemory),
         // No list is too long, and nothing else is refused.
         Err(_) => unreachable!(),
     };
     if !fits(root.tree(), ECHO_DEPTH, ECHO_COST) {
-        return Err(Halt::Fault(PeerFault::EchoTooLarge));
+        return Err(StepFault::Fault(PeerFault::EchoTooLarge));
     }
     let tree = Whole::from_shaped(root.into_tree());
     effects.push(Effect::Send(Message::Unimplemented(tree)))?;

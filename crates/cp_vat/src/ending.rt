@@ -7,12 +7,12 @@ ghost use Rattle.cp_vat_state.specs.StateOf.{state_of};
 ghost use Rattle.cp_vat.specs.Lending.{LendingEnds};
 ghost use Rattle.cp_vat.specs.Stepping.{CallEnds, Ends, MessageEnds};
 
-use crate::lent::Lent;
+use crate::borrowed_call::BorrowedCall;
 use cp_refs::failed;
 use cp_rpc::Message;
 use cp_vat_machine::{Acted, Effect, Effects, PeerFault, Reason, VatFault};
 use cp_vat_rules::leave::leave;
-use cp_vat_state::{Core, Halt};
+use cp_vat_state::{Core, StepFault};
 use std::alloc::{AllocError, Global};
 
 /// Ends a call of the application.
@@ -38,7 +38,7 @@ pub(crate) fn end_call<V: Drop>(
 /// Ends a message. A fault of the peer's is answered by an Abort, and closes the vat.
 pub(crate) fn end_message(
     core: &mut Core,
-    done: Result<(), Halt>,
+    done: Result<(), StepFault>,
     effects: Vec<Effect>,
 ) -> Result<Acted<()>, VatFault>
     requires { IfOk done (λ _. Within (state_of core.old) None []) }
@@ -46,7 +46,7 @@ pub(crate) fn end_message(
 {
     match done {
         Ok(()) => follow(core, (), effects),
-        Err(Halt::Fault(fault)) => {
+        Err(StepFault::Fault(fault)) => {
             core.is_closed = true;
             // A fault in the message's own part sends the Abort alone.
             let mut aborted = Vec::new(core.alloc);
@@ -56,7 +56,7 @@ pub(crate) fn end_message(
                 effects: Effects::new(aborted),
             })
         }
-        Err(Halt::OutOfMemory) => {
+        Err(StepFault::OutOfMemory) => {
             core.is_closed = true;
             Err(VatFault::OutOfMemory)
         }
@@ -66,16 +66,16 @@ pub(crate) fn end_message(
 /// Ends a message that may lend a call.
 pub(crate) fn end_lending<'a>(
     core: &mut Core,
-    done: Result<Option<Lent<'a>>, Halt>,
+    done: Result<Option<BorrowedCall<'a>>, StepFault>,
     effects: Vec<Effect>,
-) -> Result<Acted<Option<Lent<'a>>>, VatFault>
+) -> Result<Acted<Option<BorrowedCall<'a>>>, VatFault>
     requires { IfOk done (λ _. Within (state_of core.old) None []) }
     ensures { LendingEnds (state_of core.old) done.entry effects.items result (state_of core.new) }
 {
     match done {
         Ok(lent) => follow(core, lent, effects),
-        Err(halt) => {
-            let acted = end_message(core, Err(halt), effects)?;
+        Err(step_fault) => {
+            let acted = end_message(core, Err(step_fault), effects)?;
             Ok(Acted {
                 value: None,
                 effects: acted.effects,
@@ -95,12 +95,12 @@ fn follow<V: Drop>(
 {
     match leave(core, &mut effects) {
         Ok(()) => {}
-        Err(Halt::Fault(fault)) => {
+        Err(StepFault::Fault(fault)) => {
             core.is_closed = true;
             // The Abort follows the effects of the calls that left before.
             abort(core.alloc, fault, &mut effects)?;
         }
-        Err(Halt::OutOfMemory) => {
+        Err(StepFault::OutOfMemory) => {
             core.is_closed = true;
             return Err(VatFault::OutOfMemory);
         }

@@ -5,16 +5,16 @@ ghost use Rattle.cp_refs.specs.Route.{HasRoute};
 ghost use Rattle.cp_vat_machine.specs.Calling.{FirstEmbargoed, GoBack, GoByValue, GoFrom, mark_of, old_target, question_reference, reference_of};
 ghost use Rattle.cp_vat_state.specs.Halts.{Acts, IfFault};
 ghost use Rattle.cp_vat_state.specs.StateOf.{state_of};
-ghost use Rattle.cp_vat_rules.specs.Going.{MayGo, underway_of};
+ghost use Rattle.cp_vat_rules.specs.Going.{MayGo, pending_call_of};
 ghost use Rattle.cp_vat.specs.Doing.{ActsOn};
 ghost use Rattle.cp_vat.specs.Ways.{GoMarked, GoesBy, WayEnds, kind_of, seen, value_kind};
 
 use cp_refs::{Cap, Gate, Path, QuestionKind, QuestionState, Route, Values};
-use cp_rpc::{Context, Disembargo, Message, Target};
+use cp_rpc::{Disembargo, DisembargoContext, Message, Target};
 use cp_vat_machine::Effect;
-use cp_vat_rules::go::{Underway, go, go_to};
+use cp_vat_rules::go::{PendingCall, go, go_to};
 use cp_vat_rules::promised::promised_answer;
-use cp_vat_state::{Core, Halt};
+use cp_vat_state::{Core, StepFault};
 use std::alloc::{AllocError, Global};
 
 /// What a capability is that the application calls.
@@ -61,12 +61,12 @@ pub(crate) fn kind_of(reference: &Standing) -> QuestionKind
 /// A call of the application's goes, by what it names. Where a table is full nothing changes.
 pub(crate) fn go_from(
     core: &mut Core,
-    call: Underway,
+    call: PendingCall,
     cap: &Cap,
     reference: Standing,
     effects: &mut Vec<Effect>,
-) -> Result<(), Halt>
-    requires may { MayGo (state_of core.old) (underway_of call) }
+) -> Result<(), StepFault>
+    requires may { MayGo (state_of core.old) (pending_call_of call) }
     requires ends { WayEnds core.old.values cap.now reference }
     ensures acts { GoesBy (λ s q r. GoFrom s q r cap.now (seen reference)) (kind_of reference) core.old call result effects.old.items effects.new.items core.new }
     ensures unchanged { IfFault result (core.new ≡ core.old) }
@@ -101,25 +101,25 @@ fn path_reference(
 /// changes.
 fn go_marked(
     core: &mut Core,
-    call: Underway,
+    call: PendingCall,
     cap: &Cap,
     effects: &mut Vec<Effect>,
-) -> Result<(), Halt>
-    requires may { MayGo (state_of core.old) (underway_of call) }
+) -> Result<(), StepFault>
+    requires may { MayGo (state_of core.old) (pending_call_of call) }
     requires ends { HasRoute core.old.values cap.now }
-    ensures acts { Acts (GoMarked (state_of core.old) (underway_of call) cap.now) result effects.old.items effects.new.items (state_of core.new) }
+    ensures acts { Acts (GoMarked (state_of core.old) (pending_call_of call) cap.now) result effects.old.items effects.new.items (state_of core.new) }
     ensures unchanged { IfFault result (core.new ≡ core.old) }
 {
     let is_marked = core.marks.mark(cap).is_some();
     core.marks.put_mark(cap)?;
     match go_to(core, call, cap, effects) {
         Ok(()) => Ok(()),
-        Err(halt) => {
+        Err(step_fault) => {
             // A mark from an earlier call stays.
             if !is_marked {
                 core.marks.remove_mark(cap);
             }
-            Err(halt)
+            Err(step_fault)
         }
     }
 }
@@ -128,12 +128,12 @@ fn go_marked(
 /// fails fail; an object and a promise are of this end. Where a table is full nothing changes.
 fn go_by_value(
     core: &mut Core,
-    call: Underway,
+    call: PendingCall,
     cap: &Cap,
     value: Cap,
     effects: &mut Vec<Effect>,
-) -> Result<(), Halt>
-    requires may { MayGo (state_of core.old) (underway_of call) }
+) -> Result<(), StepFault>
+    requires may { MayGo (state_of core.old) (pending_call_of call) }
     requires ends { HasRoute core.old.values value }
     ensures acts { GoesBy (λ s q r. GoByValue s q r cap.now value) (value_kind value) core.old call result effects.old.items effects.new.items core.new }
     ensures unchanged { IfFault result (core.new ≡ core.old) }
@@ -151,14 +151,14 @@ fn go_by_value(
 /// changes.
 fn go_back(
     core: &mut Core,
-    call: Underway,
+    call: PendingCall,
     cap: &Cap,
     value: Cap,
     effects: &mut Vec<Effect>,
-) -> Result<(), Halt>
-    requires may { MayGo (state_of core.old) (underway_of call) }
+) -> Result<(), StepFault>
+    requires may { MayGo (state_of core.old) (pending_call_of call) }
     requires ends { HasRoute core.old.values value }
-    ensures acts { ActsOn (λ s. GoBack s (underway_of call) cap.now value (mark_of s cap.now)) core.old result effects.old.items effects.new.items core.new }
+    ensures acts { ActsOn (λ s. GoBack s (pending_call_of call) cap.now value (mark_of s cap.now)) core.old result effects.old.items effects.new.items core.new }
     ensures unchanged { IfFault result (core.new ≡ core.old) }
 {
     match core.marks.mark(cap) {
@@ -173,20 +173,20 @@ fn go_back(
 /// waits for its echo. Where the table of embargoes is full nothing changes.
 fn put_embargo(
     core: &mut Core,
-    call: Underway,
+    call: PendingCall,
     cap: &Cap,
     value: Cap,
     effects: &mut Vec<Effect>,
-) -> Result<(), Halt>
-    requires may { MayGo (state_of core.old) (underway_of call) }
+) -> Result<(), StepFault>
+    requires may { MayGo (state_of core.old) (pending_call_of call) }
     requires marked { mark_of (state_of core.old) cap.now ≡ Some None }
-    ensures acts { Acts (FirstEmbargoed (state_of core.old) (underway_of call) cap.now value) result effects.old.items effects.new.items (state_of core.new) }
+    ensures acts { Acts (FirstEmbargoed (state_of core.old) (pending_call_of call) cap.now value) result effects.old.items effects.new.items (state_of core.new) }
     ensures unchanged { IfFault result (core.new ≡ core.old) }
 {
     let number = core.marks.open_embargo(cap, value)?;
     let target = old_target(core.alloc, cap)?;
     effects.push(Effect::Send(Message::Disembargo(Disembargo {
-        context: Context::SenderLoopback(number),
+        context: DisembargoContext::SenderLoopback(number),
         target,
     })))?;
     // It waits at its embargo, and not at the import that it named, which may be released meanwhile.

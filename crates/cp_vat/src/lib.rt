@@ -5,13 +5,13 @@
 
 mod answering;
 mod asking;
+mod borrowed_call;
 mod calling;
 mod checks;
 mod echo;
 mod ending;
 mod giving_up;
 mod going;
-mod lent;
 mod on_bootstrap;
 mod on_call;
 mod on_disembargo;
@@ -26,7 +26,7 @@ mod sizes;
 mod supported;
 mod vat;
 
-pub use lent::Lent;
+pub use borrowed_call::BorrowedCall;
 pub use running::run;
 pub use supported::is_supported_call;
 pub use vat::Vat;

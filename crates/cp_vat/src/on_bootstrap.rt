@@ -11,18 +11,22 @@ use cp_tables::LIMIT;
 use cp_tree::{Tree, Whole};
 use cp_vat_machine::{AnswerEntry, Effect, Mentions, PeerFault, TiedPromises};
 use cp_vat_rules::give::give_answer;
-use cp_vat_state::{Core, Halt};
+use cp_vat_state::{Core, StepFault};
 use std::alloc::{AllocError, Global};
 
 /// A Bootstrap is answered at once.
-pub(crate) fn on_bootstrap(core: &mut Core, id: u32, effects: &mut Vec<Effect>) -> Result<(), Halt>
+pub(crate) fn on_bootstrap(
+    core: &mut Core,
+    id: u32,
+    effects: &mut Vec<Effect>,
+) -> Result<(), StepFault>
     ensures { Acts (OnBootstrap (state_of core.old) id) result effects.old.items effects.new.items (state_of core.new) }
 {
     if core.answers.get(id).is_some() {
-        return Err(Halt::Fault(PeerFault::QuestionInUse));
+        return Err(StepFault::Fault(PeerFault::QuestionInUse));
     }
     if core.answers.len() == LIMIT {
-        return Err(Halt::Fault(PeerFault::TableFull));
+        return Err(StepFault::Fault(PeerFault::TableFull));
     }
     open_answer(core, id, None)?;
     let outcome = bootstrap_outcome(core.alloc, core.bootstrap)?;
@@ -30,7 +34,7 @@ pub(crate) fn on_bootstrap(core: &mut Core, id: u32, effects: &mut Vec<Effect>) 
 }
 
 /// Keeps an answer from now on, of a call with this ticket or of a Bootstrap.
-pub(crate) fn open_answer(core: &mut Core, id: u32, ticket: Option<u64>) -> Result<(), Halt>
+pub(crate) fn open_answer(core: &mut Core, id: u32, ticket: Option<u64>) -> Result<(), StepFault>
     requires free { map.get core.old.answers id ≡ None }
     requires few { map.len core.old.answers ≢ LIMIT }
     ensures opened { OnOk result (state_of core.new ≡ with_answer (state_of core.old) id ticket) }

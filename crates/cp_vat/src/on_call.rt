@@ -17,18 +17,18 @@ ghost use Rattle.cp_vat.specs.Arriving.{TakesIn, bearing};
 ghost use Rattle.cp_vat.specs.Lending.{ActsLending, deliveries};
 ghost use Rattle.cp_vat.specs.Receiving.{Carries, HoldsWithin, Leads, LeadsBy, with_content};
 
+use crate::borrowed_call::BorrowedCall;
 use crate::checks::check_call;
-use crate::lent::Lent;
 use crate::on_bootstrap::open_answer;
 use cp_reading::View;
 use cp_refs::{Caps, Gate, Origin, Path, Request, Route};
 use cp_rpc::{Call, CallView, Payload, Source, Target};
 use cp_tree::Whole;
 use cp_vat_machine::Effect;
-use cp_vat_rules::go::{Underway, go};
+use cp_vat_rules::go::{PendingCall, go};
 use cp_vat_rules::promised::path_of;
 use cp_vat_rules::receive::{answer_of, receive_caps};
-use cp_vat_state::{Core, Halt};
+use cp_vat_state::{Core, StepFault};
 use std::alloc::{AllocError, Global};
 
 /// Where a Call goes that was taken in, and with what but its content.
@@ -46,7 +46,7 @@ pub(crate) fn on_call<S: Source>(
     call: Call,
     content: &S,
     effects: &mut Vec<Effect>,
-) -> Result<(), Halt>
+) -> Result<(), StepFault>
     requires supported { is_supported (messages.Call call) ≡ true }
     requires local { Local (state_of core.old) }
     ensures { Acts (OnCall (state_of core.old) (with_content call (S.seen content.now))) result effects.old.items effects.new.items (state_of core.new) }
@@ -61,7 +61,7 @@ pub(crate) fn on_call_lending<'a>(
     call: Call,
     content: View<'a>,
     effects: &mut Vec<Effect>,
-) -> Result<Option<Lent<'a>>, Halt>
+) -> Result<Option<BorrowedCall<'a>>, StepFault>
     requires supported { is_supported (messages.Call call) ≡ true }
     requires local { Local (state_of core.old) }
     ensures { ActsLending (OnCall (state_of core.old) (with_content call content.entry)) result effects.old.items effects.new.items (state_of core.new) }
@@ -95,13 +95,13 @@ pub(crate) fn without_content<S: Source>(
 }
 
 /// A Call's capability table is taken in, it opens an answer and has the next ticket, and takes its target's route.
-fn arrive(core: &mut Core, call: &Call) -> Result<Arrival, Halt>
+fn arrive(core: &mut Core, call: &Call) -> Result<Arrival, StepFault>
     requires supported { is_supported (messages.Call call.now) ≡ true }
     requires local { Local (state_of core.old) }
     ensures { TakesIn (state_of core.old) call.now result (state_of core.new) }
 {
     if let Err(fault) = check_call(core, call) {
-        return Err(Halt::Fault(fault));
+        return Err(StepFault::Fault(fault));
     }
     let caps = receive_caps(core, call.params.cap_table.descriptors())?;
     // The answer opens only now, so a target or a table that names the call's own number is P3.
@@ -121,12 +121,12 @@ fn go_on<S: Source>(
     arrival: Arrival,
     content: &S,
     effects: &mut Vec<Effect>,
-) -> Result<(), Halt>
+) -> Result<(), StepFault>
     requires { MayGo (state_of core.old) (bearing call.now arrival (S.seen content.now)) }
     ensures { Acts (Go (state_of core.old) (bearing call.now arrival (S.seen content.now)) arrival.route) result effects.old.items effects.new.items (state_of core.new) }
 {
     let content = content_for(core.alloc, &arrival.route, content)?;
-    let underway = Underway {
+    let underway = PendingCall {
         ticket: arrival.ticket,
         origin: Origin::Answer(call.question_id),
         request: Request {
@@ -146,13 +146,13 @@ fn lend<'a>(
     arrival: Arrival,
     object: u32,
     content: View<'a>,
-) -> Lent<'a>
+) -> BorrowedCall<'a>
     ensures { Go (state_of core.old) (bearing call.now arrival content.entry) (Deliver object) (Ok (deliveries (Some result), state_of core.new)) }
 {
     if let Some(kept) = core.answers.kept_mut(call.question_id) {
         kept.is_delivered = true;
     }
-    Lent {
+    BorrowedCall {
         object,
         origin: Origin::Answer(call.question_id),
         ticket: arrival.ticket,
@@ -174,7 +174,7 @@ fn content_for<S: Source>(alloc: Global, route: &Route, content: &S) -> Result<W
 }
 
 /// Opens an answer for a call, and gives it the next ticket.
-fn enter(core: &mut Core, id: u32) -> Result<u64, Halt>
+fn enter(core: &mut Core, id: u32) -> Result<u64, StepFault>
     requires free { map.get core.old.answers id ≡ None }
     requires few { map.len core.old.answers ≢ 65536 }
     requires ticket { core.old.gates.next_ticket < 2 ^ 64 - 1 }

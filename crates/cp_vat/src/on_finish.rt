@@ -10,15 +10,15 @@ use cp_tables::Stage;
 use cp_vat_machine::PeerFault;
 use cp_vat_rules::entry::remove_answer;
 use cp_vat_rules::exports::release_exports;
-use cp_vat_state::{Core, Halt};
+use cp_vat_state::{Core, StepFault};
 
 /// A Finish of an answer that was given takes it out, and lowers the exports that its results named if
 /// the peer asks for it. An answer that isn't given stays until it is.
-pub(crate) fn on_finish(core: &mut Core, finish: Finish) -> Result<(), Halt>
+pub(crate) fn on_finish(core: &mut Core, finish: Finish) -> Result<(), StepFault>
     ensures { Quiet (OnFinish (state_of core.old) finish) result (state_of core.new) }
 {
     let Some(answer) = core.answers.get(finish.question_id) else {
-        return Err(Halt::Fault(PeerFault::UnknownAnswer));
+        return Err(StepFault::Fault(PeerFault::UnknownAnswer));
     };
     match answer.stage {
         Stage::Open => {
@@ -30,21 +30,21 @@ pub(crate) fn on_finish(core: &mut Core, finish: Finish) -> Result<(), Halt>
             if finish.release_result_caps
                 && let Err(fault) = release_exports(&mut core.exports, answer.kept.mentions.ids())
             {
-                return Err(Halt::Fault(fault));
+                return Err(StepFault::Fault(fault));
             }
             remove_answer(core, finish.question_id);
             Ok(())
         }
-        Stage::Finished => Err(Halt::Fault(PeerFault::UnknownAnswer)),
+        Stage::Finished => Err(StepFault::Fault(PeerFault::UnknownAnswer)),
     }
 }
 
 /// A Release lowers an export by its count.
-pub(crate) fn on_release(core: &mut Core, release: Release) -> Result<(), Halt>
+pub(crate) fn on_release(core: &mut Core, release: Release) -> Result<(), StepFault>
     ensures { Quiet (OnRelease (state_of core.old) release) result (state_of core.new) }
 {
     if let Err(fault) = core.exports.release(release.id, release.reference_count) {
-        return Err(Halt::Fault(fault));
+        return Err(StepFault::Fault(fault));
     }
     Ok(())
 }

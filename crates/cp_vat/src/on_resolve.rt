@@ -12,7 +12,7 @@ use cp_refs::Cap;
 use cp_rpc::{DescriptorView, Message, Release, ResolutionView, ResolveView, Source};
 use cp_vat_machine::{Effect, ImportKind, PeerFault};
 use cp_vat_rules::receive::receive_cap;
-use cp_vat_state::{Core, Halt};
+use cp_vat_state::{Core, StepFault};
 
 /// A Resolve says what an import came to. What that of an import names which isn't held any more is
 /// given back.
@@ -20,7 +20,7 @@ pub(crate) fn on_resolve<S: Source>(
     core: &mut Core,
     message: &ResolveView<S>,
     effects: &mut Vec<Effect>,
-) -> Result<(), Halt>
+) -> Result<(), StepFault>
     requires { is_supported_resolution (viewed_resolution S.seen message.now.resolution) ≡ true }
     ensures { Acts (OnResolve (state_of core.old) (viewed_resolve S.seen message.now)) result effects.old.items effects.new.items (state_of core.new) }
 {
@@ -33,7 +33,7 @@ pub(crate) fn on_resolve<S: Source>(
         return Ok(());
     };
     if !is_open_promise(core, id, import.kept) {
-        return Err(Halt::Fault(PeerFault::NotAnOpenPromise));
+        return Err(StepFault::Fault(PeerFault::NotAnOpenPromise));
     }
     let value = receive_resolution(core, &message.resolution)?;
     core.values.put_import(id, Some(value))?;
@@ -75,7 +75,7 @@ fn is_open_promise(core: &Core, id: u32, kind: ImportKind) -> bool
 fn receive_resolution<S: Source>(
     core: &mut Core,
     resolution: &ResolutionView<S>,
-) -> Result<Cap, Halt>
+) -> Result<Cap, StepFault>
     requires { is_supported_resolution (viewed_resolution S.seen resolution.now) ≡ true }
     ensures { Leaves (TakeResolution (state_of core.old) (viewed_resolution S.seen resolution.now)) result (state_of core.new) }
 {

@@ -21,7 +21,7 @@ use cp_vat_rules::give::give_answer;
 use cp_vat_rules::give_own::give_own;
 use cp_vat_rules::go::finish_effect;
 use cp_vat_rules::receive::receive_caps;
-use cp_vat_state::{Core, Exported, Halt};
+use cp_vat_state::{Core, Exported, StepFault};
 
 /// What is left to do of a Return.
 enum Remaining {
@@ -38,7 +38,7 @@ pub(crate) fn on_return<S: Source>(
     release_param_caps: bool,
     returned: &ReturnedView<S>,
     effects: &mut Vec<Effect>,
-) -> Result<(), Halt>
+) -> Result<(), StepFault>
     requires supported { is_supported_returned (viewed_returned S.seen returned.now) ≡ true }
     requires local { Local (state_of core.old) }
     ensures { Acts (OnReturn (state_of core.old) (bears id release_param_caps (viewed_returned S.seen returned.now))) result effects.old.items effects.new.items (state_of core.new) }
@@ -53,7 +53,10 @@ pub(crate) fn on_return<S: Source>(
 }
 
 /// What was returned is taken in as an outcome. A content or an exception is made once nothing is at fault.
-fn receive_returned<S: Source>(core: &mut Core, returned: &ReturnedView<S>) -> Result<Outcome, Halt>
+fn receive_returned<S: Source>(
+    core: &mut Core,
+    returned: &ReturnedView<S>,
+) -> Result<Outcome, StepFault>
     requires { is_supported_returned (viewed_returned S.seen returned.now) ≡ true }
     ensures { Leaves (ReceivesReturned (state_of core.old) (viewed_returned S.seen returned.now)) result (state_of core.new) }
 {
@@ -75,21 +78,21 @@ fn receive_returned<S: Source>(core: &mut Core, returned: &ReturnedView<S>) -> R
 
 /// Lowers the exports that the params named, if the peer asks for it, and takes a question out that the
 /// application finished.
-fn begin(core: &mut Core, id: u32, release_param_caps: bool) -> Result<Remaining, Halt>
+fn begin(core: &mut Core, id: u32, release_param_caps: bool) -> Result<Remaining, StepFault>
     requires { Local (state_of core.old) }
     ensures { BeginsReturn (state_of core.old) id release_param_caps result (state_of core.new) }
 {
     let Some(question) = core.questions.get(id) else {
-        return Err(Halt::Fault(PeerFault::UnknownQuestion));
+        return Err(StepFault::Fault(PeerFault::UnknownQuestion));
     };
     let stage = question.stage;
     let forwards = question.kept.forwards;
     if !is_asked(question.kept.is_sent, stage) {
-        return Err(Halt::Fault(PeerFault::UnknownQuestion));
+        return Err(StepFault::Fault(PeerFault::UnknownQuestion));
     }
     let named = question.kept.mentions.ids();
     if let Err(fault) = lower_if(release_param_caps, &mut core.exports, named) {
-        return Err(Halt::Fault(fault));
+        return Err(StepFault::Fault(fault));
     }
     match stage {
         Stage::Open => Ok(Remaining::Settle { forwards }),
@@ -129,7 +132,7 @@ fn settle(
     forwards: Option<u32>,
     outcome: Outcome,
     effects: &mut Vec<Effect>,
-) -> Result<(), Halt>
+) -> Result<(), StepFault>
     requires { MaySettle (state_of core.old) id forwards outcome }
     ensures { Acts (Settles (state_of core.old) id forwards outcome) result effects.old.items effects.new.items (state_of core.new) }
 {

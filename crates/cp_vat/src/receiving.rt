@@ -10,8 +10,8 @@ ghost use Rattle.cp_vat_state.specs.Halts.{Acts};
 ghost use Rattle.cp_vat_state.specs.StateOf.{state_of};
 ghost use Rattle.cp_vat.specs.Lending.{ActsLending};
 
+use crate::borrowed_call::BorrowedCall;
 use crate::echo::echo;
-use crate::lent::Lent;
 use crate::on_bootstrap::on_bootstrap;
 use crate::on_call::{on_call, on_call_lending, without_content};
 use crate::on_disembargo::on_disembargo;
@@ -23,7 +23,7 @@ use crate::sizes::message_fits;
 use crate::supported::is_supported;
 use cp_rpc::{Exception, Message, MessageIn, MessageView, Owned, Source, message_in, tree_of};
 use cp_vat_machine::{Effect, PeerFault, Reason};
-use cp_vat_state::{Core, Halt};
+use cp_vat_state::{Core, StepFault};
 
 /// A message that isn't supported is sent back. Of another one the sizes are looked at, and then it is
 /// acted on.
@@ -31,7 +31,7 @@ pub(crate) fn receive<S: Source>(
     core: &mut Core,
     message: &MessageIn<S>,
     effects: &mut Vec<Effect>,
-) -> Result<(), Halt>
+) -> Result<(), StepFault>
     requires { Local (state_of core.old) }
     ensures { Acts (Receives (state_of core.old) (viewed_message S.seen message.now)) result effects.old.items effects.new.items (state_of core.new) }
 {
@@ -40,7 +40,7 @@ pub(crate) fn receive<S: Source>(
         return echo(core, message, effects);
     }
     if !message_fits(message) {
-        return Err(Halt::Fault(PeerFault::PayloadTooLarge));
+        return Err(StepFault::Fault(PeerFault::PayloadTooLarge));
     }
     act_on(core, message, effects)
 }
@@ -50,13 +50,13 @@ pub(crate) fn receive_owned(
     core: &mut Core,
     message: &Message,
     effects: &mut Vec<Effect>,
-) -> Result<(), Halt>
+) -> Result<(), StepFault>
     requires { Local (state_of core.old) }
     ensures { Acts (Receives (state_of core.old) message.now) result effects.old.items effects.new.items (state_of core.new) }
 {
     let Ok(root) = tree_of(core.alloc, message) else {
         // Also where a list is too long for any tree, which no peer can send.
-        return Err(Halt::OutOfMemory);
+        return Err(StepFault::OutOfMemory);
     };
     match message_in(&Owned::root(&root)) {
         Ok(message) => receive(core, &message, effects),
@@ -70,7 +70,7 @@ pub(crate) fn receive_lending<'a>(
     core: &mut Core,
     message: &MessageView<'a>,
     effects: &mut Vec<Effect>,
-) -> Result<Option<Lent<'a>>, Halt>
+) -> Result<Option<BorrowedCall<'a>>, StepFault>
     requires { Local (state_of core.old) }
     ensures { ActsLending (Receives (state_of core.old) (viewed message.now)) result effects.old.items effects.new.items (state_of core.new) }
 {
@@ -81,7 +81,7 @@ pub(crate) fn receive_lending<'a>(
     if !is_supported(message) || !message_fits(message) {
         return receive_whole(core, message, effects);
     }
-    let content = call.params.content.again();
+    let content = call.params.content.reborrow();
     on_call_lending(core, without_content(core.alloc, call)?, content, effects)
 }
 
@@ -90,7 +90,7 @@ fn receive_whole<'a>(
     core: &mut Core,
     message: &MessageView<'a>,
     effects: &mut Vec<Effect>,
-) -> Result<Option<Lent<'a>>, Halt>
+) -> Result<Option<BorrowedCall<'a>>, StepFault>
     requires { Local (state_of core.old) }
     ensures { ActsLending (Receives (state_of core.old) (viewed message.now)) result effects.old.items effects.new.items (state_of core.new) }
 {
@@ -104,7 +104,7 @@ fn act_on<S: Source>(
     core: &mut Core,
     message: &MessageIn<S>,
     effects: &mut Vec<Effect>,
-) -> Result<(), Halt>
+) -> Result<(), StepFault>
     requires supported { is_supported (viewed_message S.seen message.now) ≡ true }
     requires local { Local (state_of core.old) }
     ensures { Acts (On (state_of core.old) (viewed_message S.seen message.now)) result effects.old.items effects.new.items (state_of core.new) }
@@ -135,7 +135,11 @@ fn act_on<S: Source>(
 }
 
 /// An Abort closes the vat.
-fn on_abort(core: &mut Core, exception: Exception, effects: &mut Vec<Effect>) -> Result<(), Halt>
+fn on_abort(
+    core: &mut Core,
+    exception: Exception,
+    effects: &mut Vec<Effect>,
+) -> Result<(), StepFault>
     ensures { Acts (OnAbort (state_of core.old) exception) result effects.old.items effects.new.items (state_of core.new) }
 {
     core.is_closed = true;

@@ -6,8 +6,8 @@ ghost use Rattle.cp_rpc.specs.Viewed.{viewed_message, viewed_call, viewed_descri
 ghost use Rattle.cp_vat_machine.specs.Supported.{is_supported, is_supported_context, is_supported_descriptor, is_supported_resolution, is_supported_returned, is_supported_target, is_supported_to_caller, is_supported_transform};
 
 use cp_rpc::{
-    CallView, CapTableView, Context, DescriptorView, MessageIn, Op, ResolutionView, ReturnedView,
-    SendResultsToView, Source, TargetView, TransformView,
+    CallView, CapTableView, DescriptorView, DisembargoContext, MessageIn, Op, ResolutionView,
+    ReturnedView, SendResultsToView, Source, TargetView, TransformView,
 };
 
 /// Whether a message has no member that is unknown (the type of an exception aside), of three-party
@@ -98,11 +98,11 @@ fn is_supported_resolution<S: Source>(resolution: &ResolutionView<S>) -> bool
     }
 }
 
-fn is_loopback(context: &Context) -> bool
+fn is_loopback(context: &DisembargoContext) -> bool
     ensures { result ≡ is_supported_context context.now }
 {
     matches!(
         context,
-        Context::SenderLoopback(_) | Context::ReceiverLoopback(_)
+        DisembargoContext::SenderLoopback(_) | DisembargoContext::ReceiverLoopback(_)
     )
 }

@@ -14,8 +14,8 @@ ghost use Rattle.cp_vat.specs.Kept.{contents_of, entries_of};
 ghost use Rattle.cp_vat.specs.Lending.{effects_lending};
 ghost use Rattle.cp_vat.specs.Stepping.{answered, effects_of};
 
+use crate::borrowed_call::BorrowedCall;
 use crate::ending::{end_call, end_lending, end_message};
-use crate::lent::Lent;
 use crate::{answering, asking, calling, giving_up, receiving};
 use cp_refs::{Cap, Origin, Outcome, PromiseId, Request};
 use cp_rpc::{Message, MessageView};
@@ -200,7 +200,7 @@ impl Vat {
     pub fn receive_lending<'a>(
         &mut self,
         message: MessageView<'a>,
-    ) -> Result<Acted<Option<Lent<'a>>>, VatFault>
+    ) -> Result<Acted<Option<BorrowedCall<'a>>>, VatFault>
         ensures step { Step self.old (events.Receive (viewed message.entry)) (answered (λ _. values.Nothing) result) (effects_lending result) self.new }
         ensures writable { AreWritable (effects_of result) }
     {

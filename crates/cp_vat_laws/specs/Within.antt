@@ -19,7 +19,7 @@ use Rattle.cp_refs.specs.declared.outcome.Outcome.{Outcome}
 use Rattle.cp_refs.specs.declared.route.Gate.{Gate}
 use Rattle.cp_refs.specs.declared.values.QuestionState.{QuestionState}
 use Rattle.cp_vat_machine.specs.State.{State, gave}
-use Rattle.cp_vat_machine.specs.Go.{Underway}
+use Rattle.cp_vat_machine.specs.Go.{PendingCall}
 use Rattle.cp_vat_machine.specs.InUse.{caps_of, is_pipelined, is_pipelined_of, is_at_question, is_unsettled, is_local_path}
 use Rattle.cp_vat_machine.specs.Local.{is_open_stage, is_origin, waiting_of, forwarding_of, one_if, IsTicketOf, ForwardsRightly, tied_to, tied_in, HasNoTied, IsExportable, AreOne, IsThere, AnswerIs, QuestionIs, is_wire, IsSentIf, IsOpenIf, IsUngivenAt, IsImportMark, IsPathMark, AreMarkedOnce, HasWaiting}
 use Rattle.cp_vat_machine.specs.declared.entry.AnswerEntry.{AnswerEntry}
@@ -139,7 +139,7 @@ NamesNoneFinished s table =
     (q : ℕ) (entry : Exchange QuestionEntry) → get s.entries.questions q ≡ Some entry → entry.stage ≡ stages.Finished → list_any (is_pipelined_of q) table ≡ false
 
 -- What holds of a call in hand: it has the ticket of its origin, which is given and isn't that of a waiting call, and its capabilities may be sent.
-pub record IsInHand (s : State) (call : Underway) : Type 0 where
+pub record IsInHand (s : State) (call : PendingCall) : Type 0 where
   pub whose : IsTicketOf s call.origin call.ticket
   pub given : call.ticket < s.next_ticket
   pub free : get s.waiting.calls call.ticket ≡ None

@@ -24,7 +24,7 @@ use Rattle.cp_vat_machine.specs.Then.{Done, Then, fault_if, Unless}
 use Rattle.cp_vat_machine.specs.Capacity.{has_capacity, has_ticket}
 use Rattle.cp_vat_machine.specs.Receiving.{answer_of, path_of, ReceivesCaps, release_exports}
 use Rattle.cp_vat_machine.specs.Give.{GiveAnswer}
-use Rattle.cp_vat_machine.specs.Go.{Underway, Go, GoTo}
+use Rattle.cp_vat_machine.specs.Go.{PendingCall, Go, GoTo}
 use Rattle.cp_vat_machine.specs.Texts.{no_bootstrap}
 use Rattle.cp_vat_machine.specs.declared.entry.AnswerEntry.{AnswerEntry}
 use Rattle.cp_vat_machine.specs.declared.fault.PeerFault.{PeerFault}
@@ -65,24 +65,24 @@ target_faults s (targets.PromisedAnswer answer) = fault_if (is_none (answer_of s
 target_faults s (targets.Unknown n) = []
 
 -- a call on an export takes the route of what was exported
-abbrev pub GoToExport : State → Underway → Option (Counted Cap) → Result Done PeerFault → Type 0
+abbrev pub GoToExport : State → PendingCall → Option (Counted Cap) → Result Done PeerFault → Type 0
 GoToExport old call None out = ⊥
 GoToExport old call (Some entry) out = GoTo old call entry.kept out
 
 -- a call on an answer waits until it is given, and takes the route of what it gave at the path
-abbrev pub GoToAnswer : State → Underway → ℕ → List ℕ → Option (Option Outcome) → Result Done PeerFault → Type 0
+abbrev pub GoToAnswer : State → PendingCall → ℕ → List ℕ → Option (Option Outcome) → Result Done PeerFault → Type 0
 GoToAnswer old call a path None out = ⊥
 GoToAnswer old call a path (Some None) out = Go old call (routes.Wait (gates.Answer a path)) out
 GoToAnswer old call a path (Some (Some outcome)) out = GoTo old call (cap_at outcome path) out
 
-abbrev pub GoToTarget : State → Underway → Target → Result Done PeerFault → Type 0
+abbrev pub GoToTarget : State → PendingCall → Target → Result Done PeerFault → Type 0
 GoToTarget old call (targets.ImportedCap e) out = GoToExport old call (get old.counts.exports e) out
 GoToTarget old call (targets.PromisedAnswer answer) out =
     GoToAnswer old call answer.question_id (path_of answer.transform) (answer_of old answer.question_id) out
 GoToTarget old call (targets.Unknown n) out = ⊥
 
 -- the peer's call, with what its capability table was taken in as
-abbrev pub peer_call : State → Call → List Cap → Underway
+abbrev pub peer_call : State → Call → List Cap → PendingCall
 peer_call s c table =
     record {
       ticket = s.next_ticket;

@@ -5,7 +5,7 @@ use Rattle.std.specs.FinMap.{get, insert, len}
 use Rattle.cp_tables.specs.Exchange.{new_exchange}
 use Rattle.cp_messages.specs.declared.target.Target.{Target}
 use Rattle.cp_messages.specs.declared.target.Target.TheVariants as targets
-use Rattle.cp_messages.specs.declared.disembargo.Context.TheVariants as contexts
+use Rattle.cp_messages.specs.declared.disembargo.DisembargoContext.TheVariants as contexts
 use Rattle.cp_messages.specs.declared.message.Message.TheVariants as messages
 use Rattle.cp_refs.specs.At.{cap_at}
 use Rattle.cp_refs.specs.Values.{ValueMaps}
@@ -23,7 +23,7 @@ use Rattle.cp_vat_machine.specs.State.{State}
 use Rattle.cp_vat_machine.specs.Then.{Done, Then, fault_if, Unless, OrFull}
 use Rattle.cp_vat_machine.specs.Capacity.{has_capacity, has_ticket, Fresh, cap_fits, request_fits}
 use Rattle.cp_vat_machine.specs.Writing.{promised}
-use Rattle.cp_vat_machine.specs.Go.{Underway, held_at, Go, GoTo}
+use Rattle.cp_vat_machine.specs.Go.{PendingCall, held_at, Go, GoTo}
 use Rattle.cp_vat_machine.specs.InUse.{has_question, has_promise, has_import, is_local_path}
 use Rattle.cp_vat_machine.specs.declared.effect.Effect.{Effect}
 use Rattle.cp_vat_machine.specs.declared.effect.Effect.TheVariants as effects
@@ -76,7 +76,7 @@ abbrev pub called : State → ℕ → QuestionKind → State
 called s q kind = record (asked s q kind (Some s.next_ticket) false) { next_ticket = s.next_ticket + 1 }
 
 -- the application's call
-abbrev pub own_call : State → ℕ → Request → Underway
+abbrev pub own_call : State → ℕ → Request → PendingCall
 own_call s q request = record { ticket = s.next_ticket; origin = origins.Own q; request = request }
 
 -- the mark of a reference, and its embargo
@@ -111,7 +111,7 @@ abbrev pub disembargo_of : ℕ → Cap → Effect
 disembargo_of n cap = effects.Send (messages.Disembargo (record { context = contexts.SenderLoopback n; target = old_target cap }))
 
 -- The call is the first after those that were sent on the reference: a Disembargo follows them, and the call waits for its echo.
-abbrev pub FirstEmbargoed : State → Underway → Cap → Cap → Result Done PeerFault → Type 0
+abbrev pub FirstEmbargoed : State → PendingCall → Cap → Cap → Result Done PeerFault → Type 0
 FirstEmbargoed old call cap value out =
     Then
     (Fresh old.marks.embargoes)
@@ -127,7 +127,7 @@ FirstEmbargoed old call cap value out =
     out
 
 -- A reference came to something of this end. Unmarked, its value's route is taken; marked, calls wait until those that were sent on it came back.
-abbrev pub GoBack : State → Underway → Cap → Cap → Option (Option ℕ) → Result Done PeerFault → Type 0
+abbrev pub GoBack : State → PendingCall → Cap → Cap → Option (Option ℕ) → Result Done PeerFault → Type 0
 GoBack old call cap value None out = GoTo old call value out
 GoBack old call cap value (Some None) out = FirstEmbargoed old call cap value out
 GoBack old call cap value (Some (Some n)) out = Go old call (routes.Wait (gates.Embargo n)) out

@@ -32,13 +32,13 @@ use Rattle.cp_vat_machine.specs.declared.entry.QuestionEntry.{QuestionEntry}
 use Rattle.cp_vat_machine.specs.declared.fault.PeerFault.{PeerFault}
 
 -- a call on its way
-pub record Underway : Type 0 where
+pub record PendingCall : Type 0 where
   pub ticket : ℕ
   pub origin : Origin
   pub request : Request
 
 -- the call waits at a gate
-abbrev pub held_at : State → Underway → Gate → State
+abbrev pub held_at : State → PendingCall → Gate → State
 held_at s call gate =
     record s {
       waiting =
@@ -72,7 +72,7 @@ abbrev pub finish_of : ℕ → Bool → Effect
 finish_of q release = effects.Send (messages.Finish (record { question_id = q; release_result_caps = release }))
 
 -- a question that forwards a call of the peer's
-abbrev pub forwarding : ℕ → Underway → List Descriptor → QuestionEntry
+abbrev pub forwarding : ℕ → PendingCall → List Descriptor → QuestionEntry
 forwarding a call table =
     record { forwards = Some a; ticket = Some call.ticket; is_sent = true; is_delivered = false; mentions = mentions_of table }
 
@@ -87,7 +87,7 @@ finish_after q stages.Finished = finish_of q true ∷ []
 finish_after q other = []
 
 -- A call goes to the peer. One of the peer's is forwarded under a new question, one of the application's goes under its own.
-abbrev pub GoOut : State → Underway → Target → Origin → Result Done PeerFault → Type 0
+abbrev pub GoOut : State → PendingCall → Target → Origin → Result Done PeerFault → Type 0
 GoOut old call target (origins.Answer a) out =
     Then
     (Fresh old.entries.questions)
@@ -109,7 +109,7 @@ GoOut old call target (origins.Own q) out =
     out
 
 -- A call goes by its route: to an object, to the peer, to a gate where it stays; or it fails, which gives its origin the exception.
-abbrev pub Go : State → Underway → Route → Result Done PeerFault → Type 0
+abbrev pub Go : State → PendingCall → Route → Result Done PeerFault → Type 0
 Go old call (routes.Deliver k) out = out ≡ Ok (effects.Deliver k call.origin call.ticket call.request ∷ [], delivered old call.origin)
 Go old call (routes.Import i) out = GoOut old call (targets.ImportedCap i) call.origin out
 Go old call (routes.Pipe q path) out = GoOut old call (targets.PromisedAnswer (promised q path)) call.origin out
@@ -117,7 +117,7 @@ Go old call (routes.Wait gate) out = out ≡ Ok ([], held_at old call gate)
 Go old call (routes.Fail x) out = Give old call.origin (outcomes.Failed x) out
 
 -- a call goes by the route of a capability
-abbrev pub GoTo : State → Underway → Cap → Result Done PeerFault → Type 0
+abbrev pub GoTo : State → PendingCall → Cap → Result Done PeerFault → Type 0
 GoTo old call cap out = (route : Route) × Routes old.values cap route × Go old call route out
 
 -- no call's gate has ended
@@ -134,7 +134,7 @@ pub record IsNext (s : State) (call : WaitingCall) (cap : Cap) : Type 0 where
 abbrev pub without_call : State → WaitingCall → State
 without_call s call = record s { waiting = record s.waiting { calls = remove s.waiting.calls call.ticket } }
 
-abbrev pub underway : WaitingCall → Underway
+abbrev pub underway : WaitingCall → PendingCall
 underway call = record { ticket = call.ticket; origin = call.origin; request = call.request }
 
 -- Waiting calls leave, each with its effects: no call's gate has ended, and the gates are forgotten; or of the calls whose gate has ended the one

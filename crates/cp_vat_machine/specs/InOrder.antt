@@ -13,7 +13,7 @@ use Rattle.cp_vat_machine.specs.Run.{Moment, Run}
 use Rattle.cp_vat_machine.specs.Trace.{Cause, rests, Turn, trace_of}
 use Rattle.cp_vat_machine.specs.Ports.{Port, Called, calls_of, port_of, PortRoute}
 use Rattle.cp_vat_machine.specs.Exits.{Exit, exits_in, exits_of}
-use Rattle.cp_vat_machine.specs.Telling.{TellsItsGift}
+use Rattle.cp_vat_machine.specs.Telling.{TellsItsFulfillment}
 
 -- each earlier one with each later one
 abbrev pub EachPair : {X : Type 0} → (X → X → Type 0) → List X → Type 0
@@ -69,7 +69,7 @@ pub record InOrder (turns : List Turn) : Type 0 where
   -- ("Disembargo", "Resolve")
   pub none_kept : EachTurn (λ past turn. AtRest past turn turn.cause) turns
   -- Each outcome that is given is reported in its turn, once, and no other is. ("Return", "Finish")
-  pub told : AllByRecursion TellsItsGift turns
+  pub told : AllByRecursion TellsItsFulfillment turns
 
 -- these moments are a run whose turns are in order
 abbrev pub RunsInOrder : Option ℕ → List Moment → Type 0

@@ -14,8 +14,8 @@ use Rattle.cp_messages.specs.declared.resolve.Resolution.TheVariants as resoluti
 use Rattle.cp_messages.specs.declared.resolve.Resolve.{Resolve}
 use Rattle.cp_messages.specs.declared.target.Target.{Target}
 use Rattle.cp_messages.specs.declared.target.Target.TheVariants as targets
-use Rattle.cp_messages.specs.declared.disembargo.Context.{Context}
-use Rattle.cp_messages.specs.declared.disembargo.Context.TheVariants as contexts
+use Rattle.cp_messages.specs.declared.disembargo.DisembargoContext.{DisembargoContext}
+use Rattle.cp_messages.specs.declared.disembargo.DisembargoContext.TheVariants as contexts
 use Rattle.cp_messages.specs.declared.message.Message.{Message}
 use Rattle.cp_messages.specs.declared.message.Message.TheVariants as messages
 use Rattle.cp_refs.specs.At.{cap_at}
@@ -124,7 +124,7 @@ ended_by s n None = Err faults.UnknownEmbargo
 ended_by s n (Some cap) = Ok ([], embargo_ended s n cap)
 
 -- A senderLoopback is echoed, and a receiverLoopback ends its embargo, whatever its target.
-abbrev pub OnDisembargo : State → Context → Target → Result Done PeerFault → Type 0
+abbrev pub OnDisembargo : State → DisembargoContext → Target → Result Done PeerFault → Type 0
 OnDisembargo old (contexts.SenderLoopback n) target out = Unless (target_faults old target) (EchoesTarget old n target) out
 OnDisembargo old (contexts.ReceiverLoopback n) target out = out ≡ ended_by old n (get old.marks.embargoes n)
 OnDisembargo old other target out = ⊥

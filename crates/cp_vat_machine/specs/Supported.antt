@@ -14,8 +14,8 @@ use Rattle.cp_messages.specs.declared.returned.Returned.{Returned}
 use Rattle.cp_messages.specs.declared.returned.Returned.TheVariants as returns
 use Rattle.cp_messages.specs.declared.resolve.Resolution.{Resolution}
 use Rattle.cp_messages.specs.declared.resolve.Resolution.TheVariants as resolutions
-use Rattle.cp_messages.specs.declared.disembargo.Context.{Context}
-use Rattle.cp_messages.specs.declared.disembargo.Context.TheVariants as contexts
+use Rattle.cp_messages.specs.declared.disembargo.DisembargoContext.{DisembargoContext}
+use Rattle.cp_messages.specs.declared.disembargo.DisembargoContext.TheVariants as contexts
 use Rattle.cp_messages.specs.declared.message.Message.{Message}
 use Rattle.cp_messages.specs.declared.message.Message.TheVariants as messages
 
@@ -56,7 +56,7 @@ is_supported_resolution (resolutions.Cap d) = is_supported_descriptor d
 is_supported_resolution (resolutions.Exception x) = true
 is_supported_resolution (resolutions.Unknown n) = false
 
-abbrev pub is_supported_context : Context → Bool
+abbrev pub is_supported_context : DisembargoContext → Bool
 is_supported_context (contexts.SenderLoopback n) = true
 is_supported_context (contexts.ReceiverLoopback n) = true
 is_supported_context other = false

@@ -45,7 +45,7 @@ is_finished stages.Finished = true
 is_finished other = false
 
 -- an outcome, and whom it is given to
-pub record Gift : Type 0 where
+pub record Fulfillment : Type 0 where
   pub origin : Origin
   pub outcome : Outcome
 
@@ -96,45 +96,45 @@ asked_for q None = origins.Own q
 asked_for q (Some a) = origins.Answer a
 
 -- A Return gives its question's origin what it bears, unless the application finished the question.
-abbrev pub ReturnGives : Turn → Return → QuestionEntry → Stage → Option Gift → Type 0
-ReturnGives turn r kept stages.Open gift =
-    (outcome : Outcome) × (gift ≡ Some (record { origin = asked_for r.answer_id kept.forwards; outcome = outcome })) × Brings turn r.returned outcome
-ReturnGives turn r kept other gift = gift ≡ None
+abbrev pub ReturnGives : Turn → Return → QuestionEntry → Stage → Option Fulfillment → Type 0
+ReturnGives turn r kept stages.Open fulfillment =
+    (outcome : Outcome) × (fulfillment ≡ Some (record { origin = asked_for r.answer_id kept.forwards; outcome = outcome })) × Brings turn r.returned outcome
+ReturnGives turn r kept other fulfillment = fulfillment ≡ None
 
-abbrev pub AskedGives : Turn → Return → Option (Exchange QuestionEntry) → Option Gift → Type 0
-AskedGives turn r None gift = ⊥
-AskedGives turn r (Some entry) gift = ReturnGives turn r entry.kept entry.stage gift
+abbrev pub AskedGives : Turn → Return → Option (Exchange QuestionEntry) → Option Fulfillment → Type 0
+AskedGives turn r None fulfillment = ⊥
+AskedGives turn r (Some entry) fulfillment = ReturnGives turn r entry.kept entry.stage fulfillment
 
 -- a call that fails gives its origin the exception
-abbrev pub failed_by : Route → Origin → Option Gift
+abbrev pub failed_by : Route → Origin → Option Fulfillment
 failed_by (routes.Fail x) origin = Some (record { origin = origin; outcome = outcomes.Failed x })
 failed_by other origin = None
 
-abbrev pub failed_with : List Exit → Option (ℕ × Origin) → Option Gift
+abbrev pub failed_with : List Exit → Option (ℕ × Origin) → Option Fulfillment
 failed_with (exit ∷ []) (Some (ticket, origin)) = failed_by exit.route origin
 failed_with exits subject = None
 
-abbrev pub failed_in : Turn → Option Gift
+abbrev pub failed_in : Turn → Option Fulfillment
 failed_in turn = failed_with (exits_in turn) (subject_of turn)
 
 -- What is given in a turn: what a Bootstrap is answered with, what the Return of a question bears, what `answer` hands in, and the exception with
 -- which a call fails. A message that isn't supported gives nothing.
-abbrev pub MessageGives : Turn → Message → Option Gift → Type 0
-MessageGives turn (messages.Bootstrap b) gift = gift ≡ Some (record { origin = origins.Answer b.question_id; outcome = bootstrap_outcome turn.before.bootstrap })
-MessageGives turn (messages.Return r) gift = AskedGives turn r (get turn.before.entries.questions r.answer_id) gift
-MessageGives turn other gift = gift ≡ failed_in turn
+abbrev pub MessageGives : Turn → Message → Option Fulfillment → Type 0
+MessageGives turn (messages.Bootstrap b) fulfillment = fulfillment ≡ Some (record { origin = origins.Answer b.question_id; outcome = bootstrap_outcome turn.before.bootstrap })
+MessageGives turn (messages.Return r) fulfillment = AskedGives turn r (get turn.before.entries.questions r.answer_id) fulfillment
+MessageGives turn other fulfillment = fulfillment ≡ failed_in turn
 
-abbrev pub SupportedGives : Bool → Turn → Message → Option Gift → Type 0
-SupportedGives true turn m gift = MessageGives turn m gift
-SupportedGives false turn m gift = gift ≡ None
+abbrev pub SupportedGives : Bool → Turn → Message → Option Fulfillment → Type 0
+SupportedGives true turn m fulfillment = MessageGives turn m fulfillment
+SupportedGives false turn m fulfillment = fulfillment ≡ None
 
-abbrev pub CauseGives : Turn → Cause → Option Gift → Type 0
-CauseGives turn (own_part (events.Receive m) value) gift = SupportedGives (is_supported m) turn m gift
-CauseGives turn (own_part (events.Answer origin outcome) value) gift = gift ≡ Some (record { origin = origin; outcome = outcome })
-CauseGives turn other gift = gift ≡ failed_in turn
+abbrev pub CauseGives : Turn → Cause → Option Fulfillment → Type 0
+CauseGives turn (own_part (events.Receive m) value) fulfillment = SupportedGives (is_supported m) turn m fulfillment
+CauseGives turn (own_part (events.Answer origin outcome) value) fulfillment = fulfillment ≡ Some (record { origin = origin; outcome = outcome })
+CauseGives turn other fulfillment = fulfillment ≡ failed_in turn
 
-abbrev pub Gives : Turn → Option Gift → Type 0
-Gives turn gift = CauseGives turn turn.cause gift
+abbrev pub Gives : Turn → Option Fulfillment → Type 0
+Gives turn fulfillment = CauseGives turn turn.cause fulfillment
 
 -- A capability leads to another one if that is on its way.
 abbrev pub LeadsBy : (Cap → Type 0) → Way → Type 0
@@ -193,10 +193,10 @@ abbrev pub OriginTold : Turn → Origin → Outcome → List Effect → Type 0
 OriginTold turn (origins.Answer a) outcome told = AnswerTold turn a outcome (was_finished (get turn.before.entries.answers a)) told
 OriginTold turn (origins.Own q) outcome told = QuestionTold q outcome (was_finished (get turn.before.entries.questions q)) told
 
-abbrev pub GiftTold : Turn → Option Gift → List Effect → Type 0
-GiftTold turn None told = told ≡ []
-GiftTold turn (Some gift) told = OriginTold turn gift.origin gift.outcome told
+abbrev pub FulfillmentTold : Turn → Option Fulfillment → List Effect → Type 0
+FulfillmentTold turn None told = told ≡ []
+FulfillmentTold turn (Some fulfillment) told = OriginTold turn fulfillment.origin fulfillment.outcome told
 
 -- What is given in a turn is reported in it, once, and nothing else is.
-abbrev pub TellsItsGift : Turn → Type 0
-TellsItsGift turn = (gift : Option Gift) × Gives turn gift × GiftTold turn gift (filter is_telling turn.effects)
+abbrev pub TellsItsFulfillment : Turn → Type 0
+TellsItsFulfillment turn = (fulfillment : Option Fulfillment) × Gives turn fulfillment × FulfillmentTold turn fulfillment (filter is_telling turn.effects)

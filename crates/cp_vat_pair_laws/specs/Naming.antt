@@ -10,8 +10,8 @@ use Rattle.cp_messages.specs.declared.resolve.Resolution.{Resolution}
 use Rattle.cp_messages.specs.declared.resolve.Resolution.TheVariants as resolutions
 use Rattle.cp_messages.specs.declared.descriptor.Descriptor.{Descriptor}
 use Rattle.cp_messages.specs.declared.descriptor.Descriptor.TheVariants as descriptors
-use Rattle.cp_messages.specs.declared.disembargo.Context.{Context}
-use Rattle.cp_messages.specs.declared.disembargo.Context.TheVariants as contexts
+use Rattle.cp_messages.specs.declared.disembargo.DisembargoContext.{DisembargoContext}
+use Rattle.cp_messages.specs.declared.disembargo.DisembargoContext.TheVariants as contexts
 use Rattle.cp_messages.specs.declared.message.Message.{Message}
 use Rattle.cp_messages.specs.declared.message.Message.TheVariants as messages
 use Rattle.cp_refs.specs.At.{cap_at, node_along}
@@ -70,7 +70,7 @@ IsOfKindAfter sender after (descriptors.SenderPromise e) =
 IsOfKindAfter sender after other = Unit {0}
 
 -- the loop of an embargo, on its way there and on its way back
-abbrev pub is_loop_of : ℕ → Context → Bool
+abbrev pub is_loop_of : ℕ → DisembargoContext → Bool
 is_loop_of n (contexts.SenderLoopback m) = m == n
 is_loop_of n other = false
 
@@ -78,7 +78,7 @@ abbrev pub is_loop : ℕ → Message → Bool
 is_loop n (messages.Disembargo d) = is_loop_of n d.context
 is_loop n other = false
 
-abbrev pub is_echo_of : ℕ → Context → Bool
+abbrev pub is_echo_of : ℕ → DisembargoContext → Bool
 is_echo_of n (contexts.ReceiverLoopback m) = m == n
 is_echo_of n other = false
 

@@ -14,7 +14,7 @@ use Rattle.cp_refs.specs.declared.outcome.Outcome.{Outcome}
 use Rattle.cp_refs.specs.declared.route.Route.{Route}
 use Rattle.cp_vat_machine.specs.State.{State, new_state}
 use Rattle.cp_vat_machine.specs.Then.{Done}
-use Rattle.cp_vat_machine.specs.Go.{Underway, Go, Leave}
+use Rattle.cp_vat_machine.specs.Go.{PendingCall, Go, Leave}
 use Rattle.cp_vat_machine.specs.Calling.{OwnDone}
 use Rattle.cp_vat_machine.specs.Step.{Does, Receives}
 use Rattle.cp_vat_machine.specs.declared.event.Event.{Event}
@@ -91,6 +91,6 @@ pub record RulesPost : Type 0 where
   -- any message that is supported, whoever sends it
   pub receives : (old : State) (m : Message) (done : Done) → IsTrue (is_supported m) → IsOrderly old → Receives old m (Ok done) → Heeds old m done.0 done.1
   -- a call by each route, and waiting calls that leave
-  pub goes : (old : State) (call : Underway) (route : Route) (done : Done) → IsOrderly old → IsHeldAlone old call.origin → Go old call route (Ok done)
+  pub goes : (old : State) (call : PendingCall) (route : Route) (done : Done) → IsOrderly old → IsHeldAlone old call.origin → Go old call route (Ok done)
       → Goes old done.0 done.1
   pub leaves : (old last : State) (all : List Effect) → IsOrderly old → Leave old all (Ok last) → Goes old all last

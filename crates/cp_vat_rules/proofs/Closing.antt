@@ -8,13 +8,13 @@ use Rattle.cp_refs.specs.declared.cap.Cap.{Cap}
 use Rattle.cp_refs.proofs.Queueing.{put-back}
 use Rattle.cp_vat_machine.specs.declared.entry.QuestionEntry.{QuestionEntry}
 use Rattle.cp_vat_state.specs.Halts.{IfFault}
-use Rattle.cp_vat_state.specs.declared.halt.Halt.{Halt}
-use Rattle.cp_vat_state.specs.declared.halt.Halt.TheVariants as halts
+use Rattle.cp_vat_state.specs.declared.step_fault.StepFault.{StepFault}
+use Rattle.cp_vat_state.specs.declared.step_fault.StepFault.TheVariants as halts
 use Rattle.cp_vat_state.specs.declared.parts.Core.{Core}
 
 -- a question that was opened and taken out again leaves the parts as they were, if the exports are as they were
-pub forward_undone : (A B : Type 0) (halt : Halt) (core : Core) (q : ℕ) (entry : Exchange QuestionEntry) (opened closed : Table (Exchange QuestionEntry)) (exports : Table (Counted Cap)) → get core.questions q ≡ None → opened ≡ insert core.questions q entry → closed ≡ remove opened q
-    → IfFault {A = A} (Err halt) (exports ≡ core.exports) → IfFault {A = B} (Err halt) (◌≡◌ {A = Core} (record core { questions = closed; exports = exports }) core)
+pub forward_undone : (A B : Type 0) (step_fault : StepFault) (core : Core) (q : ℕ) (entry : Exchange QuestionEntry) (opened closed : Table (Exchange QuestionEntry)) (exports : Table (Counted Cap)) → get core.questions q ≡ None → opened ≡ insert core.questions q entry → closed ≡ remove opened q
+    → IfFault {A = A} (Err step_fault) (exports ≡ core.exports) → IfFault {A = B} (Err step_fault) (◌≡◌ {A = Core} (record core { questions = closed; exports = exports }) core)
 forward_undone A B (halts.Fault fault) core q entry opened closed exports free is gone same =
     let back : closed ≡ core.questions = gone ∙ ap (λ t. remove t q) is ∙ put-back core.questions q entry free in
     rw (back, same) refl

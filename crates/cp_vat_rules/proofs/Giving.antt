@@ -29,8 +29,8 @@ use Rattle.cp_vat_machine.specs.declared.fault.PeerFault.{PeerFault}
 use Rattle.cp_vat_state.specs.Halts.{Leaves, Acts}
 use Rattle.cp_vat_rules.specs.Settling.{Settles}
 use Rattle.cp_vat_state.specs.Queue.{Queue}
-use Rattle.cp_vat_state.specs.declared.halt.Halt.{Halt}
-use Rattle.cp_vat_state.specs.declared.halt.Halt.TheVariants as halts
+use Rattle.cp_vat_state.specs.declared.step_fault.StepFault.{StepFault}
+use Rattle.cp_vat_state.specs.declared.step_fault.StepFault.TheVariants as halts
 
 -- the queue of a state
 abbrev pub queue_of : State → Queue
@@ -46,26 +46,26 @@ resolves_other s (caps.Pipelined q path) out other said = said
 resolves_other s (caps.Broken x) out other said = absurd (other x refl)
 
 -- a fault passes on
-pub acts_err : {A : Type 0} (R : Result (A × State) PeerFault → Type 0) (Q : Result Done PeerFault → Type 0) (halt : Halt) (mid new : State) (before after : List Effect) → ((fault : PeerFault) → R (Err fault) → Q (Err fault)) → Leaves R (Err halt) mid → Acts Q (Err halt) before after new
+pub acts_err : {A : Type 0} (R : Result (A × State) PeerFault → Type 0) (Q : Result Done PeerFault → Type 0) (step_fault : StepFault) (mid new : State) (before after : List Effect) → ((fault : PeerFault) → R (Err fault) → Q (Err fault)) → Leaves R (Err step_fault) mid → Acts Q (Err step_fault) before after new
 acts_err R Q (halts.Fault fault) mid new before after on h = on fault h
 acts_err R Q halts.OutOfMemory mid new before after on h = tt
 
 -- so where what was done is told later
-pub settles_err : (A B : Type 0) (R : Result (A × State) PeerFault → Type 0) (Q : Result Done PeerFault → Type 0) (halt : Halt) (mid : State) (before after : List Effect) (new : B → State) → ((fault : PeerFault) → R (Err fault) → Q (Err fault)) → Leaves R (Err halt) mid → Settles Q (Err halt) before after new
+pub settles_err : (A B : Type 0) (R : Result (A × State) PeerFault → Type 0) (Q : Result Done PeerFault → Type 0) (step_fault : StepFault) (mid : State) (before after : List Effect) (new : B → State) → ((fault : PeerFault) → R (Err fault) → Q (Err fault)) → Leaves R (Err step_fault) mid → Settles Q (Err step_fault) before after new
 settles_err A B R Q (halts.Fault fault) mid before after new on h = on fault h
 settles_err A B R Q halts.OutOfMemory mid before after new on h = tt
 
 -- and from one such rule to another
-pub settles_on : (A B : Type 0) (R Q : Result Done PeerFault → Type 0) (halt : Halt) (before after before' after' : List Effect) (mid : A → State) (new : B → State) → ((fault : PeerFault) → R (Err fault) → Q (Err fault)) → Settles R (Err halt) before after mid → Settles Q (Err halt) before' after' new
+pub settles_on : (A B : Type 0) (R Q : Result Done PeerFault → Type 0) (step_fault : StepFault) (before after before' after' : List Effect) (mid : A → State) (new : B → State) → ((fault : PeerFault) → R (Err fault) → Q (Err fault)) → Settles R (Err step_fault) before after mid → Settles Q (Err step_fault) before' after' new
 settles_on A B R Q (halts.Fault fault) before after before' after' mid new on h = on fault h
 settles_on A B R Q halts.OutOfMemory before after before' after' mid new on h = tt
 
-pub acts_settled : (A : Type 0) (R Q : Result Done PeerFault → Type 0) (halt : Halt) (before after before' after' : List Effect) (mid : A → State) (new : State) → ((fault : PeerFault) → R (Err fault) → Q (Err fault)) → Settles R (Err halt) before after mid → Acts Q (Err halt) before' after' new
+pub acts_settled : (A : Type 0) (R Q : Result Done PeerFault → Type 0) (step_fault : StepFault) (before after before' after' : List Effect) (mid : A → State) (new : State) → ((fault : PeerFault) → R (Err fault) → Q (Err fault)) → Settles R (Err step_fault) before after mid → Acts Q (Err step_fault) before' after' new
 acts_settled A R Q (halts.Fault fault) before after before' after' mid new on h = on fault h
 acts_settled A R Q halts.OutOfMemory before after before' after' mid new on h = tt
 
 -- what meets one rule meets another
-pub acts_as : (R Q : Result Done PeerFault → Type 0) (r : Result (Unit {0}) Halt) (before after : List Effect) (new : State) → ((out : Result Done PeerFault) → R out → Q out) → Acts R r before after new → Acts Q r before after new
+pub acts_as : (R Q : Result Done PeerFault → Type 0) (r : Result (Unit {0}) StepFault) (before after : List Effect) (new : State) → ((out : Result Done PeerFault) → R out → Q out) → Acts R r before after new → Acts Q r before after new
 acts_as R Q (Ok x) before after new on h = (h.0, h.1, on _ h.2)
 acts_as R Q (Err (halts.Fault fault)) before after new on h = on _ h
 acts_as R Q (Err halts.OutOfMemory) before after new on h = tt
@@ -107,7 +107,7 @@ module _ (start now : State) (outcome : Outcome) (xs : List Tied) (i : ℕ) (don
       subst (λ l. SettleTied start outcome xs (Ok (l, now))) (append-nil done) whole
 
 -- a fault passes on from a rule with effects
-pub acts_stop : (R Q : Result Done PeerFault → Type 0) (halt : Halt) (before after before' after' : List Effect) (mid new : State) → ((fault : PeerFault) → R (Err fault) → Q (Err fault)) → Acts R (Err halt) before after mid → Acts Q (Err halt) before' after' new
+pub acts_stop : (R Q : Result Done PeerFault → Type 0) (step_fault : StepFault) (before after before' after' : List Effect) (mid new : State) → ((fault : PeerFault) → R (Err fault) → Q (Err fault)) → Acts R (Err step_fault) before after mid → Acts Q (Err step_fault) before' after' new
 acts_stop R Q (halts.Fault fault) before after before' after' mid new on h = on fault h
 acts_stop R Q halts.OutOfMemory before after before' after' mid new on h = tt
 

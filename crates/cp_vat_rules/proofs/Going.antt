@@ -10,8 +10,8 @@ use Rattle.cp_vat_laws.proofs.within.Leave.{in_hand_within, is_in_hand_now, turn
 use Rattle.cp_vat_state.specs.Halts.{Acts}
 use Rattle.cp_vat_rules.specs.Going.{AllLeave, MayGo}
 use Rattle.cp_vat_rules.proofs.Ready.{may_go}
-use Rattle.cp_vat_state.specs.declared.halt.Halt.{Halt}
-use Rattle.cp_vat_state.specs.declared.halt.Halt.TheVariants as halts
+use Rattle.cp_vat_state.specs.declared.step_fault.StepFault.{StepFault}
+use Rattle.cp_vat_state.specs.declared.step_fault.StepFault.TheVariants as halts
 use Rattle.cp_vat_state.specs.Overs.{NoneOverIn, IsNextIn}
 use Rattle.cp_vat_machine.specs.State.{State, with_over, none_over}
 use Rattle.cp_vat_state.specs.Queue.{Queue}
@@ -90,6 +90,6 @@ module _ (start now : State) (done : List Effect) (goes_on : LeavesFrom start no
     leave_stops fault went = no_room start now done goes_on call cap fault (is_next_of now call cap next) (subst (λ v. GoTo (with_queue now v) (underway call) cap (Err fault)) is went)
 
     -- a call stopped
-    pub leave_halts : (halt : Halt) (before after all so_far : List Effect) (mid new : State) → all ≡ so_far ++ done → Acts (GoTo (with_queue now q) (underway call) cap) (Err halt) before after mid → AllLeave start (Err halt) so_far all new
+    pub leave_halts : (step_fault : StepFault) (before after all so_far : List Effect) (mid new : State) → all ≡ so_far ++ done → Acts (GoTo (with_queue now q) (underway call) cap) (Err step_fault) before after mid → AllLeave start (Err step_fault) so_far all new
     leave_halts (halts.Fault fault) before after all so_far mid new is_all went = (done, is_all, leave_stops fault went)
     leave_halts halts.OutOfMemory before after all so_far mid new is_all went = tt

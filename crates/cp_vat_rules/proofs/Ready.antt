@@ -7,7 +7,7 @@ use Rattle.cp_tables.specs.declared.exchange.Exchange.{Exchange}
 use Rattle.cp_refs.specs.declared.call.Origin.{Origin}
 use Rattle.cp_refs.specs.declared.call.Origin.TheVariants as origins
 use Rattle.cp_vat_machine.specs.State.{State}
-use Rattle.cp_vat_machine.specs.Go.{Underway}
+use Rattle.cp_vat_machine.specs.Go.{PendingCall}
 use Rattle.cp_vat_machine.specs.InUse.{is_unsettled}
 use Rattle.cp_vat_machine.specs.Local.{one_if, tied_to, IsTicketOf}
 use Rattle.cp_vat_machine.specs.declared.entry.AnswerEntry.{AnswerEntry}
@@ -33,6 +33,6 @@ is_ungiven s hand h (origins.Answer a) ticket (entry, was, open_, bears) = (entr
 is_ungiven s hand h (origins.Own q) ticket (entry, was, open_, bears, own) = (entry, was, open_)
 
 -- a call in hand may go
-pub may_go : (s : State) (call : Underway) → Within s (Some call.origin) [] → IsInHand s call → MayGo s call
+pub may_go : (s : State) (call : PendingCall) → Within s (Some call.origin) [] → IsInHand s call → MayGo s call
 may_go s call h i =
     record { free = i.free; given = i.given; ungiven = is_ungiven s (Some call.origin) h call.origin call.ticket i.whose; ends = i.ends }

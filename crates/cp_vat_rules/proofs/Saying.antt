@@ -11,8 +11,8 @@ use Rattle.cp_vat_machine.specs.Then.{Each}
 use Rattle.cp_vat_machine.specs.Writing.{end_by, end_within, ResolvesTo}
 use Rattle.cp_vat_machine.specs.declared.fault.PeerFault.{PeerFault}
 use Rattle.cp_vat_state.specs.Halts.{Leaves}
-use Rattle.cp_vat_state.specs.declared.halt.Halt.{Halt}
-use Rattle.cp_vat_state.specs.declared.halt.Halt.TheVariants as halts
+use Rattle.cp_vat_state.specs.declared.step_fault.StepFault.{StepFault}
+use Rattle.cp_vat_state.specs.declared.step_fault.StepFault.TheVariants as halts
 use Rattle.cp_vat_rules.specs.Leading.{LeadsTo}
 
 end_here : (f : Cap → Option Cap) (c : Cap) (w : Way) → LeadsTo w None → end_by f c w ≡ Some c
@@ -49,7 +49,7 @@ module _ {A B : Type 0} (Rule : State → A → Result (B × State) PeerFault �
   each_stops old x xs fault first = (Err fault, first, refl)
 
 -- a fault passes on
-pub leaves_err : {A B : Type 0} (R : Result (A × State) PeerFault → Type 0) (Q : Result (B × State) PeerFault → Type 0) (halt : Halt) (mid new : State) → ((fault : PeerFault) → R (Err fault) → Q (Err fault)) → Leaves R (Err halt) mid → Leaves Q (Err halt) new
+pub leaves_err : {A B : Type 0} (R : Result (A × State) PeerFault → Type 0) (Q : Result (B × State) PeerFault → Type 0) (step_fault : StepFault) (mid new : State) → ((fault : PeerFault) → R (Err fault) → Q (Err fault)) → Leaves R (Err step_fault) mid → Leaves Q (Err step_fault) new
 leaves_err R Q (halts.Fault fault) mid new on h = on fault h
 leaves_err R Q halts.OutOfMemory mid new on h = tt
 

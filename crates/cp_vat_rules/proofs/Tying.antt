@@ -22,8 +22,8 @@ use Rattle.cp_vat_machine.specs.declared.fault.PeerFault.{PeerFault}
 use Rattle.cp_vat_state.specs.Overs.{over_with}
 use Rattle.cp_vat_state.specs.Queue.{Queue, with_over}
 use Rattle.cp_vat_state.specs.StateOf.{state_of}
-use Rattle.cp_vat_state.specs.declared.gates.Gift.TheVariants as gifts
-use Rattle.cp_vat_state.specs.declared.halt.Halt.{Halt}
+use Rattle.cp_vat_state.specs.declared.gates.Fulfillment.TheVariants as gifts
+use Rattle.cp_vat_state.specs.declared.step_fault.StepFault.{StepFault}
 use Rattle.cp_vat_state.specs.declared.parts.Core.{Core}
 use Rattle.cp_vat_rules.specs.Leading.{with_parts}
 use Rattle.cp_vat_rules.specs.Settling.{Settles, over_settled, settling}
@@ -43,11 +43,11 @@ module _ (s : State) (start now : ValueMaps) (first mid : Table (Counted Cap)) (
     questions_same = same ∙ sym (ap (λ v. v.questions) from)
 
     -- one can't be settled
-    pub tied_stops : {A B : Type 0} (halt : Halt) (before' after after' : List Effect) (new : State → A → State) (last : B → State) → i < length xs → t ≡ get_or xs i t → value ≡ cap_at outcome t.path
-        → ((s : State) → s.values.questions ≡ now.questions → Settles (Settle (settling s now.promises mid []) t.promise value) (Err halt) before after (new s))
-        → Settles (SettleTied (settling s start.promises first []) outcome xs) (Err halt) before' after' last
-    tied_stops {A} {B} halt before' after after' new last inside is given went =
-        settles_on A B (Settle (settling s now.promises mid settled) t.promise value) (SettleTied (settling s start.promises first []) outcome xs) halt before after before' after' (new (settling s now.promises mid settled)) last
+    pub tied_stops : {A B : Type 0} (step_fault : StepFault) (before' after after' : List Effect) (new : State → A → State) (last : B → State) → i < length xs → t ≡ get_or xs i t → value ≡ cap_at outcome t.path
+        → ((s : State) → s.values.questions ≡ now.questions → Settles (Settle (settling s now.promises mid []) t.promise value) (Err step_fault) before after (new s))
+        → Settles (SettleTied (settling s start.promises first []) outcome xs) (Err step_fault) before' after' last
+    tied_stops {A} {B} step_fault before' after after' new last inside is given went =
+        settles_on A B (Settle (settling s now.promises mid settled) t.promise value) (SettleTied (settling s start.promises first []) outcome xs) step_fault before after before' after' (new (settling s now.promises mid settled)) last
         (λ f r. tied_fails (settling s start.promises first []) (settling s now.promises mid settled) outcome xs i so_far.0 so_far.2 t value f inside is given r)
         (went (settling s now.promises mid settled) questions_same)
 

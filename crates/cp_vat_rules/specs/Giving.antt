@@ -12,17 +12,17 @@ use Rattle.cp_vat_machine.specs.declared.entry.AnswerEntry.{AnswerEntry}
 use Rattle.cp_vat_machine.specs.declared.entry.QuestionEntry.{QuestionEntry}
 use Rattle.cp_vat_state.specs.Halts.{Acts}
 use Rattle.cp_vat_state.specs.StateOf.{state_of}
-use Rattle.cp_vat_state.specs.declared.halt.Halt.{Halt}
+use Rattle.cp_vat_state.specs.declared.step_fault.StepFault.{StepFault}
 use Rattle.cp_vat_state.specs.declared.parts.Core.{Core}
 
 -- an answer of this stage is given, as the rule says
-abbrev pub GivesAnswer : Stage → Core → ℕ → Outcome → Result (Unit {0}) Halt → List Effect → List Effect → Core → Type 0
+abbrev pub GivesAnswer : Stage → Core → ℕ → Outcome → Result (Unit {0}) StepFault → List Effect → List Effect → Core → Type 0
 GivesAnswer stage old id outcome result before after new =
     (kept : AnswerEntry) → get old.answers id ≡ Some (record { stage = stage; kept = kept })
     → Acts (GiveBy (state_of old) id outcome kept stage) result before after (state_of new)
 
 -- a question of this stage is settled, as the rule says
-abbrev pub GivesQuestion : Stage → Core → ℕ → Outcome → Result (Unit {0}) Halt → List Effect → List Effect → Core → Type 0
+abbrev pub GivesQuestion : Stage → Core → ℕ → Outcome → Result (Unit {0}) StepFault → List Effect → List Effect → Core → Type 0
 GivesQuestion stage old id outcome result before after new =
     (kept : QuestionEntry) → get old.questions id ≡ Some (record { stage = stage; kept = kept })
     → Acts (GiveOwnBy (state_of old) id outcome stage) result before after (state_of new)

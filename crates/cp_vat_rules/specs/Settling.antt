@@ -16,8 +16,8 @@ use Rattle.cp_vat_machine.specs.declared.entry.AnswerEntry.{AnswerEntry}
 use Rattle.cp_vat_machine.specs.declared.entry.Tied.{Tied}
 use Rattle.cp_vat_machine.specs.declared.fault.PeerFault.{PeerFault}
 use Rattle.cp_vat_state.specs.declared.parts.Core.{Core}
-use Rattle.cp_vat_state.specs.declared.halt.Halt.{Halt}
-use Rattle.cp_vat_state.specs.declared.halt.Halt.TheVariants as halts
+use Rattle.cp_vat_state.specs.declared.step_fault.StepFault.{StepFault}
+use Rattle.cp_vat_state.specs.declared.step_fault.StepFault.TheVariants as halts
 use Rattle.cp_vat_rules.specs.declared.settle.SettledPromise.{SettledPromise}
 
 -- exports lowered by one for each of these, the last first
@@ -50,27 +50,27 @@ settling s promises exports settled =
     }
 
 -- what was done, with its effects after those before it, is what the rule says; or it is the fault that was met; where memory ran out anything is
-abbrev pub Settles : {A : Type 0} → (Result Done PeerFault → Type 0) → Result A Halt → List Effect → List Effect → (A → State) → Type 0
+abbrev pub Settles : {A : Type 0} → (Result Done PeerFault → Type 0) → Result A StepFault → List Effect → List Effect → (A → State) → Type 0
 Settles Rule (Ok x) before after new = (first : List Effect) × (after ≡ before ++ first) × Rule (Ok (first, new x))
 Settles Rule (Err (halts.Fault fault)) before after new = Rule (Err fault)
 Settles Rule (Err halts.OutOfMemory) before after new = Unit {0}
 
 -- In any state with these questions promises are settled by a rule: their values and the exports become these, with its effects after those before it. The gates of what it settled are still to be ended.
-abbrev pub SettlesBy : {A : Type 0} → (State → Result Done PeerFault → Type 0) → ValueMaps → Table (Counted Cap) → Result A Halt → List Effect → List Effect → ValueMaps → Table (Counted Cap) → (A → List SettledPromise) → Type 0
+abbrev pub SettlesBy : {A : Type 0} → (State → Result Done PeerFault → Type 0) → ValueMaps → Table (Counted Cap) → Result A StepFault → List Effect → List Effect → ValueMaps → Table (Counted Cap) → (A → List SettledPromise) → Type 0
 SettlesBy Rule old exports result before after new raised settled =
     (s : State) → s.values.questions ≡ old.questions
     → Settles (Rule (settling s old.promises exports [])) result before after (λ x. settling s new.promises raised (settled x))
 
 -- so these promises, which are tied to an answer, by what it was given
-abbrev pub SettlesTied : {A : Type 0} → Outcome → List Tied → ValueMaps → Table (Counted Cap) → Result A Halt → List Effect → List Effect → ValueMaps → Table (Counted Cap) → (A → List SettledPromise) → Type 0
+abbrev pub SettlesTied : {A : Type 0} → Outcome → List Tied → ValueMaps → Table (Counted Cap) → Result A StepFault → List Effect → List Effect → ValueMaps → Table (Counted Cap) → (A → List SettledPromise) → Type 0
 SettlesTied outcome tied = SettlesBy (λ s. SettleTied s outcome tied)
 
 -- the peer is told what a promise came to, if it is exported
-abbrev pub TellsOf : ℕ → Cap → Table (Counted Cap) → Result (Option ℕ) Halt → List Effect → List Effect → Table (Counted Cap) → Type 0
+abbrev pub TellsOf : ℕ → Cap → Table (Counted Cap) → Result (Option ℕ) StepFault → List Effect → List Effect → Table (Counted Cap) → Type 0
 TellsOf promise last old result before after new = (s : State) → Settles (Tells (with_exports s old) promise last) result before after (λ _. with_exports s new)
 
 -- so the promises that are tied to an answer
-abbrev pub SettlesTiedTo : {A : Type 0} → Core → ℕ → Outcome → Result A Halt → List Effect → List Effect → Core → (A → List SettledPromise) → Type 0
+abbrev pub SettlesTiedTo : {A : Type 0} → Core → ℕ → Outcome → Result A StepFault → List Effect → List Effect → Core → (A → List SettledPromise) → Type 0
 SettlesTiedTo old id outcome result before after new settled =
     (entry : Exchange AnswerEntry) → get old.answers id ≡ Some entry
     → SettlesBy (λ s. SettleTied s outcome entry.kept.tied) old.values old.exports result before after new.values new.exports settled

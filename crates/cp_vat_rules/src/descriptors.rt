@@ -16,7 +16,7 @@ use crate::resolve::resolve_cap;
 use cp_messages::{CapTable, Descriptor};
 use cp_refs::{Cap, Values};
 use cp_vat_machine::Mentions;
-use cp_vat_state::{Exported, Halt, Hosted};
+use cp_vat_state::{Exported, ExportedCap, StepFault};
 use std::alloc::{AllocError, Global};
 
 /// Sends a capability table, one capability after another. Where a table is full nothing is raised.
@@ -25,7 +25,7 @@ pub fn write_descriptors(
     values: &Values,
     exports: &mut Exported,
     caps: &[Cap],
-) -> Result<CapTable, Halt>
+) -> Result<CapTable, StepFault>
     requires { AllEnd values.now caps.now }
     ensures said { (s : State) → Leaves (WritesDescriptors (with_parts s values.now exports.old) caps.now) result (with_parts s values.now exports.new) }
     ensures back { IfOk result (λ table. lowered_back exports.new (mentions_of table) ≡ exports.old) }
@@ -35,10 +35,10 @@ pub fn write_descriptors(
     for cap in caps {
         match write_descriptor(alloc, values, exports, cap) {
             Ok(descriptor) => add(&mut table, descriptor)?,
-            Err(halt) => {
+            Err(step_fault) => {
                 let ids = mentioned(alloc, &table)?;
                 withdraw_exports(exports, ids.ids());
-                return Err(halt);
+                return Err(step_fault);
             }
         }
     }
@@ -51,7 +51,7 @@ pub fn write_descriptor(
     values: &Values,
     exports: &mut Exported,
     cap: &Cap,
-) -> Result<Descriptor, Halt>
+) -> Result<Descriptor, StepFault>
     requires { HasRoute values.now cap.now }
     ensures said { (s : State) → Leaves (WritesDescriptor (with_parts s values.now exports.old) cap.now) result (with_parts s values.now exports.new) }
     ensures back { IfOk result (λ d. lowered_back exports.new (mentioned_by d) ≡ exports.old) }
@@ -67,15 +67,15 @@ pub(crate) fn write_end(
     alloc: Global,
     exports: &mut Exported,
     last: &Cap,
-) -> Result<Descriptor, Halt>
+) -> Result<Descriptor, StepFault>
     ensures said { (s : State) → Leaves (WritesEnd (with_exports s exports.old) last.now) result (with_exports s exports.new) }
     ensures back { IfOk result (λ d. lowered_back exports.new (mentioned_by d) ≡ exports.old) }
     ensures unchanged { IfFault result (exports.new ≡ exports.old) }
 {
     match last {
         Cap::None => Ok(Descriptor::None),
-        Cap::Object(k) => Ok(Descriptor::SenderHosted(exports.raise(Hosted::Object(*k))?)),
-        Cap::Promise(p) => Ok(Descriptor::SenderPromise(exports.raise(Hosted::Promise(*p))?)),
+        Cap::Object(k) => Ok(Descriptor::SenderHosted(exports.raise(ExportedCap::Object(*k))?)),
+        Cap::Promise(p) => Ok(Descriptor::SenderPromise(exports.raise(ExportedCap::Promise(*p))?)),
         Cap::Import(i) => Ok(Descriptor::ReceiverHosted(*i)),
         Cap::Pipelined(q, path) => Ok(Descriptor::ReceiverAnswer(promised_answer(
             alloc, *q, path,

@@ -25,7 +25,7 @@ use cp_messages::{Message, Payload, Return, Returned};
 use cp_refs::{KeptOutcome, Origin, Outcome, Values};
 use cp_tables::Stage;
 use cp_vat_machine::{AnswerEntry, Effect, Mentions};
-use cp_vat_state::{Core, Exported, Gift, Halt};
+use cp_vat_state::{Core, Exported, Fulfillment, StepFault};
 use std::alloc::{AllocError, Global};
 
 /// Gives an outcome to whom a call's outcome is for. Where a table is full nothing changes.
@@ -34,7 +34,7 @@ pub fn give(
     origin: Origin,
     outcome: Outcome,
     effects: &mut Vec<Effect>,
-) -> Result<(), Halt>
+) -> Result<(), StepFault>
     requires ungiven { IsUngiven (state_of core.old) origin }
     requires ends { AllEnd core.old.values (caps_of outcome) }
     ensures acts { Acts (Give (state_of core.old) origin outcome) result effects.old.items effects.new.items (state_of core.new) }
@@ -53,7 +53,7 @@ pub fn give_answer(
     id: u32,
     outcome: Outcome,
     effects: &mut Vec<Effect>,
-) -> Result<(), Halt>
+) -> Result<(), StepFault>
     requires ungiven { IsUngiven (state_of core.old) (Origin.Answer id) }
     requires ends { AllEnd core.old.values (caps_of outcome) }
     ensures acts { Acts (GiveAnswer (state_of core.old) id outcome) result effects.old.items effects.new.items (state_of core.new) }
@@ -85,7 +85,7 @@ fn give_open(
     is_tied: bool,
     outcome: Outcome,
     effects: &mut Vec<Effect>,
-) -> Result<(), Halt>
+) -> Result<(), StepFault>
     requires untied { is_tied ≡ false → IsUntied core.old id }
     requires ungiven { IsUngiven (state_of core.old) (Origin.Answer id) }
     requires ends { AllEnd core.old.values (caps_of outcome) }
@@ -95,19 +95,19 @@ fn give_open(
     // Made twice, for the answer and for its gate. Sharing one would cost an allocation each time; of an
     // outcome without capabilities the second takes no memory.
     let kept = KeptOutcome::of(core.alloc, &outcome)?;
-    let gift = KeptOutcome::of(core.alloc, &outcome)?;
+    let fulfillment = KeptOutcome::of(core.alloc, &outcome)?;
     let said = returned(core.alloc, core.values.values(), &mut core.exports, outcome)?;
     let ids = mentions(core.alloc, &said)?;
     add(effects, return_effect(id, said))?;
     let settled = match settle_promises(core, id, is_tied, &kept, effects) {
         Ok(settled) => settled,
-        Err(halt) => {
+        Err(step_fault) => {
             withdraw_exports(&mut core.exports, ids.ids());
-            return Err(halt);
+            return Err(step_fault);
         }
     };
     // No table can be full any more: gates end only now, since that can't be taken back.
-    let ended = end_answer(core, id, kept, gift, ids, &settled);
+    let ended = end_answer(core, id, kept, fulfillment, ids, &settled);
     drop(settled);
     Ok(ended?)
 }
@@ -117,18 +117,18 @@ fn end_answer(
     core: &mut Core,
     id: u32,
     kept: KeptOutcome,
-    gift: KeptOutcome,
+    fulfillment: KeptOutcome,
     ids: Mentions,
     settled: &[SettledPromise],
 ) -> Result<(), AllocError>
     ensures answers { OnOk result (NotesGiven core.old.answers id ids core.new.answers) }
     ensures values { OnOk result (core.new.values ≡ record core.old.values { answers = map.insert core.old.values.answers id (Some kept) }) }
-    ensures gates { let over = over_with core.old.gates.waiting.over (Gift.Answer id gift) in
+    ensures gates { let over = over_with core.old.gates.waiting.over (Fulfillment.Answer id fulfillment) in
         OnOk result (core.new.gates ≡ with_over core.old.gates (over_settled over settled.now)) }
     ensures rest { OnOk result (core.new ≡ record core.old { values = core.new.values; answers = core.new.answers; gates = core.new.gates }) }
 {
     note_given(core.alloc, &mut core.answers, id, ids);
-    core.gates.end(Gift::Answer(id, gift))?;
+    core.gates.end(Fulfillment::Answer(id, fulfillment))?;
     core.values.put_answer(id, Some(kept))?;
     end_gates(core.alloc, &mut core.gates, settled)?;
     Ok(())
@@ -141,7 +141,7 @@ fn give_finished(
     is_tied: bool,
     outcome: Outcome,
     effects: &mut Vec<Effect>,
-) -> Result<(), Halt>
+) -> Result<(), StepFault>
     requires untied { is_tied ≡ false → IsUntied core.old id }
     requires ungiven { IsUngiven (state_of core.old) (Origin.Answer id) }
     requires ends { AllEnd core.old.values (caps_of outcome) }
@@ -170,7 +170,7 @@ fn end_finished(
     ensures { let old = gone (state_of core.old) id kept in
         OnOk result (state_of core.new ≡ settling old core.old.values.promises core.old.exports settled.now) }
 {
-    core.gates.end(Gift::Answer(id, kept))?;
+    core.gates.end(Fulfillment::Answer(id, kept))?;
     remove_answer(core, id);
     end_gates(core.alloc, &mut core.gates, settled)?;
     Ok(())
@@ -184,7 +184,7 @@ fn settle_promises(
     is_tied: bool,
     outcome: &KeptOutcome,
     effects: &mut Vec<Effect>,
-) -> Result<Vec<SettledPromise>, Halt>
+) -> Result<Vec<SettledPromise>, StepFault>
     requires untied { is_tied ≡ false → IsUntied core.old id }
     requires ungiven { IsUngiven (state_of core.old) (Origin.Answer id) }
     requires ends { AllEnd core.old.values (caps_of outcome.now) }
@@ -227,7 +227,7 @@ fn returned(
     values: &Values,
     exports: &mut Exported,
     outcome: Outcome,
-) -> Result<Returned, Halt>
+) -> Result<Returned, StepFault>
     requires { AllEnd values.now (caps_of outcome) }
     ensures said { (s : State) → Leaves (Returns (with_parts s values.now exports.old) outcome) result (with_parts s values.now exports.new) }
     ensures back { IfOk result (λ r. lowered_back exports.new (returned_mentions r) ≡ exports.old) }

@@ -13,7 +13,7 @@ use crate::lists::add;
 use cp_refs::{KeptOutcome, Origin, Outcome};
 use cp_tables::Stage;
 use cp_vat_machine::Effect;
-use cp_vat_state::{Core, Gift, Halt};
+use cp_vat_state::{Core, Fulfillment, StepFault};
 use std::alloc::AllocError;
 
 /// Settles a question of the application's, which is reported unless it finished the question.
@@ -22,7 +22,7 @@ pub fn give_own(
     id: u32,
     outcome: Outcome,
     effects: &mut Vec<Effect>,
-) -> Result<(), Halt>
+) -> Result<(), StepFault>
     requires { IsUngiven (state_of core.old) (Origin.Own id) }
     ensures acts { Acts (GiveOwn (state_of core.old) id outcome) result effects.old.items effects.new.items (state_of core.new) }
     ensures unchanged { IfFault result (core.new ≡ core.old) }
@@ -48,12 +48,12 @@ fn settle_question(
     id: u32,
     outcome: Outcome,
     effects: &mut Vec<Effect>,
-) -> Result<(), Halt>
+) -> Result<(), StepFault>
     ensures acts { GivesQuestion stages.Open core.old id outcome result effects.old.items effects.new.items core.new }
     ensures unchanged { IfFault result (core.new ≡ core.old) }
 {
-    let gift = KeptOutcome::of(core.alloc, &outcome)?;
-    core.gates.end(Gift::Question(id, gift))?;
+    let fulfillment = KeptOutcome::of(core.alloc, &outcome)?;
+    core.gates.end(Fulfillment::Question(id, fulfillment))?;
     let kept = KeptOutcome::of(core.alloc, &outcome)?;
     core.values.settle_question(id, kept)?;
     let _ = core.questions.note_return(id);
@@ -69,8 +69,8 @@ fn settle_question(
 fn end_question(core: &mut Core, id: u32, outcome: &Outcome) -> Result<(), AllocError>
     ensures { OnOk result (state_of core.new ≡ without_question (question_over (state_of core.old) id outcome.now) id) }
 {
-    let gift = KeptOutcome::of(core.alloc, outcome)?;
-    core.gates.end(Gift::Question(id, gift))?;
+    let fulfillment = KeptOutcome::of(core.alloc, outcome)?;
+    core.gates.end(Fulfillment::Question(id, fulfillment))?;
     remove_question(core, id);
     Ok(())
 }

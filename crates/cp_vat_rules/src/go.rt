@@ -5,7 +5,7 @@ ghost use Rattle.cp_refs.specs.Route.{HasRoute};
 ghost use Rattle.cp_vat_machine.specs.Go.{Go, GoOut, GoTo, call_of, finish_after, finish_of};
 ghost use Rattle.cp_vat_state.specs.Halts.{Acts, IfFault};
 ghost use Rattle.cp_vat_state.specs.StateOf.{state_of};
-ghost use Rattle.cp_vat_rules.specs.Going.{MayGo, underway_of};
+ghost use Rattle.cp_vat_rules.specs.Going.{MayGo, pending_call_of};
 ghost use Rattle.cp_vat_rules.specs.Ungiven.{AllEnd, IsUngiven};
 
 use crate::descriptors::{mentioned, write_descriptors};
@@ -17,12 +17,12 @@ use cp_messages::{Call, CapTable, Finish, Message, Payload, SendResultsTo, Targe
 use cp_refs::{Cap, Origin, Outcome, Request, Route, WaitingCall};
 use cp_tables::{LIMIT, Stage};
 use cp_vat_machine::{Effect, Mentions, PeerFault, QuestionEntry};
-use cp_vat_state::{Core, Halt};
+use cp_vat_state::{Core, StepFault};
 use std::alloc::AllocError;
 
 /// A call on its way.
 #[derive(Drop)]
-pub struct Underway {
+pub struct PendingCall {
     pub ticket: u64,
     pub origin: Origin,
     pub request: Request,
@@ -31,13 +31,13 @@ pub struct Underway {
 /// A call goes by the route of a capability. Where a table is full nothing changes.
 pub fn go_to(
     core: &mut Core,
-    call: Underway,
+    call: PendingCall,
     cap: &Cap,
     effects: &mut Vec<Effect>,
-) -> Result<(), Halt>
-    requires may { MayGo (state_of core.old) (underway_of call) }
+) -> Result<(), StepFault>
+    requires may { MayGo (state_of core.old) (pending_call_of call) }
     requires ends { HasRoute core.old.values cap.now }
-    ensures acts { Acts (GoTo (state_of core.old) (underway_of call) cap.now) result effects.old.items effects.new.items (state_of core.new) }
+    ensures acts { Acts (GoTo (state_of core.old) (pending_call_of call) cap.now) result effects.old.items effects.new.items (state_of core.new) }
     ensures unchanged { IfFault result (core.new ≡ core.old) }
 {
     let route = core.values.values().route(cap)?;
@@ -47,12 +47,12 @@ pub fn go_to(
 /// A call goes by its route. Where a table is full nothing changes.
 pub fn go(
     core: &mut Core,
-    call: Underway,
+    call: PendingCall,
     route: Route,
     effects: &mut Vec<Effect>,
-) -> Result<(), Halt>
-    requires { MayGo (state_of core.old) (underway_of call) }
-    ensures acts { Acts (Go (state_of core.old) (underway_of call) route) result effects.old.items effects.new.items (state_of core.new) }
+) -> Result<(), StepFault>
+    requires { MayGo (state_of core.old) (pending_call_of call) }
+    ensures acts { Acts (Go (state_of core.old) (pending_call_of call) route) result effects.old.items effects.new.items (state_of core.new) }
     ensures unchanged { IfFault result (core.new ≡ core.old) }
 {
     match route {
@@ -87,11 +87,11 @@ pub fn finish_effect(question_id: u32, release_result_caps: bool) -> Effect
 /// Delivers a call to an object of the application.
 fn deliver(
     core: &mut Core,
-    call: Underway,
+    call: PendingCall,
     object: u32,
     effects: &mut Vec<Effect>,
-) -> Result<(), Halt>
-    ensures acts { Acts (Go (state_of core.old) (underway_of call) (Route.Deliver object)) result effects.old.items effects.new.items (state_of core.new) }
+) -> Result<(), StepFault>
+    ensures acts { Acts (Go (state_of core.old) (pending_call_of call) (Route.Deliver object)) result effects.old.items effects.new.items (state_of core.new) }
     ensures unchanged { IfFault result (core.new ≡ core.old) }
 {
     note_delivered(core, call.origin);
@@ -109,12 +109,12 @@ fn deliver(
 /// own.
 fn go_out(
     core: &mut Core,
-    call: Underway,
+    call: PendingCall,
     target: Target,
     effects: &mut Vec<Effect>,
-) -> Result<(), Halt>
-    requires { MayGo (state_of core.old) (underway_of call) }
-    ensures acts { Acts (GoOut (state_of core.old) (underway_of call) target call.origin) result effects.old.items effects.new.items (state_of core.new) }
+) -> Result<(), StepFault>
+    requires { MayGo (state_of core.old) (pending_call_of call) }
+    ensures acts { Acts (GoOut (state_of core.old) (pending_call_of call) target call.origin) result effects.old.items effects.new.items (state_of core.new) }
     ensures unchanged { IfFault result (core.new ≡ core.old) }
 {
     match call.origin {
@@ -127,17 +127,17 @@ fn go_out(
 fn forward(
     core: &mut Core,
     answer: u32,
-    call: Underway,
+    call: PendingCall,
     target: Target,
     effects: &mut Vec<Effect>,
-) -> Result<(), Halt>
+) -> Result<(), StepFault>
     requires { AllEnd core.old.values call.request.caps }
-    ensures acts { Acts (GoOut (state_of core.old) (underway_of call) target (Origin.Answer answer)) result effects.old.items effects.new.items (state_of core.new) }
+    ensures acts { Acts (GoOut (state_of core.old) (pending_call_of call) target (Origin.Answer answer)) result effects.old.items effects.new.items (state_of core.new) }
     ensures unchanged { IfFault result (core.new ≡ core.old) }
 {
     // Tested here for the clause; the table tests it again.
     if core.questions.len() == LIMIT {
-        return Err(Halt::Fault(PeerFault::TableFull));
+        return Err(StepFault::Fault(PeerFault::TableFull));
     }
     let question = core.questions.open(QuestionEntry {
         forwards: Some(answer),
@@ -154,10 +154,10 @@ fn forward(
     );
     let table = match said {
         Ok(table) => table,
-        Err(halt) => {
+        Err(step_fault) => {
             // A call that fails changes nothing.
             core.questions.close(question);
-            return Err(halt);
+            return Err(step_fault);
         }
     };
     let ids = mentioned(core.alloc, table.descriptors())?;
@@ -188,13 +188,13 @@ fn call_effect(question_id: u32, target: Target, request: Request, cap_table: Ca
 fn send_own(
     core: &mut Core,
     question: u32,
-    call: Underway,
+    call: PendingCall,
     target: Target,
     effects: &mut Vec<Effect>,
-) -> Result<(), Halt>
+) -> Result<(), StepFault>
     requires ungiven { IsUngiven (state_of core.old) (Origin.Own question) }
     requires ends { AllEnd core.old.values call.request.caps }
-    ensures acts { Acts (GoOut (state_of core.old) (underway_of call) target (Origin.Own question)) result effects.old.items effects.new.items (state_of core.new) }
+    ensures acts { Acts (GoOut (state_of core.old) (pending_call_of call) target (Origin.Own question)) result effects.old.items effects.new.items (state_of core.new) }
     ensures unchanged { IfFault result (core.new ≡ core.old) }
 {
     let Some(entry) = core.questions.get(question) else {

@@ -8,13 +8,13 @@ ghost use Rattle.cp_vat_state.specs.Halts.{Acts};
 ghost use Rattle.cp_vat_state.specs.StateOf.{state_of};
 ghost use Rattle.cp_vat_rules.specs.Going.{AllLeave, MayGo};
 
-use crate::go::{Underway, go_to};
+use crate::go::{PendingCall, go_to};
 use cp_vat_machine::Effect;
-use cp_vat_state::{Core, Halt, Next};
+use cp_vat_state::{Core, Next, StepFault};
 
 /// Waiting calls leave: of those whose gate ended the one with the lowest ticket goes, until none is
 /// left. Then the gates that ended are forgotten.
-pub fn leave(core: &mut Core, effects: &mut Vec<Effect>) -> Result<(), Halt>
+pub fn leave(core: &mut Core, effects: &mut Vec<Effect>) -> Result<(), StepFault>
     requires { Within (state_of core.old) None [] }
     ensures { AllLeave (state_of core.old) result effects.old.items effects.new.items (state_of core.new) }
 {
@@ -31,13 +31,13 @@ pub fn leave(core: &mut Core, effects: &mut Vec<Effect>) -> Result<(), Halt>
 }
 
 /// A call that waited goes, by what its gate gave.
-fn go_on(core: &mut Core, next: Next, effects: &mut Vec<Effect>) -> Result<(), Halt>
+fn go_on(core: &mut Core, next: Next, effects: &mut Vec<Effect>) -> Result<(), StepFault>
     requires may { MayGo (state_of core.old) (underway next.call) }
     requires ends { HasRoute core.old.values next.cap }
     ensures { Acts (GoTo (state_of core.old) (underway next.call) next.cap) result effects.old.items effects.new.items (state_of core.new) }
 {
     let Next { call, cap } = next;
-    let call = Underway {
+    let call = PendingCall {
         ticket: call.ticket,
         origin: call.origin,
         request: call.request,

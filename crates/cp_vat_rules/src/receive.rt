@@ -15,10 +15,10 @@ use cp_messages::Descriptor;
 use cp_refs::{Cap, Caps, KeptOutcome, Path};
 use cp_tables::{LIMIT, Stage};
 use cp_vat_machine::{ImportKind, PeerFault, Tied};
-use cp_vat_state::{Core, Halt};
+use cp_vat_state::{Core, StepFault};
 
 /// Takes in a capability table, one descriptor after another.
-pub fn receive_caps(core: &mut Core, table: &[Descriptor]) -> Result<Caps, Halt>
+pub fn receive_caps(core: &mut Core, table: &[Descriptor]) -> Result<Caps, StepFault>
     requires { list_all is_supported_descriptor table.now ≡ true }
     ensures { Leaves (ReceivesCaps (state_of core.old) table.now) result (state_of core.new) }
 {
@@ -31,7 +31,7 @@ pub fn receive_caps(core: &mut Core, table: &[Descriptor]) -> Result<Caps, Halt>
 
 /// Takes in a descriptor as a capability. The peer's own is imported, and held once more; this end's
 /// is what was exported.
-pub fn receive_cap(core: &mut Core, descriptor: &Descriptor) -> Result<Cap, Halt>
+pub fn receive_cap(core: &mut Core, descriptor: &Descriptor) -> Result<Cap, StepFault>
     requires { is_supported_descriptor descriptor.now ≡ true }
     ensures { Leaves (ReceivesCap (state_of core.old) descriptor.now) result (state_of core.new) }
 {
@@ -60,7 +60,7 @@ pub fn answer_of(core: &Core, id: u32) -> Option<&Option<KeptOutcome>>
     core.values.values().answer(id)
 }
 
-fn receive_import(core: &mut Core, id: u32, kind: ImportKind) -> Result<Cap, Halt>
+fn receive_import(core: &mut Core, id: u32, kind: ImportKind) -> Result<Cap, StepFault>
     ensures { Leaves (Then (λ held. held ≡ held_import (state_of core.old) id kind) (λ new out. out ≡ Ok (Cap.Import id, new))) result (state_of core.new) }
 {
     hold_import(core, id, kind)?;
@@ -68,7 +68,7 @@ fn receive_import(core: &mut Core, id: u32, kind: ImportKind) -> Result<Cap, Hal
 }
 
 /// Holds an import once more, or from now on.
-fn hold_import(core: &mut Core, id: u32, kind: ImportKind) -> Result<(), Halt>
+fn hold_import(core: &mut Core, id: u32, kind: ImportKind) -> Result<(), StepFault>
     ensures { Becomes (held_import (state_of core.old) id kind) result (state_of core.new) }
 {
     let Some(import) = core.imports.get(id) else {
@@ -76,19 +76,19 @@ fn hold_import(core: &mut Core, id: u32, kind: ImportKind) -> Result<(), Halt>
     };
     // A count that can't rise is as a full table.
     if import.count == u32::MAX {
-        return Err(Halt::Fault(PeerFault::TableFull));
+        return Err(StepFault::Fault(PeerFault::TableFull));
     }
     // The import keeps the kind that it was first sent as.
     let _ = core.imports.raise(id, kind);
     Ok(())
 }
 
-fn open_import(core: &mut Core, id: u32, kind: ImportKind) -> Result<(), Halt>
+fn open_import(core: &mut Core, id: u32, kind: ImportKind) -> Result<(), StepFault>
     requires { map.get core.old.imports id ≡ None }
     ensures { Becomes (held_import (state_of core.old) id kind) result (state_of core.new) }
 {
     if core.imports.len() == LIMIT {
-        return Err(Halt::Fault(PeerFault::TableFull));
+        return Err(StepFault::Fault(PeerFault::TableFull));
     }
     core.imports.raise(id, kind)?;
     core.values.put_import(id, None)?;
@@ -96,29 +96,29 @@ fn open_import(core: &mut Core, id: u32, kind: ImportKind) -> Result<(), Halt>
 }
 
 /// What the peer names by one of this end's exports.
-fn receive_export(core: &mut Core, id: u32) -> Result<Cap, Halt>
+fn receive_export(core: &mut Core, id: u32) -> Result<Cap, StepFault>
     ensures { Leaves (λ out. out ≡ taken_export (state_of core.old) (map.get core.old.exports id)) result (state_of core.new) }
 {
     let Some(export) = core.exports.get(id) else {
-        return Err(Halt::Fault(PeerFault::UnknownExport));
+        return Err(StepFault::Fault(PeerFault::UnknownExport));
     };
     Ok(export.kept.copy(core.alloc)?)
 }
 
 /// What the peer names by an answer and a path: what it gave there, or a new promise where it isn't
 /// given.
-fn receive_answer(core: &mut Core, id: u32, path: Path) -> Result<Cap, Halt>
+fn receive_answer(core: &mut Core, id: u32, path: Path) -> Result<Cap, StepFault>
     ensures { Leaves (ReceivesAnswer (state_of core.old) id path (answer_of (state_of core.old) id)) result (state_of core.new) }
 {
     match answer_of(core, id) {
-        None => Err(Halt::Fault(PeerFault::UnknownAnswer)),
+        None => Err(StepFault::Fault(PeerFault::UnknownAnswer)),
         Some(None) => tie(core, id, path),
         Some(Some(outcome)) => Ok(outcome.at(core.alloc, path.fields())?),
     }
 }
 
 /// Opens a promise for what an answer will give at a path.
-fn tie(core: &mut Core, id: u32, path: Path) -> Result<Cap, Halt>
+fn tie(core: &mut Core, id: u32, path: Path) -> Result<Cap, StepFault>
     ensures { Leaves (ReceivesAnswer (state_of core.old) id path (Some None)) result (state_of core.new) }
 {
     let promise = core.values.open_promise()?;

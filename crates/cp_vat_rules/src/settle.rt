@@ -20,7 +20,7 @@ use crate::resolve::resolve_cap;
 use cp_messages::{Message, Resolution, Resolve};
 use cp_refs::{Cap, KeptOutcome, PromiseId, failed};
 use cp_vat_machine::{Effect, Tied};
-use cp_vat_state::{Core, Exported, Gates, Gift, Halt, Hosted, Resolutions};
+use cp_vat_state::{Core, Exported, ExportedCap, Fulfillment, Gates, Resolutions, StepFault};
 use std::alloc::{AllocError, Global};
 
 /// A promise that was settled, whose gate is still to be ended.
@@ -38,7 +38,7 @@ pub fn settle(
     promise: PromiseId,
     value: Cap,
     effects: &mut Vec<Effect>,
-) -> Result<(), Halt>
+) -> Result<(), StepFault>
     requires unsettled { map.get core.old.values.promises promise ≡ Some None }
     requires ends { HasRoute core.old.values value }
     ensures acts { Acts (Settle (state_of core.old) promise value) result effects.old.items effects.new.items (state_of core.new) }
@@ -53,7 +53,7 @@ pub fn settle(
         effects,
     )?;
     core.gates
-        .end(Gift::Promise(settled.promise, settled.value))?;
+        .end(Fulfillment::Promise(settled.promise, settled.value))?;
     Ok(())
 }
 
@@ -66,7 +66,7 @@ pub(crate) fn settle_tied(
     outcome: &KeptOutcome,
     tied: &[Tied],
     effects: &mut Vec<Effect>,
-) -> Result<Vec<SettledPromise>, Halt>
+) -> Result<Vec<SettledPromise>, StepFault>
     requires unsettled { AreOpenOnce values.old.promises tied.now }
     requires ends { AllEnd values.old (caps_of outcome.now) }
     ensures settled { SettlesTied outcome.now tied.now values.old exports.old result effects.old.items effects.new.items values.new exports.new (λ v. v.items) }
@@ -78,10 +78,10 @@ pub(crate) fn settle_tied(
         let value = outcome.at(alloc, one.path.fields())?;
         match settle_value(alloc, values, exports, one.promise, value, effects) {
             Ok(one) => add(&mut settled, one)?,
-            Err(halt) => {
+            Err(step_fault) => {
                 // The call is refused for a full table, so the promises before it are opened again.
                 take_back(values, exports, &settled)?;
-                return Err(halt);
+                return Err(step_fault);
             }
         }
     }
@@ -98,7 +98,7 @@ pub(crate) fn end_gates(
 {
     for one in settled {
         let value = one.value.copy(alloc)?;
-        gates.end(Gift::Promise(one.promise, value))?;
+        gates.end(Fulfillment::Promise(one.promise, value))?;
     }
     Ok(())
 }
@@ -111,7 +111,7 @@ fn settle_value(
     promise: PromiseId,
     value: Cap,
     effects: &mut Vec<Effect>,
-) -> Result<SettledPromise, Halt>
+) -> Result<SettledPromise, StepFault>
     requires unsettled { map.get values.old.promises promise ≡ Some None }
     requires ends { HasRoute values.old value }
     ensures settled { SettlesBy (λ s. Settle s promise value) values.old exports.old result effects.old.items effects.new.items values.new exports.new (λ one. one ∷ []) }
@@ -192,12 +192,12 @@ fn tell(
     promise: PromiseId,
     last: &Cap,
     effects: &mut Vec<Effect>,
-) -> Result<Option<u32>, Halt>
+) -> Result<Option<u32>, StepFault>
     ensures told { TellsOf promise last.now exports.old result effects.old.items effects.new.items exports.new }
     ensures back { IfOk result (λ raised. lowered_back exports.new (option_to_list raised) ≡ exports.old) }
     ensures unchanged { IfFault result (exports.new ≡ exports.old) }
 {
-    let Some(promise_id) = exports.number(Hosted::Promise(promise)) else {
+    let Some(promise_id) = exports.number(ExportedCap::Promise(promise)) else {
         return Ok(None);
     };
     let resolution = resolve_end(alloc, exports, last)?;
@@ -211,7 +211,7 @@ fn tell(
 }
 
 /// How what a promise came to is reported.
-fn resolve_end(alloc: Global, exports: &mut Exported, last: &Cap) -> Result<Resolution, Halt>
+fn resolve_end(alloc: Global, exports: &mut Exported, last: &Cap) -> Result<Resolution, StepFault>
     ensures said { (s : State) → Leaves (ResolvesEnd (with_exports s exports.old) last.now) result (with_exports s exports.new) }
     ensures back { IfOk result (λ r. lowered_back exports.new (given_back r) ≡ exports.old) }
     ensures unchanged { IfFault result (exports.new ≡ exports.old) }

@@ -17,8 +17,8 @@ use Rattle.cp_refs.specs.declared.route.Gate.{Gate}
 use Rattle.cp_refs.specs.declared.route.Gate.TheVariants as gates
 use Rattle.cp_vat_machine.specs.State.{Over, gave, none_over}
 use Rattle.cp_tables.specs.Table.{Table}
-use Rattle.cp_vat_state.specs.declared.gates.Gift.{Gift}
-use Rattle.cp_vat_state.specs.declared.gates.Gift.TheVariants as gifts
+use Rattle.cp_vat_state.specs.declared.gates.Fulfillment.{Fulfillment}
+use Rattle.cp_vat_state.specs.declared.gates.Fulfillment.TheVariants as gifts
 use Rattle.cp_vat_state.specs.Overs.{gate_of, bare_gate, over_with, ended_at, AreOver, AreBelow, NoneOverIn, IsNextIn}
 use Rattle.cp_vat_state.proofs.Indexing.{every, if_some, not_some}
 
@@ -85,11 +85,11 @@ embargoes-more over a x (gates.Embargo b) =
     ]
 
 -- a gate that gives something has ended, and those that had ended stay so
-pub gift-more : (over : Over) (gift : Gift) (g : Gate) → is_some (gave (over_with over gift) g) ≡ (is_some (gave over g) || is_same_gate (gate_of gift) g)
-gift-more over (gifts.Answer a outcome) g = answers-more over a outcome [] g
-gift-more over (gifts.Promise p value) g = promises-more over p value g
-gift-more over (gifts.Question q outcome) g = questions-more over q outcome [] g
-gift-more over (gifts.Embargo n cap) g = embargoes-more over n cap g
+pub fulfillment-more : (over : Over) (fulfillment : Fulfillment) (g : Gate) → is_some (gave (over_with over fulfillment) g) ≡ (is_some (gave over g) || is_same_gate (gate_of fulfillment) g)
+fulfillment-more over (gifts.Answer a outcome) g = answers-more over a outcome [] g
+fulfillment-more over (gifts.Promise p value) g = promises-more over p value g
+fulfillment-more over (gifts.Question q outcome) g = questions-more over q outcome [] g
+fulfillment-more over (gifts.Embargo n cap) g = embargoes-more over n cap g
 
 ended_more : (over new : Over) (gate : Gate) → ((g : Gate) → is_some (gave new g) ≡ (is_some (gave over g) || is_same_gate gate g)) → (o : Option WaitingCall) → ended_at new o ≡ (ended_at over o || waits_at gate o)
 ended_more over new gate more None = refl

@@ -19,9 +19,9 @@ use Rattle.cp_vat_machine.specs.Writing.{HasNoExport, Raise, counted, counted_ou
 use Rattle.cp_vat_machine.specs.declared.fault.PeerFault.{PeerFault}
 use Rattle.cp_vat_machine.specs.declared.fault.PeerFault.TheVariants as faults
 use Rattle.cp_vat_state.specs.Halts.{leaving}
-use Rattle.cp_vat_state.specs.Index.{number_of, with_number, without_number, cap_of, hosted_of, HasCap, AreIndexed}
-use Rattle.cp_vat_state.specs.declared.exports.Hosted.{Hosted}
-use Rattle.cp_vat_state.specs.declared.exports.Hosted.TheVariants as hosted
+use Rattle.cp_vat_state.specs.Index.{number_of, with_number, without_number, cap_of, exported_cap_of, HasCap, AreIndexed}
+use Rattle.cp_vat_state.specs.declared.exports.ExportedCap.{ExportedCap}
+use Rattle.cp_vat_state.specs.declared.exports.ExportedCap.TheVariants as hosted
 use Rattle.cp_vat_state.specs.declared.exports.Index.{Index}
 
 abbrev Exports : Type 0
@@ -40,7 +40,7 @@ abbrev count_in : Option (Counted Cap) → ℕ
 count_in None = 0
 count_in (Some entry) = entry.count
 
-abbrev cap_in : Option Hosted → Cap
+abbrev cap_in : Option ExportedCap → Cap
 cap_in None = caps.None
 cap_in (Some h) = cap_of h
 
@@ -73,11 +73,11 @@ every P None h = tt
 every P (Some x) h = h x refl
 
 -- a capability that isn't there yet has its number from now on, and any other one keeps its own
-number-same : (index : Index) (h : Hosted) (e : ℕ) → number_of (with_number index (cap_of h) e) (cap_of h) ≡ Some e
+number-same : (index : Index) (h : ExportedCap) (e : ℕ) → number_of (with_number index (cap_of h) e) (cap_of h) ≡ Some e
 number-same index (hosted.Object k) e = get-insert_same index.objects k e
 number-same index (hosted.Promise p) e = get-insert_same index.promises p e
 
-number-new : (index : Index) (h : Hosted) (e n : ℕ) (c : Cap) → number_of (with_number index (cap_of h) e) c ≡ Some n → ((c ≡ cap_of h) × (n ≡ e)) ⊎ (number_of index c ≡ Some n)
+number-new : (index : Index) (h : ExportedCap) (e n : ℕ) (c : Cap) → number_of (with_number index (cap_of h) e) c ≡ Some n → ((c ≡ cap_of h) × (n ≡ e)) ⊎ (number_of index c ≡ Some n)
 number-new index (hosted.Object k) e n (caps.Object j) is =
     elim (cases_eq j k) [
       | inl same ↦ inl (ap caps.Object same, ap (number_in n) (sym is ∙ ap (λ q. get (insert index.objects k e) q) same ∙ get-insert_same index.objects k e))
@@ -99,7 +99,7 @@ number-new index (hosted.Promise p) e n (caps.Pipelined q path) is = inr is
 number-new index (hosted.Object k) e n (caps.Broken x) is = inr is
 number-new index (hosted.Promise p) e n (caps.Broken x) is = inr is
 
-number-other : (index : Index) (h : Hosted) (e : ℕ) (c : Cap) → c ≢ cap_of h → number_of (with_number index (cap_of h) e) c ≡ number_of index c
+number-other : (index : Index) (h : ExportedCap) (e : ℕ) (c : Cap) → c ≢ cap_of h → number_of (with_number index (cap_of h) e) c ≡ number_of index c
 number-other index (hosted.Object k) e (caps.Object j) other = get-insert_other index.objects k j e (λ same. other (ap caps.Object same))
 number-other index (hosted.Promise p) e (caps.Promise j) other = get-insert_other index.promises p j e (λ same. other (ap caps.Promise same))
 number-other index (hosted.Object k) e (caps.Promise p) other = refl
@@ -114,7 +114,7 @@ number-other index (hosted.Object k) e (caps.Broken x) other = refl
 number-other index (hosted.Promise p) e (caps.Broken x) other = refl
 
 -- a capability that is taken out has no number, and any other one keeps its own
-number-without : (index : Index) (h : Hosted) (n : ℕ) (c : Cap) → number_of (without_number index (cap_of h)) c ≡ Some n → (c ≢ cap_of h) × (number_of index c ≡ Some n)
+number-without : (index : Index) (h : ExportedCap) (n : ℕ) (c : Cap) → number_of (without_number index (cap_of h)) c ≡ Some n → (c ≢ cap_of h) × (number_of index c ≡ Some n)
 number-without index (hosted.Object k) n (caps.Object j) is =
     elim (cases_eq j k) [
       | inl same ↦ absurd (not_some n (sym (get-remove_same index.objects k) ∙ ap (λ q. get (remove index.objects k) q) (sym same) ∙ is))
@@ -136,7 +136,7 @@ number-without index (hosted.Promise p) n (caps.Pipelined q path) is = absurd (n
 number-without index (hosted.Object k) n (caps.Broken x) is = absurd (not_some n is)
 number-without index (hosted.Promise p) n (caps.Broken x) is = absurd (not_some n is)
 
-number-left : (index : Index) (h : Hosted) (c : Cap) → c ≢ cap_of h → number_of (without_number index (cap_of h)) c ≡ number_of index c
+number-left : (index : Index) (h : ExportedCap) (c : Cap) → c ≢ cap_of h → number_of (without_number index (cap_of h)) c ≡ number_of index c
 number-left index (hosted.Object k) (caps.Object j) other = get-remove_other index.objects k j (λ same. other (ap caps.Object same))
 number-left index (hosted.Promise p) (caps.Promise j) other = get-remove_other index.promises p j (λ same. other (ap caps.Promise same))
 number-left index (hosted.Object k) (caps.Promise p) other = refl
@@ -150,7 +150,7 @@ number-left index (hosted.Promise p) (caps.Pipelined q path) other = refl
 number-left index (hosted.Object k) (caps.Broken x) other = refl
 number-left index (hosted.Promise p) (caps.Broken x) other = refl
 
-hosted-back : (c : Cap) (h : Hosted) → hosted_of c ≡ Some h → c ≡ cap_of h
+hosted-back : (c : Cap) (h : ExportedCap) → exported_cap_of c ≡ Some h → c ≡ cap_of h
 hosted-back (caps.Object k) h is = ap (λ o. cap_in o) is
 hosted-back (caps.Promise p) h is = ap (λ o. cap_in o) is
 hosted-back caps.None h is = absurd (not_some h is)
@@ -185,7 +185,7 @@ module _ (exports : Exports) (index : Index) (is : AreIndexed exports index) whe
       }
 
   -- an export may be opened
-  pub indexed-opened : (e : ℕ) (h : Hosted) → get exports e ≡ None → number_of index (cap_of h) ≡ None → AreIndexed (insert exports e (new_counted (cap_of h))) (with_number index (cap_of h) e)
+  pub indexed-opened : (e : ℕ) (h : ExportedCap) → get exports e ≡ None → number_of index (cap_of h) ≡ None → AreIndexed (insert exports e (new_counted (cap_of h))) (with_number index (cap_of h) e)
   indexed-opened e h free none =
       record {
         kept =
@@ -210,7 +210,7 @@ module _ (exports : Exports) (index : Index) (is : AreIndexed exports index) whe
       }
 
   -- an export may be taken out
-  pub indexed-removed : (e : ℕ) (entry : Counted Cap) (h : Hosted) → get exports e ≡ Some entry → hosted_of entry.kept ≡ Some h → AreIndexed (remove exports e) (without_number index (cap_of h))
+  pub indexed-removed : (e : ℕ) (entry : Counted Cap) (h : ExportedCap) → get exports e ≡ Some entry → exported_cap_of entry.kept ≡ Some h → AreIndexed (remove exports e) (without_number index (cap_of h))
   indexed-removed e entry h there by =
       let cap_is : entry.kept ≡ cap_of h = hosted-back entry.kept h by in
       let here : number_of index (cap_of h) ≡ Some e = ap (number_of index) (sym cap_is) ∙ if_some (λ entry. number_of index entry.kept ≡ Some e) _ _ there (is.kept e) in

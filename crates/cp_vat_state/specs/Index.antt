@@ -5,19 +5,19 @@ use Rattle.cp_tables.specs.Table.{Table}
 use Rattle.cp_tables.specs.declared.counted.Counted.{Counted}
 use Rattle.cp_refs.specs.declared.cap.Cap.{Cap}
 use Rattle.cp_refs.specs.declared.cap.Cap.TheVariants as caps
-use Rattle.cp_vat_state.specs.declared.exports.Hosted.{Hosted}
-use Rattle.cp_vat_state.specs.declared.exports.Hosted.TheVariants as hosted
+use Rattle.cp_vat_state.specs.declared.exports.ExportedCap.{ExportedCap}
+use Rattle.cp_vat_state.specs.declared.exports.ExportedCap.TheVariants as hosted
 use Rattle.cp_vat_state.specs.declared.exports.Index.{Index}
 
 -- the capability, and back
-abbrev pub cap_of : Hosted → Cap
+abbrev pub cap_of : ExportedCap → Cap
 cap_of (hosted.Object k) = caps.Object k
 cap_of (hosted.Promise p) = caps.Promise p
 
-abbrev pub hosted_of : Cap → Option Hosted
-hosted_of (caps.Object k) = Some (hosted.Object k)
-hosted_of (caps.Promise p) = Some (hosted.Promise p)
-hosted_of other = None
+abbrev pub exported_cap_of : Cap → Option ExportedCap
+exported_cap_of (caps.Object k) = Some (hosted.Object k)
+exported_cap_of (caps.Promise p) = Some (hosted.Promise p)
+exported_cap_of other = None
 
 -- the number of a capability's export
 abbrev pub number_of : Index → Cap → Option ℕ

@@ -9,13 +9,13 @@ use Rattle.cp_refs.specs.declared.call.WaitingCall.{WaitingCall}
 use Rattle.cp_refs.specs.declared.route.Gate.{Gate}
 use Rattle.cp_refs.specs.declared.route.Gate.TheVariants as gates
 use Rattle.cp_vat_machine.specs.State.{Over, Waiting, gave}
-use Rattle.cp_vat_state.specs.declared.gates.Gift.{Gift}
-use Rattle.cp_vat_state.specs.declared.gates.Gift.TheVariants as gifts
+use Rattle.cp_vat_state.specs.declared.gates.Fulfillment.{Fulfillment}
+use Rattle.cp_vat_state.specs.declared.gates.Fulfillment.TheVariants as gifts
 use Rattle.cp_vat_state.specs.declared.overs.EarlierGates.{EarlierGates}
 use Rattle.cp_vat_state.specs.declared.overs.Overs.{Overs}
 
 -- the gate that ends, at no path
-abbrev pub gate_of : Gift → Gate
+abbrev pub gate_of : Fulfillment → Gate
 gate_of (gifts.Answer a outcome) = gates.Answer a []
 gate_of (gifts.Promise p value) = gates.Promise p
 gate_of (gifts.Question q outcome) = gates.Question q []
@@ -29,7 +29,7 @@ bare_gate (gates.Question q path) = gates.Question q []
 bare_gate (gates.Embargo n) = gates.Embargo n
 
 -- the gates that ended, with one more
-abbrev pub over_with : Over → Gift → Over
+abbrev pub over_with : Over → Fulfillment → Over
 over_with over (gifts.Answer a outcome) = record over { answers = insert over.answers a outcome }
 over_with over (gifts.Promise p value) = record over { promises = insert over.promises p value }
 over_with over (gifts.Question q outcome) = record over { questions = insert over.questions q outcome }
@@ -39,9 +39,9 @@ over_with over (gifts.Embargo n cap) = record over { embargoes = insert over.emb
 abbrev pub earlier_of : EarlierGates → Over
 earlier_of e = record { answers = e.answers; promises = e.promises; questions = e.questions; embargoes = e.embargoes }
 
-abbrev pub with_last : Over → Option Gift → Over
+abbrev pub with_last : Over → Option Fulfillment → Over
 with_last over None = over
-with_last over (Some gift) = over_with over gift
+with_last over (Some fulfillment) = over_with over fulfillment
 
 abbrev pub over_of : Overs → Over
 over_of o = with_last (earlier_of o.earlier) o.last

@@ -3,7 +3,7 @@
 ghost use Rattle.std.specs.Prelude.{◌≡◌, Some, None, IfOk, OnOk, OnErr, MatchOption, option_copied};
 ghost use Rattle.std.specs.FinMap as map;
 
-use crate::halt::Halt;
+use crate::step_fault::StepFault;
 use cp_refs::{Cap, PromiseId};
 use cp_tables::{Counted, Entries, Exports, LIMIT};
 use cp_vat_machine::PeerFault;
@@ -12,32 +12,32 @@ use std::marker::Model;
 
 /// A capability that can be exported.
 #[derive(Clone, Copy)]
-pub enum Hosted {
+pub enum ExportedCap {
     Object(u32),
     Promise(PromiseId),
 }
 
-impl Hosted {
+impl ExportedCap {
     ghost use Rattle.std.specs.Prelude.{◌≡◌};
-    ghost use Rattle.cp_vat_state.specs.Index.{cap_of, hosted_of};
+    ghost use Rattle.cp_vat_state.specs.Index.{cap_of, exported_cap_of};
 
     /// The capability.
     pub fn cap(self) -> Cap
         ensures { result ≡ cap_of self }
     {
         match self {
-            Hosted::Object(object) => Cap::Object(object),
-            Hosted::Promise(id) => Cap::Promise(id),
+            ExportedCap::Object(object) => Cap::Object(object),
+            ExportedCap::Promise(id) => Cap::Promise(id),
         }
     }
 
     /// The capability, if it is one that can be exported.
-    pub fn of(cap: &Cap) -> Option<Hosted>
-        ensures { result ≡ hosted_of cap.now }
+    pub fn of(cap: &Cap) -> Option<ExportedCap>
+        ensures { result ≡ exported_cap_of cap.now }
     {
         match cap {
-            Cap::Object(object) => Some(Hosted::Object(*object)),
-            Cap::Promise(id) => Some(Hosted::Promise(*id)),
+            Cap::Object(object) => Some(ExportedCap::Object(*object)),
+            Cap::Promise(id) => Some(ExportedCap::Promise(*id)),
             _ => None,
         }
     }
@@ -110,14 +110,14 @@ impl Exported {
     }
 
     /// The number of a capability's export.
-    pub fn number(&self, hosted: Hosted) -> Option<u32>
+    pub fn number(&self, hosted: ExportedCap) -> Option<u32>
         ensures { (s : State) → MatchOption result (HasNoExport (with_exports s self.now) (cap_of hosted)) (λ e. IsExport (with_exports s self.now) e (cap_of hosted)) }
     {
         self.index.number(hosted)
     }
 
     /// Counts a capability's export once more, or opens one for it under a free number.
-    pub fn raise(&mut self, hosted: Hosted) -> Result<u32, Halt>
+    pub fn raise(&mut self, hosted: ExportedCap) -> Result<u32, StepFault>
         ensures raised { (s : State) → Leaves (Raise (with_exports s self.old) (cap_of hosted)) result (with_exports s self.new) }
         ensures back { IfOk result (λ id. lowered_by self.new id 1 ≡ self.old) }
         ensures unchanged { IfFault result (self.new ≡ self.old) }
@@ -129,14 +129,14 @@ impl Exported {
             };
             // A count that can't rise is as a full table.
             if export.count == u32::MAX {
-                return Err(Halt::Fault(PeerFault::TableFull));
+                return Err(StepFault::Fault(PeerFault::TableFull));
             }
             // An export that exists keeps its capability, so none is handed over.
             let _ = self.exports.raise(Some(id), Cap::None);
             return Ok(id);
         }
         if self.exports.len() == LIMIT {
-            return Err(Halt::Fault(PeerFault::TableFull));
+            return Err(StepFault::Fault(PeerFault::TableFull));
         }
         let id = self.exports.raise(None, hosted.cap())?;
         // Without its index entry the export would be opened twice.
@@ -166,7 +166,7 @@ impl Exported {
             return Err(PeerFault::ReleaseTooLarge);
         }
         if export.count == n {
-            let Some(hosted) = Hosted::of(&export.kept) else {
+            let Some(hosted) = ExportedCap::of(&export.kept) else {
                 unreachable!()
             };
             self.index.remove(hosted);
@@ -189,31 +189,31 @@ impl Index {
     ghost use Rattle.std.specs.Prelude.{◌≡◌, OnOk, OnErr};
     ghost use Rattle.cp_vat_state.specs.Index.{number_of, with_number, without_number, cap_of};
 
-    fn number(&self, hosted: Hosted) -> Option<u32>
+    fn number(&self, hosted: ExportedCap) -> Option<u32>
         ensures { result ≡ number_of self.now (cap_of hosted) }
     {
         match hosted {
-            Hosted::Object(object) => self.objects.get(object).copied(),
-            Hosted::Promise(id) => self.promises.get(id).copied(),
+            ExportedCap::Object(object) => self.objects.get(object).copied(),
+            ExportedCap::Promise(id) => self.promises.get(id).copied(),
         }
     }
 
-    fn put(&mut self, hosted: Hosted, number: u32) -> Result<(), AllocError>
+    fn put(&mut self, hosted: ExportedCap, number: u32) -> Result<(), AllocError>
         ensures put { OnOk result (self.new ≡ with_number self.old (cap_of hosted) number) }
         ensures err { OnErr result (self.new ≡ self.old) }
     {
         match hosted {
-            Hosted::Object(object) => self.objects.put(object, number),
-            Hosted::Promise(id) => self.promises.put(id, number),
+            ExportedCap::Object(object) => self.objects.put(object, number),
+            ExportedCap::Promise(id) => self.promises.put(id, number),
         }
     }
 
-    fn remove(&mut self, hosted: Hosted)
+    fn remove(&mut self, hosted: ExportedCap)
         ensures { self.new ≡ without_number self.old (cap_of hosted) }
     {
         match hosted {
-            Hosted::Object(object) => drop(self.objects.remove(object)),
-            Hosted::Promise(id) => drop(self.promises.remove(id)),
+            ExportedCap::Object(object) => drop(self.objects.remove(object)),
+            ExportedCap::Promise(id) => drop(self.promises.remove(id)),
         }
     }
 }

@@ -17,7 +17,7 @@ use std::collections::btree_map::Iter;
 use std::marker::Model;
 
 /// What ends a gate, with what the gate gives.
-pub enum Gift {
+pub enum Fulfillment {
     Answer(u32, KeptOutcome),
     Promise(PromiseId, Cap),
     Question(u32, KeptOutcome),
@@ -25,18 +25,18 @@ pub enum Gift {
 }
 
 // Not derived: a crate that lets one go calls this function, and need not prove the drop of all that it holds.
-impl Drop for Gift {
+impl Drop for Fulfillment {
     fn drop(self) {
         match self {
-            Gift::Answer(_, _) => {}
-            Gift::Promise(_, _) => {}
-            Gift::Question(_, _) => {}
-            Gift::Embargo(_, _) => {}
+            Fulfillment::Answer(_, _) => {}
+            Fulfillment::Promise(_, _) => {}
+            Fulfillment::Question(_, _) => {}
+            Fulfillment::Embargo(_, _) => {}
         }
     }
 }
 
-impl Gift {
+impl Fulfillment {
     ghost use Rattle.std.specs.Prelude.{◌≡◌, OnOk};
     ghost use Rattle.cp_vat_state.specs.Overs.{earlier_of, gate_of, over_with};
 
@@ -45,10 +45,10 @@ impl Gift {
         ensures { result ≡ gate_of self.now }
     {
         match self {
-            Gift::Answer(id, _) => Gate::Answer(*id, Path::new(Vec::new(alloc))),
-            Gift::Promise(id, _) => Gate::Promise(*id),
-            Gift::Question(id, _) => Gate::Question(*id, Path::new(Vec::new(alloc))),
-            Gift::Embargo(id, _) => Gate::Embargo(*id),
+            Fulfillment::Answer(id, _) => Gate::Answer(*id, Path::new(Vec::new(alloc))),
+            Fulfillment::Promise(id, _) => Gate::Promise(*id),
+            Fulfillment::Question(id, _) => Gate::Question(*id, Path::new(Vec::new(alloc))),
+            Fulfillment::Embargo(id, _) => Gate::Embargo(*id),
         }
     }
 
@@ -57,10 +57,10 @@ impl Gift {
         ensures { OnOk result (earlier_of earlier.new ≡ over_with (earlier_of earlier.old) self) }
     {
         match self {
-            Gift::Answer(id, outcome) => earlier.answers.put(id, outcome),
-            Gift::Promise(id, value) => earlier.promises.put(id, value),
-            Gift::Question(id, outcome) => earlier.questions.put(id, outcome),
-            Gift::Embargo(id, cap) => earlier.embargoes.put(id, cap),
+            Fulfillment::Answer(id, outcome) => earlier.answers.put(id, outcome),
+            Fulfillment::Promise(id, value) => earlier.promises.put(id, value),
+            Fulfillment::Question(id, outcome) => earlier.questions.put(id, outcome),
+            Fulfillment::Embargo(id, cap) => earlier.embargoes.put(id, cap),
         }
     }
 }
@@ -229,15 +229,15 @@ impl Gates {
     }
 
     /// Ends a gate, with what it gives. An answer and a question end at every path.
-    pub fn end(&mut self, gift: Gift) -> Result<(), AllocError>
-        ensures { OnOk result (self.new ≡ with_over self.old (over_with self.old.waiting.over gift)) }
+    pub fn end(&mut self, fulfillment: Fulfillment) -> Result<(), AllocError>
+        ensures { OnOk result (self.new ≡ with_over self.old (over_with self.old.waiting.over fulfillment)) }
     {
         if self.is_torn {
             return Err(AllocError);
         }
-        let gate = gift.gate(self.alloc);
+        let gate = fulfillment.gate(self.alloc);
         self.calls.end(&gate)?;
-        if let Err(error) = self.over.put(gift) {
+        if let Err(error) = self.over.put(fulfillment) {
             self.is_torn = true;
             return Err(error);
         }

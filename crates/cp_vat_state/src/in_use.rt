@@ -6,7 +6,7 @@ ghost use Rattle.std.specs.FinMap as map;
 ghost use Rattle.cp_vat_machine.specs.InUse.{is_bootstrap, is_object, is_promise, is_unsettled};
 ghost use Rattle.cp_vat_state.specs.Sought.{is_sought};
 
-use crate::exports::{Exported, Hosted};
+use crate::exports::{Exported, ExportedCap};
 use crate::parts::Core;
 use crate::sought::Sought;
 use cp_refs::{PromiseId, Values};
@@ -103,7 +103,7 @@ fn is_open(values: &Values, id: PromiseId) -> bool
 fn is_object_exported(exports: &Exported, id: u32) -> bool
     ensures { result ≡ list_any (λ entry. is_object id entry.kept) (map.values exports.now) }
 {
-    exports.number(Hosted::Object(id)).is_some()
+    exports.number(ExportedCap::Object(id)).is_some()
 }
 
 /// Whether a Bootstrap gets the object.
@@ -119,5 +119,5 @@ fn is_bootstrap(bootstrap: Option<u32>, id: u32) -> bool
 fn is_exported(exports: &Exported, id: PromiseId) -> bool
     ensures { result ≡ list_any (λ entry. is_promise id entry.kept) (map.values exports.now) }
 {
-    exports.number(Hosted::Promise(id)).is_some()
+    exports.number(ExportedCap::Promise(id)).is_some()
 }

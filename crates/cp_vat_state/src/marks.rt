@@ -8,8 +8,8 @@ ghost use Rattle.cp_vat_machine.specs.Resolving.{is_under};
 ghost use Rattle.cp_vat_state.specs.Under.{unmarked};
 
 use crate::counted_embargoes::CountedEmbargoes;
-use crate::halt::Halt;
 use crate::path_marks::PathMarks;
+use crate::step_fault::StepFault;
 use cp_refs::{Cap, Path, PromiseId};
 use cp_tables::{Entries, LIMIT};
 use cp_vat_machine::PeerFault;
@@ -119,7 +119,7 @@ impl Marks {
     }
 
     /// Marks a reference, unless it is marked.
-    pub fn put_mark(&mut self, reference: &Cap) -> Result<(), Halt>
+    pub fn put_mark(&mut self, reference: &Cap) -> Result<(), StepFault>
         ensures marked { (s : State) → Becomes (marked (with_marks s self.old) reference.now (mark_of (with_marks s self.old) reference.now)) result (with_marks s self.new) }
         ensures unchanged { IfFault result (self.new ≡ self.old) }
     {
@@ -131,7 +131,7 @@ impl Marks {
             Cap::Pipelined(question, path) => {
                 // The marks of imports are bounded by the imports; those of paths need a bound of their own.
                 if self.paths.len() >= LIMIT {
-                    return Err(Halt::Fault(PeerFault::TableFull));
+                    return Err(StepFault::Fault(PeerFault::TableFull));
                 }
                 Ok(self.paths.mark(*question, path.fields())?)
             }
@@ -155,14 +155,14 @@ impl Marks {
     }
 
     /// Opens an embargo under a free number, for a reference that is marked. It leads to `value`.
-    pub fn open_embargo(&mut self, reference: &Cap, value: Cap) -> Result<u32, Halt>
+    pub fn open_embargo(&mut self, reference: &Cap, value: Cap) -> Result<u32, StepFault>
         requires { (s : State) → IsSome (mark_of (with_marks s self.old) reference.now) }
         ensures fresh { Meets (Fresh self.old.embargoes) result }
         ensures opened { IfOk result (λ n. (s : State) → with_marks s self.new ≡ with_mark (with_marks s (with_embargo self.old n value)) reference.now (Some n)) }
         ensures unchanged { IfFault result (self.new ≡ self.old) }
     {
         if self.embargoes.len() == LIMIT {
-            return Err(Halt::Fault(PeerFault::TableFull));
+            return Err(StepFault::Fault(PeerFault::TableFull));
         }
         let id = self.embargoes.open(value)?;
         match reference {

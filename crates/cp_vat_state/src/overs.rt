@@ -7,7 +7,7 @@ ghost use Rattle.cp_refs.specs.At.{cap_at};
 ghost use Rattle.cp_vat_machine.specs.State.{gave, none_over};
 ghost use Rattle.cp_vat_state.specs.Overs.{earlier_of, over_of, over_with};
 
-use crate::gates::Gift;
+use crate::gates::Fulfillment;
 use cp_refs::{Cap, Gate, KeptOutcome, Path, PromiseId};
 use cp_tables::Entries;
 use std::alloc::{AllocError, Global};
@@ -15,7 +15,7 @@ use std::alloc::{AllocError, Global};
 /// What the gates gave that ended in an event.
 pub(crate) struct Overs {
     /// What the gate gave that ended last. Mostly it is the only one, and the maps stay empty.
-    last: Option<Gift>,
+    last: Option<Fulfillment>,
     earlier: EarlierGates,
 }
 
@@ -41,10 +41,10 @@ impl Overs {
     }
 
     /// One more gate ended, and gave this.
-    pub(crate) fn put(&mut self, gift: Gift) -> Result<(), AllocError>
-        ensures { OnOk result (over_of self.new ≡ over_with (over_of self.old) gift) }
+    pub(crate) fn put(&mut self, fulfillment: Fulfillment) -> Result<(), AllocError>
+        ensures { OnOk result (over_of self.new ≡ over_with (over_of self.old) fulfillment) }
     {
-        match self.last.replace(gift) {
+        match self.last.replace(fulfillment) {
             Some(before) => before.put_into(&mut self.earlier),
             None => Ok(()),
         }
@@ -78,7 +78,7 @@ impl Overs {
         ensures { option_copied result ≡ map.get (over_of self.now).answers id }
     {
         match &self.last {
-            Some(Gift::Answer(number, outcome)) => {
+            Some(Fulfillment::Answer(number, outcome)) => {
                 if *number == id {
                     Some(outcome)
                 } else {
@@ -93,7 +93,7 @@ impl Overs {
         ensures { option_copied result ≡ map.get (over_of self.now).promises id }
     {
         match &self.last {
-            Some(Gift::Promise(number, value)) => {
+            Some(Fulfillment::Promise(number, value)) => {
                 if *number == id {
                     Some(value)
                 } else {
@@ -108,7 +108,7 @@ impl Overs {
         ensures { option_copied result ≡ map.get (over_of self.now).questions id }
     {
         match &self.last {
-            Some(Gift::Question(number, outcome)) => {
+            Some(Fulfillment::Question(number, outcome)) => {
                 if *number == id {
                     Some(outcome)
                 } else {
@@ -123,7 +123,7 @@ impl Overs {
         ensures { option_copied result ≡ map.get (over_of self.now).embargoes id }
     {
         match &self.last {
-            Some(Gift::Embargo(number, cap)) => {
+            Some(Fulfillment::Embargo(number, cap)) => {
                 if *number == id {
                     Some(cap)
                 } else {

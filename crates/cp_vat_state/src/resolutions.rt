@@ -7,9 +7,9 @@ ghost use Rattle.cp_vat_machine.specs.InUse.{is_import};
 ghost use Rattle.cp_vat_state.specs.Sought.{is_sought};
 ghost use Rattle.cp_vat_state.specs.Holding.{kept_by, import_values, values_of_others, own_uses};
 
-use crate::halt::Halt;
 use crate::kept::KeptContents;
 use crate::sought::Sought;
+use crate::step_fault::StepFault;
 use cp_refs::{Cap, KeptOutcome, PromiseId, QuestionKind, QuestionState, Values};
 use cp_tables::{Embargoes, LIMIT};
 use cp_vat_machine::PeerFault;
@@ -83,13 +83,13 @@ impl Resolutions {
     }
 
     /// Opens a promise under a free number.
-    pub fn open_promise(&mut self) -> Result<PromiseId, Halt>
+    pub fn open_promise(&mut self) -> Result<PromiseId, StepFault>
         ensures fresh { Meets (Fresh self.old.promises) result }
         ensures opened { IfOk result (λ p. self.new ≡ record self.old { promises = map.insert self.old.promises p None }) }
         ensures err { OnErr result (self.new ≡ self.old) }
     {
         if self.numbers.len() == LIMIT {
-            return Err(Halt::Fault(PeerFault::TableFull));
+            return Err(StepFault::Fault(PeerFault::TableFull));
         }
         let id = self.numbers.open(())?;
         match self.values.put_promise(id, None) {

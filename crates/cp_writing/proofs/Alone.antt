@@ -6,7 +6,7 @@ use Rattle.cp_words.specs.declared.pointer.ElementSize.TheVariants as sizes
 use Rattle.cp_words.specs.declared.pointer.Pointer.TheVariants as pointers
 use Rattle.cp_words.specs.declared.kind.BodyKind.{BodyKind}
 use Rattle.cp_words.specs.declared.kind.BodyKind.TheVariants as kinds
-use Rattle.cp_writing.specs.declared.sheet.Capacity.{Capacity}
+use Rattle.cp_writing.specs.declared.arena.Capacity.{Capacity}
 use Rattle.cp_tree.specs.Node.{element_size, element_count, Node, null, cap, struct, list, ptrs, structs, Nodes, no_nodes, node, Bodies, no_bodies, body, count, number_of}
 use Rattle.cp_writing.specs.Sheets.{Written, segments_of, place_by, with_segment_for}
 use Rattle.cp_writing.specs.Writing.{tree_by, row_by, bodies_by, struct_begun, ptrs_begun, structs_begun, bodies_blank}
@@ -17,11 +17,11 @@ abbrev pub Alone : Written → Type 0
 Alone F = length F.full ≡ 0
 
 module _ (capacity : Capacity) (one : capacity.segments ≤ 1) where
-  alone_place : (s p : ℕ) (k : BodyKind) (size : ℕ) (F : Written) → Alone F → Alone (place_by capacity s p k size F).sheet
+  alone_place : (s p : ℕ) (k : BodyKind) (size : ℕ) (F : Written) → Alone F → Alone (place_by capacity s p k size F).arena
   alone_place s p k size F h =
       let G = with_segment_for capacity s size F in
       let g : Alone G = with_room_keeps Alone capacity s size F h (λ more. absurd (omega (arith, more, one))) in
-      place-cases (λ x. Alone x.sheet) s p k size G (λ direct. full-put G s p _ ∙ g) (λ some other. full-put G s p _ ∙ g)
+      place-cases (λ x. Alone x.arena) s p k size G (λ direct. full-put G s p _ ∙ g) (λ some other. full-put G s p _ ∙ g)
 
   mutual
     alone_tree : (t : Node) (s p : ℕ) (F : Written) → Alone F → Alone (tree_by capacity s p t F)
@@ -29,14 +29,14 @@ module _ (capacity : Capacity) (one : capacity.segments ≤ 1) where
     alone_tree (cap i) s p F h = full-put F s p (word_of (pointers.Cap i)) ∙ h
     alone_tree (struct ws ts) s p F h =
         let x = struct_begun capacity s p ws (count ts) F in
-        either Alone (length ws + count ts) _ _ (full-put F s p (word_of (pointers.Struct (negsuc 0) 0 0)) ∙ h) (alone_row ts x.at.segment x.at.word x.sheet (alone_place s p (kinds.Struct (length ws) (count ts)) (length ws + count ts) F h))
+        either Alone (length ws + count ts) _ _ (full-put F s p (word_of (pointers.Struct (negsuc 0) 0 0)) ∙ h) (alone_row ts x.at.segment x.at.word x.arena (alone_place s p (kinds.Struct (length ws) (count ts)) (length ws + count ts) F h))
     alone_tree (list es) s p F h = alone_place s p (kinds.List (element_size es) (element_count es)) (words_for (element_size es) (element_count es)) F h
     alone_tree (ptrs ts) s p F h =
         let x = ptrs_begun capacity s p (count ts) F in
-        alone_row ts x.at.segment x.at.word x.sheet (alone_place s p (kinds.List sizes.Pointer (count ts)) (count ts) F h)
+        alone_row ts x.at.segment x.at.word x.arena (alone_place s p (kinds.List sizes.Pointer (count ts)) (count ts) F h)
     alone_tree (structs d n bs) s p F h =
         let x = structs_begun capacity s p d n (number_of bs) (bodies_blank bs) F in
-        alone_bodies bs x.at.segment x.at.word d n x.sheet (alone_place s p (kinds.List sizes.Composite (number_of bs * (d + n))) (number_of bs * (d + n) + 1) F h)
+        alone_bodies bs x.at.segment x.at.word d n x.arena (alone_place s p (kinds.List sizes.Composite (number_of bs * (d + n))) (number_of bs * (d + n) + 1) F h)
 
     alone_row : (ts : Nodes) (s p : ℕ) (F : Written) → Alone F → Alone (row_by capacity s p ts F)
     alone_row no_nodes s p F h = h

@@ -10,7 +10,7 @@ use Rattle.cp_words.specs.declared.kind.BodyKind.TheVariants as kinds
 use Rattle.cp_tree.specs.Node.{element_size, element_count, Node, null, cap, struct, list, ptrs, structs, Nodes, no_nodes, node, Bodies, no_bodies, body, count, number_of, cost, total_cost, body_cost}
 use Rattle.cp_tree.specs.Shaped.{Shaped, EachShaped, EachEven}
 use Rattle.cp_tree.specs.declared.fault.WriteFault.TheVariants as faults
-use Rattle.cp_writing.specs.declared.sheet.Capacity.{Capacity}
+use Rattle.cp_writing.specs.declared.arena.Capacity.{Capacity}
 use Rattle.cp_writing.specs.LaidOut.{laid_out}
 use Rattle.cp_writing.specs.Sheets.{Written, segments_of, put, append, end_of, body_word, Placed, with_segment_for, place_by}
 use Rattle.cp_writing.specs.Writes.{IsWriteFaultOf}
@@ -18,7 +18,7 @@ use Rattle.cp_writing.specs.Writing.{body_blank, bodies_blank, tag_word, struct_
 use Rattle.cp_writing.proofs.Keeps.{either, length-blank, length-bodies}
 use Rattle.cp_writing.proofs.LaidOut.{laid_bounded, bounded_is_layout}
 use Rattle.cp_writing.proofs.PackedHolds.{packed_length}
-use Rattle.cp_writing.proofs.SheetWords.{laid_words}
+use Rattle.cp_writing.proofs.ArenaWords.{laid_words}
 use Rattle.cp_writing.proofs.Sheets.{words-put, full-put, with_room_keeps, place-cases}
 
 -- there is still one segment, and it has this many more words at most
@@ -27,8 +27,8 @@ Takes F n G = (length G.full ≡ 0) × (G.words ≤ F.words + n)
 
 -- A body has its place in the one segment, and no word of it is written yet.
 record IsPlaced (F : Written) (x : Placed) : Type 0 where
-  alone : length x.sheet.full ≡ 0
-  counts : x.sheet.words ≡ F.words
+  alone : length x.arena.full ≡ 0
+  counts : x.arena.words ≡ F.words
   there : x.at.segment ≡ 0
 
 takes_put : (s p w n : ℕ) (F : Written) → length F.full ≡ 0 → Takes F n (put s p w F)
@@ -51,7 +51,7 @@ module _ (capacity : Capacity) (one : capacity.segments ≤ 1) where
   takes_struct ws ts row s p F first alone =
       let x = struct_placed capacity s p ws (count ts) F in
       let here = is_placed s p (kinds.Struct (length ws) (count ts)) (length ws + count ts) F first alone in
-      let hung = row x.at.segment (x.at.word + length ws) (append (body_blank ws (count ts)) x.sheet) here.there here.alone in
+      let hung = row x.at.segment (x.at.word + length ws) (append (body_blank ws (count ts)) x.arena) here.there here.alone in
       either (Takes F (length ws + count ts + total_cost ts)) (length ws + count ts) _ _
       (takes_put s p (word_of (pointers.Struct (negsuc 0) 0 0)) (length ws + count ts + total_cost ts) F alone)
       (hung.0, omega (arith, hung.1, here.counts, length-blank ws (count ts)))
@@ -70,14 +70,14 @@ module _ (capacity : Capacity) (one : capacity.segments ≤ 1) where
     takes_tree (ptrs ts) s p F shaped first alone =
         let x = ptrs_placed capacity s p (count ts) F in
         let here = is_placed s p (kinds.List sizes.Pointer (count ts)) (count ts) F first alone in
-        let hung = takes_row ts x.at.segment (x.at.word + 0) (append (replicate (count ts) 0) x.sheet) shaped.1 here.there here.alone in
+        let hung = takes_row ts x.at.segment (x.at.word + 0) (append (replicate (count ts) 0) x.arena) shaped.1 here.there here.alone in
         (hung.0, omega (arith, hung.1, here.counts, length-replicate {A = ℕ} (count ts) 0))
     takes_tree (structs d n bs) s p F shaped first alone =
         let size = number_of bs * (d + n) in
         let x = structs_placed capacity s p d n (number_of bs) F in
         let ws = tag_word (number_of bs) d n ∷ bodies_blank bs in
         let here = is_placed s p (kinds.List sizes.Composite size) (size + 1) F first alone in
-        let hung = takes_bodies bs x.at.segment (x.at.word + 1) d n (append ws x.sheet) shaped.3 here.there here.alone in
+        let hung = takes_bodies bs x.at.segment (x.at.word + 1) d n (append ws x.arena) shaped.3 here.there here.alone in
         (hung.0, omega (arith, hung.1, here.counts, length-bodies d n bs shaped.3))
 
     takes_row : (ts : Nodes) (s p : ℕ) (F : Written) → EachShaped ts → s ≡ 0 → length F.full ≡ 0 → Takes F (total_cost ts) (row_by capacity s p ts F)

@@ -5,7 +5,7 @@ use Rattle.cp_words.specs.declared.kind.BodyKind.TheVariants as kinds
 use Rattle.cp_words.specs.declared.place.Place.{Place}
 use Rattle.cp_tree.specs.declared.fault.WriteFault.{WriteFault}
 use Rattle.cp_tree.specs.declared.fault.WriteFault.TheVariants as faults
-use Rattle.cp_writing.specs.declared.sheet.Sheet.{Sheet}
+use Rattle.cp_writing.specs.declared.arena.Arena.{Arena}
 use Rattle.cp_tree.specs.Node.{Elements, element_size, element_count, list, Node, Nodes, Bodies, no_bodies, body, structs, depth, greatest_depth, deepest_body, cost, total_cost, body_cost, count, number_of, no_nodes, node}
 use Rattle.cp_tree.specs.Shaped.{EachEven}
 use Rattle.cp_writing.specs.Allowed.{Charges, Lays}
@@ -14,54 +14,54 @@ use Rattle.cp_writing.specs.Sheets.{Written, written, append, place_on, SameLimi
 use Rattle.cp_writing.specs.Writing.{Begins, BeginsBodies, LaysTree, LaysRow, LaysBodies, tree_on, row_on, bodies_on}
 
 -- a level or a price that isn't there isn't there for more
-pub not_charged : (X : Type 0) (A B : Sheet) (levels price deep whole : ℕ) (e : WriteFault) (wanted : Written) → Charges A B levels (Err e) price → 0 < deep → price ≤ whole → Lays {X = X} A B levels (Err e) deep whole wanted
+pub not_charged : (X : Type 0) (A B : Arena) (levels price deep whole : ℕ) (e : WriteFault) (wanted : Written) → Charges A B levels (Err e) price → 0 < deep → price ≤ whole → Lays {X = X} A B levels (Err e) deep whole wanted
 not_charged X A B levels price deep whole faults.TooDeep wanted h some le = omega (arith, h, some)
 not_charged X A B levels price deep whole faults.TooCostly wanted h some le = omega (arith, h, le)
 not_charged X A B levels price deep whole faults.TooManyWords wanted h some le = absurd h
 not_charged X A B levels price deep whole faults.OutOfMemory wanted h some le = absurd h
 
 -- what can't be written is refused
-not_written : (X : Type 0) (A new : Sheet) (levels deep price : ℕ) (e : WriteFault) (wanted : Written) → Refuses A.capacity e wanted → Lays {X = X} A new levels (Err e) deep price wanted
+not_written : (X : Type 0) (A new : Arena) (levels deep price : ℕ) (e : WriteFault) (wanted : Written) → Refuses A.capacity e wanted → Lays {X = X} A new levels (Err e) deep price wanted
 not_written X A new levels deep price faults.TooDeep wanted h = absurd h
 not_written X A new levels deep price faults.TooCostly wanted h = absurd h
 not_written X A new levels deep price faults.TooManyWords wanted h = h
 not_written X A new levels deep price faults.OutOfMemory wanted h = h
 
 -- a level was gone down and its price paid, and then what hangs there was laid out
-one_up : {X : Type 0} (A B C new : Sheet) (levels own below deep price : ℕ) (r : Result X WriteFault) (wanted : Written) → Charges A B levels (Ok below) own → SameLimits B C → Lays C new below r deep price wanted → Lays A new levels r (suc deep) (own + price) wanted
-one_up A B C new levels own below deep price (Ok x) wanted charged same h = (omega (arith, charged.0, h.0), omega (arith, charged.1, same.1, h.1), h.2, h.3, h.4 ∙ same.0 ∙ ap (λ (w : Sheet). w.capacity) charged.2)
+one_up : {X : Type 0} (A B C new : Arena) (levels own below deep price : ℕ) (r : Result X WriteFault) (wanted : Written) → Charges A B levels (Ok below) own → SameLimits B C → Lays C new below r deep price wanted → Lays A new levels r (suc deep) (own + price) wanted
+one_up A B C new levels own below deep price (Ok x) wanted charged same h = (omega (arith, charged.0, h.0), omega (arith, charged.1, same.1, h.1), h.2, h.3, h.4 ∙ same.0 ∙ ap (λ (w : Arena). w.capacity) charged.2)
 one_up A B C new levels own below deep price (Err faults.TooDeep) wanted charged same h = omega (arith, charged.0, h)
 one_up A B C new levels own below deep price (Err faults.TooCostly) wanted charged same h = omega (arith, charged.1, same.1, h)
-one_up A B C new levels own below deep price (Err faults.TooManyWords) wanted charged same h = subst (λ k. Refuses k faults.TooManyWords wanted) (same.0 ∙ ap (λ (w : Sheet). w.capacity) charged.2) h
+one_up A B C new levels own below deep price (Err faults.TooManyWords) wanted charged same h = subst (λ k. Refuses k faults.TooManyWords wanted) (same.0 ∙ ap (λ (w : Arena). w.capacity) charged.2) h
 one_up A B C new levels own below deep price (Err faults.OutOfMemory) wanted charged same h = h
 
 -- what has no pointers is laid out once its words are written
-flat : {X : Type 0} (A new : Sheet) (levels : ℕ) (r : Result X WriteFault) (wanted : Written) → Writes A new r wanted → Lays A new levels r 0 0 wanted
+flat : {X : Type 0} (A new : Arena) (levels : ℕ) (r : Result X WriteFault) (wanted : Written) → Writes A new r wanted → Lays A new levels r 0 0 wanted
 flat A new levels (Ok x) wanted h = (omega arith, omega (arith, h.2.1), h.0, h.1, h.2.0)
 flat A new levels (Err faults.TooDeep) wanted h = absurd h
 flat A new levels (Err faults.TooCostly) wanted h = absurd h
 flat A new levels (Err faults.TooManyWords) wanted h = h
 flat A new levels (Err faults.OutOfMemory) wanted h = h
 
-module _ (A B : Sheet) (levels own below : ℕ) (charged : Charges A B levels (Ok below) own) where
+module _ (A B : Arena) (levels own below : ℕ) (charged : Charges A B levels (Ok below) own) where
   same_tree : (at : Place) (t : Node) → tree_on B at t ≡ tree_on A at t
-  same_tree at t = ap (λ (w : Sheet). tree_on w at t) charged.2
+  same_tree at t = ap (λ (w : Arena). tree_on w at t) charged.2
 
   -- where there is no capacity for what was charged, there is none for its tree
-  pub refused : (X : Type 0) (new : Sheet) (at : Place) (t : Node) (e : WriteFault) → Refuses B.capacity e (tree_on B at t) → LaysTree {X = X} A new levels (Err e) at t
-  refused X new at t e h = not_written X A new levels (depth t) (cost t) e (tree_on A at t) (subst (λ (w : Sheet). Refuses w.capacity e (tree_on w at t)) charged.2 h)
+  pub refused : (X : Type 0) (new : Arena) (at : Place) (t : Node) (e : WriteFault) → Refuses B.capacity e (tree_on B at t) → LaysTree {X = X} A new levels (Err e) at t
+  refused X new at t e h = not_written X A new levels (depth t) (cost t) e (tree_on A at t) (subst (λ (w : Arena). Refuses w.capacity e (tree_on w at t)) charged.2 h)
 
   -- a list whose body was placed is laid out once its words are appended
-  pub listed : {X : Type 0} (C new : Sheet) (at : Place) (es : Elements) (words : ℕ) (r : Result X WriteFault) → words ≡ words_for (element_size es) (element_count es) → own ≡ 1 + words
-      → written C ≡ (place_on B at (kinds.List (element_size es) (element_count es)) words).sheet → SameLimits B C → Appends C new r (packed es) → LaysTree A new levels r at (list es)
+  pub listed : {X : Type 0} (C new : Arena) (at : Place) (es : Elements) (words : ℕ) (r : Result X WriteFault) → words ≡ words_for (element_size es) (element_count es) → own ≡ 1 + words
+      → written C ≡ (place_on B at (kinds.List (element_size es) (element_count es)) words).arena → SameLimits B C → Appends C new r (packed es) → LaysTree A new levels r at (list es)
   listed C new at es words r size price placed same appended =
       let kind = kinds.List (element_size es) (element_count es) in
-      let e : append (packed es) (written C) ≡ tree_on A at (list es) = ap (append (packed es)) (placed ∙ ap (λ n. (place_on B at kind n).sheet) size) ∙ same_tree at (list es) in
+      let e : append (packed es) (written C) ≡ tree_on A at (list es) = ap (append (packed es)) (placed ∙ ap (λ n. (place_on B at kind n).arena) size) ∙ same_tree at (list es) in
       let whole : own + 0 ≡ cost (list es) = omega (arith, price, size) in
       let h = one_up A B C new levels own below 0 0 r (append (packed es) (written C)) charged same (flat C new below r _ appended) in
       subst (λ n. Lays A new levels r 1 n (tree_on A at (list es))) whole (subst (λ W. Lays A new levels r 1 (own + 0) W) e h)
 
-  module _ (C new : Sheet) (at first : Place) {X : Type 0} (r : Result X WriteFault) (t : Node) where
+  module _ (C new : Arena) (at first : Place) {X : Type 0} (r : Result X WriteFault) (t : Node) where
     -- a tree whose body was begun is laid out once what hangs on it is
     pub hung : (n : ℕ) (make : Nodes → Node) (ts : Nodes) → t ≡ make ts → count ts ≡ n → Begins B C (Ok first) at n make → depth (make ts) ≡ suc (greatest_depth ts) → cost (make ts) ≡ own + total_cost ts → LaysRow C new below r first ts → LaysTree A new levels r at t
     hung n make ts is many begun deep price row =
@@ -85,7 +85,7 @@ module _ (levels whole budget all_deep all_cost deep price own_deep own_price ne
   pub goes_on : (rest : ℕ) → own_deep ≤ levels → budget ≡ own_price + rest → Going levels whole rest all_deep all_cost next_deep next_price
   goes_on rest fits paid = (omega (arith, deeper, going.0), λ h. going.1 (omega (arith, deeper, h, fits)), omega (arith, going.2, sum, paid))
 
-pub stops : (X : Type 0) (A B new : Sheet) (levels all_deep all_cost deep price own_deep own_price next_deep next_price : ℕ) (e : WriteFault) (wanted all : Written) → deep ≡ max own_deep next_deep → price ≡ own_price + next_price → Going levels A.budget B.budget all_deep all_cost deep price
+pub stops : (X : Type 0) (A B new : Arena) (levels all_deep all_cost deep price own_deep own_price next_deep next_price : ℕ) (e : WriteFault) (wanted all : Written) → deep ≡ max own_deep next_deep → price ≡ own_price + next_price → Going levels A.budget B.budget all_deep all_cost deep price
     → Lays {X = X} B new levels (Err e) own_deep own_price wanted → (Refuses B.capacity e wanted → Refuses A.capacity e all) → Lays {X = X} A new levels (Err e) all_deep all_cost all
 stops X A B new levels all_deep all_cost deep price own_deep own_price next_deep next_price faults.TooDeep wanted all deeper sum going h on = omega (arith, h, deeper, going.0)
 stops X A B new levels all_deep all_cost deep price own_deep own_price next_deep next_price faults.TooCostly wanted all deeper sum going h on = omega (arith, h, sum, going.2)

@@ -9,12 +9,12 @@ use Rattle.cp_words.specs.declared.kind.BodyKind.TheVariants as kinds
 use Rattle.std.proofs.lemmas.Bool.{cases_eq, ne_eqb}
 use Rattle.std.proofs.lemmas.List.{length-append, length-replicate, get_or_append_left, get_or-set_other}
 use Rattle.cp_words.specs.declared.kind.BodyKind.{BodyKind}
-use Rattle.cp_writing.specs.declared.sheet.Capacity.{Capacity}
+use Rattle.cp_writing.specs.declared.arena.Capacity.{Capacity}
 use Rattle.cp_tree.specs.Node.{Node, null, cap, struct, list, ptrs, structs, Nodes, no_nodes, node, Bodies, no_bodies, body, count, number_of, element_size, element_count}
 use Rattle.cp_writing.specs.Packed.{packed}
 use Rattle.cp_tree.specs.Shaped.{Shaped, EachShaped, EachEven}
 use Rattle.cp_words.specs.declared.place.Place.{Place}
-use Rattle.cp_writing.specs.declared.sheet.Sheet.{Sheet}
+use Rattle.cp_writing.specs.declared.arena.Arena.{Arena}
 use Rattle.cp_writing.specs.Sheets.{Written, Placed, IsWithin, written, put, append, begin, end_of, here, after_landing_pad, with_segment_for, place_by, place_on, body_word}
 use Rattle.cp_writing.specs.Writing.{body_blank, bodies_blank, struct_placed, ptrs_placed, structs_placed, tag_word, tree_by, row_by, bodies_by}
 use Rattle.cp_writing.proofs.Sheets.{seg, seg-last, seg-put_same, seg-put_other, seg-append_last, seg-append_other, seg-begin, end-put, end-last, end-begin, full-put, full-begin, words-put, last-put, with_room_keeps, capacity-goes, place-cases}
@@ -88,10 +88,10 @@ keeps_begin F s p n = record {
 
 -- Where a body goes: after what its segment has, which is the last one unless the body has no words.
 pub record Spot (F : Written) (s p size : ℕ) (x : Placed) : Type 0 where
-  pub keeps : Keeps F s p 1 x.sheet
-  pub there : x.at.segment ≤ length x.sheet.full
-  pub end : x.at.word ≡ end_of x.sheet x.at.segment
-  pub last : 0 < size → x.at.segment ≡ length x.sheet.full
+  pub keeps : Keeps F s p 1 x.arena
+  pub there : x.at.segment ≤ length x.arena.full
+  pub end : x.at.word ≡ end_of x.arena x.at.segment
+  pub last : 0 < size → x.at.segment ≡ length x.arena.full
 
 keeps_room : (capacity : Capacity) (s p n size : ℕ) (F : Written) → Keeps F s p n (with_segment_for capacity s size F)
 keeps_room capacity s p n size F = with_room_keeps (λ G. Keeps F s p n G) capacity s size F (keeps_nothing F s p n) (λ more. keeps_begin F s p n)
@@ -128,32 +128,32 @@ spot capacity s p k size F le =
     place-cases (Spot F s p size) s p k size G (spot_here F G s p k size h there) (λ some other. spot_after F G s p k size h there)
 
 -- where a body was placed is within what may be written
-pub place_small : (old new : Sheet) (name : Place) (k : BodyKind) (size : ℕ) (start : Place) → name.segment ≤ length (written old).full → written new ≡ (place_on old name k size).sheet → IsWithin new → start ≡ (place_on old name k size).at
+pub place_small : (old new : Arena) (name : Place) (k : BodyKind) (size : ℕ) (start : Place) → name.segment ≤ length (written old).full → written new ≡ (place_on old name k size).arena → IsWithin new → start ≡ (place_on old name k size).at
     → start.word ≤ 67108864
 place_small old new name k size start le is keeps e =
     let there = spot old.capacity name.segment name.word k size (written old) le in
     let x = place_on old name k size in
     let word : start.word ≡ x.at.word = ap (λ (a : Place). a.word) e in
-    let end : end_of (written new) start.segment ≡ end_of x.sheet x.at.segment = ap (λ (F : Written). end_of F start.segment) is ∙ ap (λ (a : Place). end_of x.sheet a.segment) e in
+    let end : end_of (written new) start.segment ≡ end_of x.arena x.at.segment = ap (λ (F : Written). end_of F start.segment) is ∙ ap (λ (a : Place). end_of x.arena a.segment) e in
     omega (arith, word, there.end, end, keeps.3 start.segment, keeps.1, keeps.0)
 
 -- a body of this many words lies where it was placed
 pub record Lies (F : Written) (s p : ℕ) (xs : List ℕ) (x : Placed) : Type 0 where
-  pub keeps : Keeps F s p 1 (append xs x.sheet)
-  pub there : x.at.segment ≤ length x.sheet.full
+  pub keeps : Keeps F s p 1 (append xs x.arena)
+  pub there : x.at.segment ≤ length x.arena.full
   pub after : end_of F x.at.segment ≤ x.at.word
-  pub inside : x.at.word + length xs ≤ end_of (append xs x.sheet) x.at.segment
+  pub inside : x.at.word + length xs ≤ end_of (append xs x.arena) x.at.segment
 
 pub lies : (F : Written) (s p size : ℕ) (xs : List ℕ) (x : Placed) → Spot F s p size x → length xs ≡ size → Lies F s p xs x
 lies F s p size xs x h long = record {
-  keeps = keeps_both h.keeps (keeps_append x.sheet xs s p 1) (λ b r lt i. i) (λ b r lt i. i);
+  keeps = keeps_both h.keeps (keeps_append x.arena xs s p 1) (λ b r lt i. i) (λ b r lt i. i);
   there = h.there;
   after = omega (arith, h.end, h.keeps.ends x.at.segment);
   inside = ⊎_elim
-      (λ z. omega (arith, z, long, h.end, (keeps_append x.sheet xs s p 1).ends x.at.segment))
+      (λ z. omega (arith, z, long, h.end, (keeps_append x.arena xs s p 1).ends x.at.segment))
       (λ nz.
       let e = h.last (omega (arith, nz)) in
-      subst (λ n. x.at.word + length xs ≤ end_of (append xs x.sheet) n) (sym e) (omega (arith, h.end, ap (end_of x.sheet) e, end-last x.sheet, ap length (seg-append_last x.sheet xs), length-append x.sheet.last xs)))
+      subst (λ n. x.at.word + length xs ≤ end_of (append xs x.arena) n) (sym e) (omega (arith, h.end, ap (end_of x.arena) e, end-last x.arena, ap length (seg-append_last x.arena xs), length-append x.arena.last xs)))
       (cases_eq size 0);
 }
 
@@ -186,21 +186,21 @@ mutual
       let xs = body_blank ws (count ts) in
       let l = lies F s p (length ws + count ts) xs x (spot capacity s p (kinds.Struct (length ws) (count ts)) (length ws + count ts) F le) (length-blank ws (count ts)) in
       either (λ G. Keeps F s p 1 G) (length ws + count ts) _ _ (keeps_put F s p (word_of (pointers.Struct (negsuc 0) 0 0)) le)
-      (keeps_inner l.keeps (keeps_row capacity ts x.at.segment (x.at.word + length ws) (append xs x.sheet) shaped.2 l.there (omega (arith, l.inside, length-blank ws (count ts)))) l.after (omega arith))
+      (keeps_inner l.keeps (keeps_row capacity ts x.at.segment (x.at.word + length ws) (append xs x.arena) shaped.2 l.there (omega (arith, l.inside, length-blank ws (count ts)))) l.after (omega arith))
   keeps_tree capacity (list es) s p F shaped le =
       let x = place_by capacity s p (kinds.List (element_size es) (element_count es)) (words_for (element_size es) (element_count es)) F in
-      keeps_both (spot capacity s p (kinds.List (element_size es) (element_count es)) (words_for (element_size es) (element_count es)) F le).keeps (keeps_append x.sheet (packed es) s p 1) (λ b r lt i. i) (λ b r lt i. i)
+      keeps_both (spot capacity s p (kinds.List (element_size es) (element_count es)) (words_for (element_size es) (element_count es)) F le).keeps (keeps_append x.arena (packed es) s p 1) (λ b r lt i. i) (λ b r lt i. i)
   keeps_tree capacity (ptrs ts) s p F shaped le =
       let x = ptrs_placed capacity s p (count ts) F in
       let xs = replicate {A = ℕ} (count ts) 0 in
       let l = lies F s p (count ts) xs x (spot capacity s p (kinds.List sizes.Pointer (count ts)) (count ts) F le) (length-replicate {A = ℕ} (count ts) 0) in
-      keeps_inner l.keeps (keeps_row capacity ts x.at.segment (x.at.word + 0) (append xs x.sheet) shaped.1 l.there (omega (arith, l.inside, length-replicate {A = ℕ} (count ts) 0))) l.after (omega arith)
+      keeps_inner l.keeps (keeps_row capacity ts x.at.segment (x.at.word + 0) (append xs x.arena) shaped.1 l.there (omega (arith, l.inside, length-replicate {A = ℕ} (count ts) 0))) l.after (omega arith)
   keeps_tree capacity (structs d n bs) s p F shaped le =
       let x = structs_placed capacity s p d n (number_of bs) F in
       let xs = tag_word (number_of bs) d n ∷ bodies_blank bs in
       let long : length xs ≡ number_of bs * (d + n) + 1 = omega (arith, length-bodies d n bs shaped.3) in
       let l = lies F s p (number_of bs * (d + n) + 1) xs x (spot capacity s p (kinds.List sizes.Composite (number_of bs * (d + n))) (number_of bs * (d + n) + 1) F le) long in
-      keeps_inner l.keeps (keeps_bodies capacity bs x.at.segment (x.at.word + 1) d n (append xs x.sheet) shaped.3 l.there (omega (arith, l.inside, long))) l.after (omega arith)
+      keeps_inner l.keeps (keeps_bodies capacity bs x.at.segment (x.at.word + 1) d n (append xs x.arena) shaped.3 l.there (omega (arith, l.inside, long))) l.after (omega arith)
 
   pub keeps_row : (capacity : Capacity) (ts : Nodes) (s p : ℕ) (F : Written) → EachShaped ts → s ≤ length F.full → p + count ts ≤ end_of F s → Keeps F s p (count ts) (row_by capacity s p ts F)
   keeps_row capacity no_nodes s p F shaped le inside = keeps_nothing F s p 0

@@ -10,7 +10,7 @@ use Rattle.cp_words.specs.declared.pointer.Pointer.{Pointer}
 use Rattle.cp_words.specs.declared.pointer.Pointer.TheVariants as pointers
 use Rattle.cp_words.specs.declared.kind.BodyKind.{BodyKind}
 use Rattle.cp_words.specs.declared.kind.BodyKind.TheVariants as kinds
-use Rattle.cp_writing.specs.declared.sheet.Capacity.{Capacity}
+use Rattle.cp_writing.specs.declared.arena.Capacity.{Capacity}
 use Rattle.cp_tree.specs.Node.{Elements, voids, bits, bytes, halves, quads, words, element_size, element_count, Node, null, cap, struct, list, ptrs, structs, Nodes, no_nodes, node, Bodies, no_bodies, body, count, number_of}
 use Rattle.cp_words.specs.Targets.{segment, Holds, words_at}
 use Rattle.cp_writing.specs.Layout.{Filled, Places, HoldElements, Lays, LaysRow, LaysBodies}
@@ -49,24 +49,24 @@ module _ (capacity : Capacity) (S : List (List ℕ)) (small : (b : ℕ) → leng
 
   -- a body of this many words, with pointers after the first of them, and what hangs on these
   record BodyLaid (F : Written) (s p : ℕ) (k : BodyKind) (size : ℕ) (xs : List ℕ) (lo m : ℕ) (x : Placed) (G : Written) : Type 0 where
-    places : Places S (capacity_of capacity) s p k size (filled F) x.at.segment x.at.word (filled (append xs x.sheet))
-    rest : Later (append xs x.sheet) x.at.segment (x.at.word + lo) m G S
+    places : Places S (capacity_of capacity) s p k size (filled F) x.at.segment x.at.word (filled (append xs x.arena))
+    rest : Later (append xs x.arena) x.at.segment (x.at.word + lo) m G S
     first : (i : ℕ) → i < lo → slice_index (segment S x.at.segment) (x.at.word + i) ≡ get_or xs i 0
     inside : x.at.word + size ≤ length (segment S x.at.segment)
 
   body_laid : (F : Written) (s p : ℕ) (k : BodyKind) (size : ℕ) (xs : List ℕ) (lo m : ℕ) (G : Written) → length xs ≡ size → s ≤ length F.full → p < end_of F s → IsNamed k → lo ≤ size
-      → Keeps (append xs (place_by capacity s p k size F).sheet) (place_by capacity s p k size F).at.segment ((place_by capacity s p k size F).at.word + lo) m G → Later F s p 1 G S → BodyLaid F s p k size xs lo m (place_by capacity s p k size F) G
+      → Keeps (append xs (place_by capacity s p k size F).arena) (place_by capacity s p k size F).at.segment ((place_by capacity s p k size F).at.word + lo) m G → Later F s p 1 G S → BodyLaid F s p k size xs lo m (place_by capacity s p k size F) G
   body_laid F s p k size xs lo m G long le lt named within kept l =
       let x = place_by capacity s p k size F in
       let there = spot capacity s p k size F le in
       let h = lies F s p size xs x there long in
-      let later : Later F s p 1 x.sheet S = at_first l (keeps_both (keeps_append x.sheet xs x.at.segment (x.at.word + lo) m) kept (λ b r inside i. i) (λ b r inside i. i)) (λ b r fresh. fresh)
-      (λ b r inside fresh i. absurd (omega (arith, inside, ap (end_of x.sheet) i.0, i.1, there.end))) in
+      let later : Later F s p 1 x.arena S = at_first l (keeps_both (keeps_append x.arena xs x.at.segment (x.at.word + lo) m) kept (λ b r inside i. i) (λ b r inside i. i)) (λ b r fresh. fresh)
+      (λ b r inside fresh i. absurd (omega (arith, inside, ap (end_of x.arena) i.0, i.1, there.end))) in
       record {
         places = placed capacity S small F s p k size xs long le lt named later;
         rest = at_last l (λ b r fresh. inl (⊎_elim (λ ge. omega (arith, ge, h.keeps.ends b)) (λ i. omega (arith, i.1, h.after, ap (end_of F) i.0)) fresh));
         first = λ i less.
-            let inside : x.at.word + i < end_of (append xs x.sheet) x.at.segment = omega (arith, less, within, long, h.inside) in
+            let inside : x.at.word + i < end_of (append xs x.arena) x.at.segment = omega (arith, less, within, long, h.inside) in
             l.same x.at.segment (x.at.word + i) (inl (omega (arith, h.after))) (omega (arith, inside, kept.ends x.at.segment))
             ∙ kept.same x.at.segment (x.at.word + i) inside (λ j. absurd (omega (arith, j.1, less)))
             ∙ stand F s p size xs x there long i (omega (arith, less, within, long));
@@ -84,7 +84,7 @@ module _ (capacity : Capacity) (S : List (List ℕ)) (small : (b : ℕ) → leng
       let n = count ts in
       let x = struct_placed capacity s p ws n F in
       let xs = body_blank ws n in
-      let B = append xs x.sheet in
+      let B = append xs x.arena in
       let q = x.at.word + length ws in
       let G = row_by capacity x.at.segment q ts B in
       let long = length-blank ws n in
@@ -115,7 +115,7 @@ module _ (capacity : Capacity) (S : List (List ℕ)) (small : (b : ℕ) → leng
       let k = kinds.List (element_size es) (element_count es) in
       let size = words_for (element_size es) (element_count es) in
       let x = place_by capacity s p k size F in
-      let B = append (packed es) x.sheet in
+      let B = append (packed es) x.arena in
       let b = body_laid F s p k size (packed es) size 0 B (packed_length es) le lt (few_elements es fit) (omega arith) (keeps_nothing B x.at.segment (x.at.word + size) 0) l in (
         x.at.segment,
         x.at.word,
@@ -129,7 +129,7 @@ module _ (capacity : Capacity) (S : List (List ℕ)) (small : (b : ℕ) → leng
       let k = kinds.List sizes.Pointer n in
       let x = ptrs_placed capacity s p n F in
       let xs = replicate {A = ℕ} n 0 in
-      let B = append xs x.sheet in
+      let B = append xs x.arena in
       let q = x.at.word + 0 in
       let G = row_by capacity x.at.segment q ts B in
       let long = length-replicate {A = ℕ} n 0 in
@@ -150,7 +150,7 @@ module _ (capacity : Capacity) (S : List (List ℕ)) (small : (b : ℕ) → leng
       let tag = tag_word (number_of bs) d n in
       let x = structs_placed capacity s p d n (number_of bs) F in
       let xs = tag ∷ bodies_blank bs in
-      let B = append xs x.sheet in
+      let B = append xs x.arena in
       let q = x.at.word + 1 in
       let G = bodies_by capacity x.at.segment q d n bs B in
       let all = length-bodies d n bs shaped.3 in

@@ -53,11 +53,11 @@ abbrev pub Stand : Written → ℕ → ℕ → List ℕ → Type 0
 Stand F s q xs = (i : ℕ) → i < length xs → at F s (q + i) ≡ get_or xs i 0
 
 -- those of a body, where it was placed
-pub stand : (F : Written) (s p size : ℕ) (xs : List ℕ) (x : Placed) → Spot F s p size x → length xs ≡ size → Stand (append xs x.sheet) x.at.segment x.at.word xs
+pub stand : (F : Written) (s p size : ℕ) (xs : List ℕ) (x : Placed) → Spot F s p size x → length xs ≡ size → Stand (append xs x.arena) x.at.segment x.at.word xs
 stand F s p size xs x h long i lt =
     let e = h.last (omega (arith, lt, long)) in
-    let start : x.at.word ≡ length x.sheet.last = h.end ∙ ap (end_of x.sheet) e ∙ end-last x.sheet in
-    rw (e, start) (at-append_new x.sheet xs i)
+    let start : x.at.word ≡ length x.arena.last = h.end ∙ ap (end_of x.arena) e ∙ end-last x.arena in
+    rw (e, start) (at-append_new x.arena xs i)
 
 -- words that are those of a list
 pub are_words : (S : List (List ℕ)) (s q n : ℕ) (ws : List ℕ) → length ws ≡ n → q + n ≤ length (segment S s) → ((i : ℕ) → i < n → slice_index (segment S s) (q + i) ≡ get_or ws i 0) → ws ≡ words_at S s q n

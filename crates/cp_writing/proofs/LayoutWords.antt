@@ -12,7 +12,7 @@ use Rattle.cp_words.specs.declared.kind.BodyKind.TheVariants as kinds
 use Rattle.cp_words.specs.Targets.{segment}
 use Rattle.cp_tree.specs.Node.{Node, null, cap, struct, list, ptrs, structs, Nodes, no_nodes, node, Bodies, no_bodies, body, count, number_of, element_size, element_count}
 use Rattle.cp_tree.specs.Shaped.{Shaped, EachShaped, EachEven}
-use Rattle.cp_writing.specs.declared.sheet.Capacity.{Capacity}
+use Rattle.cp_writing.specs.declared.arena.Capacity.{Capacity}
 use Rattle.cp_writing.specs.Layout.{Filled, IsEnd, Places, without_words, here as placed_here, after_landing_pad as placed_after, in_new, last_here, last_after_landing_pad, Lays, LaysRow, LaysBodies, Layout}
 use Rattle.cp_writing.specs.Packed.{packed}
 use Rattle.cp_writing.specs.Sheets.{Written, Placed, segments_of, put, append, begin, end_of, here, after_landing_pad, with_segment_for, place_in, place_by, body_word, landing_pad_for}
@@ -27,7 +27,7 @@ use Rattle.cp_writing.proofs.Keeps.{spot, lies, length-blank, length-bodies, kee
 use Rattle.cp_writing.proofs.Later.{filled, filled-put}
 use Rattle.cp_writing.proofs.PackedHolds.{packed_length}
 use Rattle.cp_writing.proofs.Placing.{capacity_of, filled-here, filled-starts_after, segment_for_nothing, segment_for_fits, segment_for_all, segment_for_begun}
-use Rattle.cp_writing.proofs.SheetWords.{laid_words}
+use Rattle.cp_writing.proofs.ArenaWords.{laid_words}
 use Rattle.cp_writing.proofs.AnyWidth.{same_tree}
 use Rattle.cp_writing.proofs.FitWords.{Bounded}
 use Rattle.cp_writing.proofs.Laid.{not_none}
@@ -52,7 +52,7 @@ module _ (capacity : Capacity) (S : List (List ℕ)) where
       (λ ge. let e : b ≡ length F.full = omega (arith, ge, lt, full-begin F) in subst (λ (b : ℕ). length (segment S b) ≡ end_of (begin F) b) (sym e) (ends ∙ sym (end-begin F (length F.full) ∙ end-last F)))
       (cases_lt b (length F.full))
 
-  fits-starts_after : (F : Written) (s p : ℕ) (k : BodyKind) → s ≤ length F.full → Fits F → Fits (after_landing_pad s p k F).sheet
+  fits-starts_after : (F : Written) (s p : ℕ) (k : BodyKind) → s ≤ length F.full → Fits F → Fits (after_landing_pad s p k F).arena
   fits-starts_after F s p k le fits =
       let w = word_of (pointers.Far false (length F.last) (length F.full)) in
       fits-append (put s p w F) (body_word k 0 ∷ []) (fits-put F s p w le fits)
@@ -61,8 +61,8 @@ module _ (capacity : Capacity) (S : List (List ℕ)) where
   record PlacedAs (xs : List ℕ) (s' start : ℕ) (g : Filled) (x : Placed) : Type 0 where
     at : x.at.segment ≡ s'
     word : x.at.word ≡ start
-    fills : filled (append xs x.sheet) ≡ g
-    fits : Fits (append xs x.sheet)
+    fills : filled (append xs x.arena) ≡ g
+    fits : Fits (append xs x.arena)
 
   module _ (F : Written) (s p : ℕ) (k : BodyKind) (size : ℕ) (xs : List ℕ) (s' start : ℕ) (g : Filled) (long : length xs ≡ size) (le : s ≤ length F.full) (fits : Fits F) where
     as_direct : s' ≡ s → start ≡ end_of F s → g ≡ record { last = length F.full; used = length F.last + size } → PlacedAs xs s' start g (here s p k F)
@@ -70,7 +70,7 @@ module _ (capacity : Capacity) (S : List (List ℕ)) where
       at = sym at;
       word = sym word;
       fills = filled-here F s p k size xs long ∙ sym fills;
-      fits = fits-append (here s p k F).sheet xs (fits-put F s p _ le fits);
+      fits = fits-append (here s p k F).arena xs (fits-put F s p _ le fits);
     }
 
     as_padded : s' ≡ length F.full → start ≡ length F.last + 1 → g ≡ record { last = length F.full; used = length F.last + 1 + size } → PlacedAs xs s' start g (after_landing_pad s p k F)
@@ -78,7 +78,7 @@ module _ (capacity : Capacity) (S : List (List ℕ)) where
       at = sym at;
       word = sym word;
       fills = filled-starts_after F s p k size xs long ∙ sym fills;
-      fits = fits-append (after_landing_pad s p k F).sheet xs (fits-starts_after F s p k le fits);
+      fits = fits-append (after_landing_pad s p k F).arena xs (fits-starts_after F s p k le fits);
     }
 
     as_begun : length (segment S (length F.full)) ≡ length F.last → s' ≡ length F.full + 1 → start ≡ 1 → g ≡ record { last = length F.full + 1; used = 1 + size } → PlacedAs xs s' start g (after_landing_pad s p k (begin F))
@@ -86,7 +86,7 @@ module _ (capacity : Capacity) (S : List (List ℕ)) where
       at = full-begin F ∙ sym at;
       word = sym word;
       fills = filled-starts_after (begin F) s p k size xs long ∙ ap (λ (n : ℕ). let f : Filled = record { last = n; used = 1 + size } in f) (full-begin F) ∙ sym fills;
-      fits = fits-append (after_landing_pad s p k (begin F)).sheet xs (fits-starts_after (begin F) s p k (omega (arith, le, full-begin F)) (fits-begin F fits ends));
+      fits = fits-append (after_landing_pad s p k (begin F)).arena xs (fits-starts_after (begin F) s p k (omega (arith, le, full-begin F)) (fits-begin F fits ends));
     }
 
     at_end : IsEnd S s (filled F) start → start ≡ end_of F s
@@ -136,13 +136,13 @@ module _ (capacity : Capacity) (S : List (List ℕ)) where
         stays_padded (segment_for_all capacity s size F some (past_pad not_after other) no_more) some other (as_padded follows.last follows.starts_after follows.fills)
 
   -- the row of a body that is placed so
-  row_of : (xs : List ℕ) (s' start lo : ℕ) (mid g : Filled) (x : Placed) (ts : Nodes) → PlacedAs xs s' start mid x → LaysRow S (capacity_of capacity) s' (start + lo) ts mid g → LaysRow S (capacity_of capacity) x.at.segment (x.at.word + lo) ts (filled (append xs x.sheet)) g
+  row_of : (xs : List ℕ) (s' start lo : ℕ) (mid g : Filled) (x : Placed) (ts : Nodes) → PlacedAs xs s' start mid x → LaysRow S (capacity_of capacity) s' (start + lo) ts mid g → LaysRow S (capacity_of capacity) x.at.segment (x.at.word + lo) ts (filled (append xs x.arena)) g
   row_of xs s' start lo mid g x ts h l =
       subst (λ (f : Filled). LaysRow S (capacity_of capacity) x.at.segment (x.at.word + lo) ts f g) (sym h.fills)
       (subst (λ (q : ℕ). LaysRow S (capacity_of capacity) x.at.segment (q + lo) ts mid g) (sym h.word) (subst (λ (t : ℕ). LaysRow S (capacity_of capacity) t (start + lo) ts mid g) (sym h.at) l))
 
   bodies_of : (xs : List ℕ) (s' start d n : ℕ) (mid g : Filled) (x : Placed) (bs : Bodies) → PlacedAs xs s' start mid x → LaysBodies S (capacity_of capacity) s' (start + 1) d n bs mid g
-      → LaysBodies S (capacity_of capacity) x.at.segment (x.at.word + 1) d n bs (filled (append xs x.sheet)) g
+      → LaysBodies S (capacity_of capacity) x.at.segment (x.at.word + 1) d n bs (filled (append xs x.arena)) g
   bodies_of xs s' start d n mid g x bs h l =
       subst (λ (f : Filled). LaysBodies S (capacity_of capacity) x.at.segment (x.at.word + 1) d n bs f g) (sym h.fills)
       (subst (λ (q : ℕ). LaysBodies S (capacity_of capacity) x.at.segment (q + 1) d n bs mid g) (sym h.word) (subst (λ (t : ℕ). LaysBodies S (capacity_of capacity) t (start + 1) d n bs mid g) (sym h.at) l))
@@ -167,9 +167,9 @@ module _ (capacity : Capacity) (S : List (List ℕ)) where
       let k = kinds.Struct (length ws) (count ts) in
       let h = placed_as F s p k size xs a.0 a.1 a.2 (length-blank ws (count ts)) le fits a.3 in
       let l = lies F s p size xs x (spot capacity s p k size F le) (length-blank ws (count ts)) in
-      let row = rows x.at.segment (x.at.word + length ws) (append xs x.sheet) g l.there (omega (arith, l.inside, length-blank ws (count ts))) h.fits (row_of xs a.0 a.1 (length ws) a.2 g x ts h a.4) in
-      let is : tree_by capacity s p (struct ws ts) F ≡ row_by capacity x.at.segment (x.at.word + length ws) ts (append xs x.sheet) =
-      not_none size (put s p (word_of (pointers.Struct (negsuc 0) 0 0)) F) (row_by capacity x.at.segment (x.at.word + length ws) ts (append xs x.sheet)) some in
+      let row = rows x.at.segment (x.at.word + length ws) (append xs x.arena) g l.there (omega (arith, l.inside, length-blank ws (count ts))) h.fits (row_of xs a.0 a.1 (length ws) a.2 g x ts h a.4) in
+      let is : tree_by capacity s p (struct ws ts) F ≡ row_by capacity x.at.segment (x.at.word + length ws) ts (append xs x.arena) =
+      not_none size (put s p (word_of (pointers.Struct (negsuc 0) 0 0)) F) (row_by capacity x.at.segment (x.at.word + length ws) ts (append xs x.arena)) some in
       subst (λ (G : Written). Ends G g) (sym is) row
 
   mutual
@@ -190,7 +190,7 @@ module _ (capacity : Capacity) (S : List (List ℕ)) where
         let h = placed_as F s p k (count ts) xs a.0 a.1 a.2 (length-replicate {A = ℕ} (count ts) 0) le fits a.3 in
         let l = lies F s p (count ts) xs x (spot capacity s p k (count ts) F le) (length-replicate {A = ℕ} (count ts) 0) in
         let q : a.1 ≡ a.1 + 0 = omega arith in
-        row_ends ts x.at.segment (x.at.word + 0) (append xs x.sheet) g shaped.1 l.there (omega (arith, l.inside, length-replicate {A = ℕ} (count ts) 0)) h.fits
+        row_ends ts x.at.segment (x.at.word + 0) (append xs x.arena) g shaped.1 l.there (omega (arith, l.inside, length-replicate {A = ℕ} (count ts) 0)) h.fits
         (row_of xs a.0 a.1 0 a.2 g x ts h (subst (λ (q : ℕ). LaysRow S (capacity_of capacity) a.0 q ts a.2 g) q a.4))
     tree_ends (structs d n bs) s p F g shaped le fits a =
         let size = number_of bs * (d + n) in
@@ -200,7 +200,7 @@ module _ (capacity : Capacity) (S : List (List ℕ)) where
         let k = kinds.List sizes.Composite size in
         let h = placed_as F s p k (size + 1) xs a.0 a.1 a.2 long le fits a.3 in
         let l = lies F s p (size + 1) xs x (spot capacity s p k (size + 1) F le) long in
-        bodies_end bs d n x.at.segment (x.at.word + 1) (append xs x.sheet) g shaped.3 l.there (omega (arith, l.inside, long)) h.fits (bodies_of xs a.0 a.1 d n a.2 g x bs h a.5)
+        bodies_end bs d n x.at.segment (x.at.word + 1) (append xs x.arena) g shaped.3 l.there (omega (arith, l.inside, long)) h.fits (bodies_of xs a.0 a.1 d n a.2 g x bs h a.5)
 
     row_ends : (ts : Nodes) (s p : ℕ) (F : Written) (g : Filled) → EachShaped ts → s ≤ length F.full → p + count ts ≤ end_of F s → Fits F → LaysRow S (capacity_of capacity) s p ts (filled F) g → Ends (row_by capacity s p ts F) g
     row_ends no_nodes s p F g shaped le inside fits a = (sym a, fits)

@@ -9,7 +9,7 @@ pub mod PointerWords
 pub mod Alone
 pub mod OneSegment
 pub mod PackedHolds
-pub mod SheetWords
+pub mod ArenaWords
 pub mod Later
 pub mod Placing
 pub mod Laid

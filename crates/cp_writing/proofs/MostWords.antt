@@ -9,7 +9,7 @@ use Rattle.cp_words.specs.declared.kind.BodyKind.{BodyKind}
 use Rattle.cp_words.specs.declared.kind.BodyKind.TheVariants as kinds
 use Rattle.cp_tree.specs.Node.{element_size, element_count, Node, null, cap, struct, list, ptrs, structs, Nodes, no_nodes, node, Bodies, no_bodies, body, count, number_of, cost, total_cost, body_cost}
 use Rattle.cp_tree.specs.Shaped.{Shaped, EachShaped, EachEven}
-use Rattle.cp_writing.specs.declared.sheet.Capacity.{Capacity}
+use Rattle.cp_writing.specs.declared.arena.Capacity.{Capacity}
 use Rattle.cp_writing.specs.LaidOut.{laid_out}
 use Rattle.cp_writing.specs.Layout.{Layout}
 use Rattle.cp_writing.specs.Layout.{Capacity as Bound}
@@ -27,11 +27,11 @@ IsMore F n G = G.words ≤ F.words + n
 
 module _ (capacity : Capacity) where
   -- a body's pointer and its landing pad
-  placed_words : (s p : ℕ) (k : BodyKind) (size : ℕ) (F : Written) → IsMore F 1 (place_by capacity s p k size F).sheet
+  placed_words : (s p : ℕ) (k : BodyKind) (size : ℕ) (F : Written) → IsMore F 1 (place_by capacity s p k size F).arena
   placed_words s p k size F =
       let G = with_segment_for capacity s size F in
       let same : G.words ≡ F.words = with_room_keeps (λ H. H.words ≡ F.words) capacity s size F refl (λ more. refl) in
-      place-cases (λ x. IsMore F 1 x.sheet) s p k size G
+      place-cases (λ x. IsMore F 1 x.arena) s p k size G
       (λ direct. omega (arith, words-put G s p (body_word k (end_of G s - (p + 1))), same))
       (λ some other. omega (arith, words-put G s p (word_of (pointers.Far false (length G.last) (length G.full))), same))
 
@@ -39,7 +39,7 @@ module _ (capacity : Capacity) where
   struct_words ws ts row s p F =
       let x = struct_placed capacity s p ws (count ts) F in
       let here = placed_words s p (kinds.Struct (length ws) (count ts)) (length ws + count ts) F in
-      let hung = row x.at.segment (x.at.word + length ws) (append (body_blank ws (count ts)) x.sheet) in
+      let hung = row x.at.segment (x.at.word + length ws) (append (body_blank ws (count ts)) x.arena) in
       either (IsMore F (cost (struct ws ts))) (length ws + count ts) _ _
       (omega (arith, words-put F s p (word_of (pointers.Struct (negsuc 0) 0 0))))
       (omega (arith, hung, here, length-blank ws (count ts)))
@@ -56,14 +56,14 @@ module _ (capacity : Capacity) where
     tree_words (ptrs ts) s p F shaped =
         let x = ptrs_placed capacity s p (count ts) F in
         let here = placed_words s p (kinds.List sizes.Pointer (count ts)) (count ts) F in
-        let hung = row_words ts x.at.segment (x.at.word + 0) (append (replicate (count ts) 0) x.sheet) shaped.1 in
+        let hung = row_words ts x.at.segment (x.at.word + 0) (append (replicate (count ts) 0) x.arena) shaped.1 in
         omega (arith, hung, here, length-replicate {A = ℕ} (count ts) 0)
     tree_words (structs d n bs) s p F shaped =
         let size = number_of bs * (d + n) in
         let x = structs_placed capacity s p d n (number_of bs) F in
         let ws = tag_word (number_of bs) d n ∷ bodies_blank bs in
         let here = placed_words s p (kinds.List sizes.Composite size) (size + 1) F in
-        let hung = bodies_words bs x.at.segment (x.at.word + 1) d n (append ws x.sheet) shaped.3 in
+        let hung = bodies_words bs x.at.segment (x.at.word + 1) d n (append ws x.arena) shaped.3 in
         omega (arith, hung, here, length-bodies d n bs shaped.3)
 
     row_words : (ts : Nodes) (s p : ℕ) (F : Written) → EachShaped ts → IsMore F (total_cost ts) (row_by capacity s p ts F)

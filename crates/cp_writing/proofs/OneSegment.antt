@@ -8,7 +8,7 @@ use Rattle.cp_words.specs.declared.pointer.ElementSize.TheVariants as sizes
 use Rattle.cp_words.specs.declared.pointer.Pointer.TheVariants as pointers
 use Rattle.cp_words.specs.declared.kind.BodyKind.{BodyKind}
 use Rattle.cp_words.specs.declared.kind.BodyKind.TheVariants as kinds
-use Rattle.cp_writing.specs.declared.sheet.Capacity.{Capacity}
+use Rattle.cp_writing.specs.declared.arena.Capacity.{Capacity}
 use Rattle.cp_tree.specs.Node.{Elements, element_size, element_count, voids, bits, bytes, halves, quads, words, Node, null, cap, struct, list, ptrs, structs, Nodes, no_nodes, node, Bodies, no_bodies, body, count, number_of}
 use Rattle.cp_writing.specs.Packed.{packed, bit_of}
 use Rattle.cp_tree.specs.Shaped.{Shaped, EachShaped, EachEven}
@@ -21,11 +21,11 @@ use Rattle.cp_writing.proofs.Packing.{length_groups, length_bits}
 
 -- ---- writing more counts no fewer words
 
-counts_place : (capacity : Capacity) (s p : ℕ) (k : BodyKind) (size : ℕ) (F : Written) → F.words ≤ (place_by capacity s p k size F).sheet.words
+counts_place : (capacity : Capacity) (s p : ℕ) (k : BodyKind) (size : ℕ) (F : Written) → F.words ≤ (place_by capacity s p k size F).arena.words
 counts_place capacity s p k size F =
     let G = with_segment_for capacity s size F in
     let more : F.words ≤ G.words = with_room_keeps (λ H. F.words ≤ H.words) capacity s size F (omega arith) (λ _. omega arith) in
-    place-cases (λ x. F.words ≤ x.sheet.words) s p k size G (λ direct. omega (arith, more, words-put G s p (body_word k (end_of G s - (p + 1))))) (λ some other. omega (arith, more, words-put G s p (word_of (pointers.Far false (length G.last) (length G.full)))))
+    place-cases (λ x. F.words ≤ x.arena.words) s p k size G (λ direct. omega (arith, more, words-put G s p (body_word k (end_of G s - (p + 1))))) (λ some other. omega (arith, more, words-put G s p (word_of (pointers.Far false (length G.last) (length G.full)))))
 
 mutual
   counts_tree : (capacity : Capacity) (t : Node) (s p : ℕ) (F : Written) → F.words ≤ (tree_by capacity s p t F).words
@@ -34,14 +34,14 @@ mutual
   counts_tree capacity (struct ws ts) s p F =
       let x = struct_begun capacity s p ws (count ts) F in
       let begun = counts_place capacity s p (kinds.Struct (length ws) (count ts)) (length ws + count ts) F in
-      either (λ G. F.words ≤ G.words) (length ws + count ts) _ _ (omega (arith, words-put F s p (word_of (pointers.Struct (negsuc 0) 0 0)))) (omega (arith, begun, counts_row capacity ts x.at.segment x.at.word x.sheet))
+      either (λ G. F.words ≤ G.words) (length ws + count ts) _ _ (omega (arith, words-put F s p (word_of (pointers.Struct (negsuc 0) 0 0)))) (omega (arith, begun, counts_row capacity ts x.at.segment x.at.word x.arena))
   counts_tree capacity (list es) s p F = omega (arith, counts_place capacity s p (kinds.List (element_size es) (element_count es)) (words_for (element_size es) (element_count es)) F)
   counts_tree capacity (ptrs ts) s p F =
       let x = ptrs_begun capacity s p (count ts) F in
-      omega (arith, counts_place capacity s p (kinds.List sizes.Pointer (count ts)) (count ts) F, counts_row capacity ts x.at.segment x.at.word x.sheet)
+      omega (arith, counts_place capacity s p (kinds.List sizes.Pointer (count ts)) (count ts) F, counts_row capacity ts x.at.segment x.at.word x.arena)
   counts_tree capacity (structs d n bs) s p F =
       let x = structs_begun capacity s p d n (number_of bs) (bodies_blank bs) F in
-      omega (arith, counts_place capacity s p (kinds.List sizes.Composite (number_of bs * (d + n))) (number_of bs * (d + n) + 1) F, counts_bodies capacity bs x.at.segment x.at.word d n x.sheet)
+      omega (arith, counts_place capacity s p (kinds.List sizes.Composite (number_of bs * (d + n))) (number_of bs * (d + n) + 1) F, counts_bodies capacity bs x.at.segment x.at.word d n x.arena)
 
   counts_row : (capacity : Capacity) (ts : Nodes) (s p : ℕ) (F : Written) → F.words ≤ (row_by capacity s p ts F).words
   counts_row capacity no_nodes s p F = omega arith
@@ -102,8 +102,8 @@ module _ (u : ℕ) where
 module _ (u : ℕ) (Q R : Capacity) (wq : Wide u Q) (wr : Wide u R) where
   -- a body and what hangs on it, where its words fit
   begun_same : (k : BodyKind) (size n p : ℕ) (blank : List ℕ) (F : Written) (rest : Capacity → Placed → Written)
-      → ((x : Placed) → x.sheet.words ≤ (rest Q x).words)
-      → ((x : Placed) → x.at.segment ≡ 0 → Sole x.sheet → (rest Q x).words ≤ u → Same (rest R x) (rest Q x))
+      → ((x : Placed) → x.arena.words ≤ (rest Q x).words)
+      → ((x : Placed) → x.at.segment ≡ 0 → Sole x.arena → (rest Q x).words ≤ u → Same (rest R x) (rest Q x))
       → Sole F → length blank ≡ size → (rest Q (begun blank n (place_by Q 0 p k size F))).words ≤ u
       → Same (rest R (begun blank n (place_by R 0 p k size F))) (rest Q (begun blank n (place_by Q 0 p k size F)))
   begun_same k size n p blank F rest counts next sole long fits =
@@ -124,29 +124,29 @@ module _ (u : ℕ) (Q R : Capacity) (wq : Wide u Q) (wr : Wide u R) where
         (λ z. (tree_by Q z p (struct ws ts) F).words ≤ u → Same (tree_by R z p (struct ws ts) F) (tree_by Q z p (struct ws ts) F))
         (sym e)
         (same_choice _ _ _ _ u (sole_put F 0 p _ sole)
-        (begun_same (kinds.Struct (length ws) (count ts)) (length ws + count ts) (length ws) p (body_blank ws (count ts)) F (λ capacity x. row_by capacity x.at.segment x.at.word ts x.sheet)
-        (λ x. counts_row Q ts x.at.segment x.at.word x.sheet) (λ x at. same_row ts x.at.segment x.at.word x.sheet at shaped.2) sole (length-blank ws (count ts))))
+        (begun_same (kinds.Struct (length ws) (count ts)) (length ws + count ts) (length ws) p (body_blank ws (count ts)) F (λ capacity x. row_by capacity x.at.segment x.at.word ts x.arena)
+        (λ x. counts_row Q ts x.at.segment x.at.word x.arena) (λ x at. same_row ts x.at.segment x.at.word x.arena at shaped.2) sole (length-blank ws (count ts))))
         fits
     same_tree (list es) s p F e shaped sole fits =
         subst
         (λ z. (tree_by Q z p (list es) F).words ≤ u → Same (tree_by R z p (list es) F) (tree_by Q z p (list es) F))
         (sym e)
-        (begun_same (kinds.List (element_size es) (element_count es)) (words_for (element_size es) (element_count es)) 0 p (packed es) F (λ capacity x. x.sheet)
+        (begun_same (kinds.List (element_size es) (element_count es)) (words_for (element_size es) (element_count es)) 0 p (packed es) F (λ capacity x. x.arena)
         (λ x. omega arith) (λ x at single less. (refl, single)) sole (length_packed es))
         fits
     same_tree (ptrs ts) s p F e shaped sole fits =
         subst
         (λ z. (tree_by Q z p (ptrs ts) F).words ≤ u → Same (tree_by R z p (ptrs ts) F) (tree_by Q z p (ptrs ts) F))
         (sym e)
-        (begun_same (kinds.List sizes.Pointer (count ts)) (count ts) 0 p (replicate (count ts) 0) F (λ capacity x. row_by capacity x.at.segment x.at.word ts x.sheet)
-        (λ x. counts_row Q ts x.at.segment x.at.word x.sheet) (λ x at. same_row ts x.at.segment x.at.word x.sheet at shaped.1) sole (length-replicate {A = ℕ} (count ts) 0))
+        (begun_same (kinds.List sizes.Pointer (count ts)) (count ts) 0 p (replicate (count ts) 0) F (λ capacity x. row_by capacity x.at.segment x.at.word ts x.arena)
+        (λ x. counts_row Q ts x.at.segment x.at.word x.arena) (λ x at. same_row ts x.at.segment x.at.word x.arena at shaped.1) sole (length-replicate {A = ℕ} (count ts) 0))
         fits
     same_tree (structs d n bs) s p F e shaped sole fits =
         subst
         (λ z. (tree_by Q z p (structs d n bs) F).words ≤ u → Same (tree_by R z p (structs d n bs) F) (tree_by Q z p (structs d n bs) F))
         (sym e)
-        (begun_same (kinds.List sizes.Composite (number_of bs * (d + n))) (number_of bs * (d + n) + 1) 1 p (tag_word (number_of bs) d n ∷ bodies_blank bs) F (λ capacity x. bodies_by capacity x.at.segment x.at.word d n bs x.sheet)
-        (λ x. counts_bodies Q bs x.at.segment x.at.word d n x.sheet) (λ x at. same_bodies bs x.at.segment x.at.word d n x.sheet at shaped.3) sole (omega (arith, length-bodies d n bs shaped.3)))
+        (begun_same (kinds.List sizes.Composite (number_of bs * (d + n))) (number_of bs * (d + n) + 1) 1 p (tag_word (number_of bs) d n ∷ bodies_blank bs) F (λ capacity x. bodies_by capacity x.at.segment x.at.word d n bs x.arena)
+        (λ x. counts_bodies Q bs x.at.segment x.at.word d n x.arena) (λ x at. same_bodies bs x.at.segment x.at.word d n x.arena at shaped.3) sole (omega (arith, length-bodies d n bs shaped.3)))
         fits
 
     same_row : (ts : Nodes) (s p : ℕ) (F : Written) → s ≡ 0 → EachShaped ts → Sole F → (row_by Q s p ts F).words ≤ u → Same (row_by R s p ts F) (row_by Q s p ts F)

@@ -7,7 +7,7 @@ use Rattle.cp_words.specs.Word.{pointer_of, word_of}
 use Rattle.cp_words.specs.declared.pointer.Pointer.TheVariants as pointers
 use Rattle.cp_words.specs.declared.kind.BodyKind.{BodyKind}
 use Rattle.cp_words.specs.declared.kind.BodyKind.TheVariants as kinds
-use Rattle.cp_writing.specs.declared.sheet.Capacity.{Capacity}
+use Rattle.cp_writing.specs.declared.arena.Capacity.{Capacity}
 use Rattle.cp_words.specs.Targets.{segment, HasTargetHere, HasTargetByLandingPad}
 use Rattle.cp_writing.specs.Layout.{Filled, FitsHere, FitsAfterLandingPad, Follows, FollowsLandingPad, Begins, IsEnd, Places, without_words, here as placed_here, after_landing_pad as placed_after, in_new, last_here, last_after_landing_pad}
 use Rattle.cp_writing.specs.Layout as layout
@@ -29,12 +29,12 @@ has_target S s p o start (kinds.List size n) lt is named near e =
     record { pointer = pointers.List (pos o) size n; offset = pos o; stands = (lt, ap pointer_of is ∙ says_list o size n near); says = (refl, refl); begins = ap pos e }
 
 -- how far segments are filled once the body's words are appended
-pub filled-here : (F : Written) (s p : ℕ) (k : BodyKind) (size : ℕ) (xs : List ℕ) → length xs ≡ size → filled (append xs (here s p k F).sheet) ≡ record { last = length F.full; used = length F.last + size }
+pub filled-here : (F : Written) (s p : ℕ) (k : BodyKind) (size : ℕ) (xs : List ℕ) → length xs ≡ size → filled (append xs (here s p k F).arena) ≡ record { last = length F.full; used = length F.last + size }
 filled-here F s p k size xs long =
     let w = body_word k (end_of F s - (p + 1)) in
     rw (length-append (put s p w F).last xs, full-put F s p w, last-put F s p w, long) refl
 
-pub filled-starts_after : (F : Written) (s p : ℕ) (k : BodyKind) (size : ℕ) (xs : List ℕ) → length xs ≡ size → filled (append xs (after_landing_pad s p k F).sheet) ≡ record { last = length F.full; used = length F.last + 1 + size }
+pub filled-starts_after : (F : Written) (s p : ℕ) (k : BodyKind) (size : ℕ) (xs : List ℕ) → length xs ≡ size → filled (append xs (after_landing_pad s p k F).arena) ≡ record { last = length F.full; used = length F.last + 1 + size }
 filled-starts_after F s p k size xs long =
     let w = word_of (pointers.Far false (length F.last) (length F.full)) in
     let landing_pad = body_word k 0 ∷ [] in
@@ -56,7 +56,7 @@ module _ (capacity : Capacity) (s size : ℕ) (F : Written) where
 
 module _ (capacity : Capacity) (S : List (List ℕ)) (small : (b : ℕ) → length (segment S b) ≤ 134217728) where
   -- directly
-  target_here : (F : Written) (s p : ℕ) (k : BodyKind) → s ≤ length F.full → p < end_of F s → IsNamed k → Later F s p 1 (here s p k F).sheet S → HasTargetHere S s p k (end_of F s)
+  target_here : (F : Written) (s p : ℕ) (k : BodyKind) → s ≤ length F.full → p < end_of F s → IsNamed k → Later F s p 1 (here s p k F).arena S → HasTargetHere S s p k (end_of F s)
   target_here F s p k le lt named l =
       let o = end_of F s - (p + 1) in
       let G = put s p (body_word k o) F in
@@ -65,7 +65,7 @@ module _ (capacity : Capacity) (S : List (List ℕ)) (small : (b : ℕ) → leng
       has_target S s p o (end_of F s) k (omega (arith, lt, end, l.ends s)) is named (omega (arith, small s, l.ends s, end)) (omega (arith, lt))
 
   -- by a pad
-  target_pad : (F : Written) (s p : ℕ) (k : BodyKind) → s ≤ length F.full → p < end_of F s → IsNamed k → Later F s p 1 (after_landing_pad s p k F).sheet S
+  target_pad : (F : Written) (s p : ℕ) (k : BodyKind) → s ≤ length F.full → p < end_of F s → IsNamed k → Later F s p 1 (after_landing_pad s p k F).arena S
       → (a : HasTargetByLandingPad S s p k (length F.full) (length F.last + 1)) × (a.place ≡ length F.last)
   target_pad F s p k le lt named l =
       let far = word_of (pointers.Far false (length F.last) (length F.full)) in
@@ -90,24 +90,24 @@ module _ (capacity : Capacity) (S : List (List ℕ)) (small : (b : ℕ) → leng
       )
 
   -- the body's words follow
-  follows : (F : Written) (s p : ℕ) (k : BodyKind) (size : ℕ) (xs : List ℕ) → length xs ≡ size → s ≤ length F.full → p < end_of F s → IsNamed k → s ≡ length F.full → Later F s p 1 (here s p k F).sheet S
-      → Follows S s p k size (filled F) s (end_of F s) (filled (append xs (here s p k F).sheet))
+  follows : (F : Written) (s p : ℕ) (k : BodyKind) (size : ℕ) (xs : List ℕ) → length xs ≡ size → s ≤ length F.full → p < end_of F s → IsNamed k → s ≡ length F.full → Later F s p 1 (here s p k F).arena S
+      → Follows S s p k size (filled F) s (end_of F s) (filled (append xs (here s p k F).arena))
   follows F s p k size xs long le lt named e l = record { has_target = target_here F s p k le lt named l; same = refl; starts_after = ap (end_of F) e ∙ end-last F; fills = filled-here F s p k size xs long }
 
-  follows_pad : (F : Written) (s p : ℕ) (k : BodyKind) (size : ℕ) (xs : List ℕ) → length xs ≡ size → s ≤ length F.full → p < end_of F s → IsNamed k → Later F s p 1 (after_landing_pad s p k F).sheet S
-      → FollowsLandingPad S s p k size (filled F) (length F.full) (length F.last + 1) (filled (append xs (after_landing_pad s p k F).sheet))
+  follows_pad : (F : Written) (s p : ℕ) (k : BodyKind) (size : ℕ) (xs : List ℕ) → length xs ≡ size → s ≤ length F.full → p < end_of F s → IsNamed k → Later F s p 1 (after_landing_pad s p k F).arena S
+      → FollowsLandingPad S s p k size (filled F) (length F.full) (length F.last + 1) (filled (append xs (after_landing_pad s p k F).arena))
   follows_pad F s p k size xs long le lt named l =
       let a = target_pad F s p k le lt named l in
       record { has_target = a.0; last = refl; landing_pad = a.1; starts_after = refl; fills = filled-starts_after F s p k size xs long }
 
-  begins : (F : Written) (s p : ℕ) (k : BodyKind) (size : ℕ) (xs : List ℕ) → length xs ≡ size → s ≤ length F.full → p < end_of F s → IsNamed k → Later F s p 1 (after_landing_pad s p k (begin F)).sheet S
-      → Begins S s p k size (filled F) (length (begin F).full) 1 (filled (append xs (after_landing_pad s p k (begin F)).sheet))
+  begins : (F : Written) (s p : ℕ) (k : BodyKind) (size : ℕ) (xs : List ℕ) → length xs ≡ size → s ≤ length F.full → p < end_of F s → IsNamed k → Later F s p 1 (after_landing_pad s p k (begin F)).arena S
+      → Begins S s p k size (filled F) (length (begin F).full) 1 (filled (append xs (after_landing_pad s p k (begin F)).arena))
   begins F s p k size xs long le lt named l =
       let G = begin F in
       let far = word_of (pointers.Far false 0 (length G.full)) in
       let there : s ≤ length G.full = omega (arith, le, full-begin F) in
       let a = target_pad G s p k there (omega (arith, lt, end-begin F s)) named (at_last l (λ b r fresh. ⊎_elim (λ ge. inl (omega (arith, ge, end-begin F b))) (λ i. inr i) fresh)) in
-      let kept : Keeps G s p 1 (after_landing_pad s p k G).sheet = keeps_both (keeps_put G s p far there) (keeps_append (put s p far G) (body_word k 0 ∷ []) s p 1) (λ b r inside i. i) (λ b r inside i. i) in
+      let kept : Keeps G s p 1 (after_landing_pad s p k G).arena = keeps_both (keeps_put G s p far there) (keeps_append (put s p far G) (body_word k 0 ∷ []) s p 1) (λ b r inside i. i) (λ b r inside i. i) in
       let next = full-begin F in
       record {
         has_target = a.0;
@@ -120,7 +120,7 @@ module _ (capacity : Capacity) (S : List (List ℕ)) (small : (b : ℕ) → leng
 
   -- where a body goes, and how far the segments are filled with it
   abbrev pub AsLaid : Written → ℕ → ℕ → BodyKind → ℕ → List ℕ → Placed → Type 0
-  AsLaid F s p k size xs x = Later F s p 1 x.sheet S → Places S (capacity_of capacity) s p k size (filled F) x.at.segment x.at.word (filled (append xs x.sheet))
+  AsLaid F s p k size xs x = Later F s p 1 x.arena S → Places S (capacity_of capacity) s p k size (filled F) x.at.segment x.at.word (filled (append xs x.arena))
 
   placed_nothing : (F : Written) (s p : ℕ) (k : BodyKind) (size : ℕ) (xs : List ℕ) → length xs ≡ size → s ≤ length F.full → p < end_of F s → IsNamed k → size ≡ 0 → AsLaid F s p k size xs (here s p k F)
   placed_nothing F s p k size xs long le lt named z l =

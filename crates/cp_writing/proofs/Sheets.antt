@@ -9,8 +9,8 @@ use Rattle.std.specs.declared.alloc.Global.{Global}
 use Rattle.cp_words.specs.Segments.{words_of}
 use Rattle.cp_words.specs.Targets.{segment}
 use Rattle.cp_tree.specs.declared.fault.WriteFault.{WriteFault}
-use Rattle.cp_writing.specs.declared.sheet.Capacity.{Capacity}
-use Rattle.cp_writing.specs.declared.sheet.Sheet.{Sheet}
+use Rattle.cp_writing.specs.declared.arena.Capacity.{Capacity}
+use Rattle.cp_writing.specs.declared.arena.Arena.{Arena}
 use Rattle.cp_writing.specs.declared.strip.Strip.{Strip}
 use Rattle.cp_writing.specs.Strips.{words_on}
 use Rattle.cp_words.specs.declared.kind.BodyKind.{BodyKind}
@@ -165,29 +165,29 @@ append-keeps capacity F ws h within = (
       (cases_eq b (length F.full)),
 )
 
--- a sheet keeps to its capacity, where what is written on it does
-pub within : (old new : Sheet) (F : Written) → written new ≡ F → SameLimits old new → KeepsTo old.capacity F → IsWithin new
+-- an arena keeps to its capacity, where what is written on it does
+pub within : (old new : Arena) (F : Written) → written new ≡ F → SameLimits old new → KeepsTo old.capacity F → IsWithin new
 within old new F is same h = subst (λ k. KeepsTo k (written new)) (sym same.0) (subst (KeepsTo old.capacity) (sym is) h)
 
-pub limits_on : (old mid new : Sheet) → SameLimits old mid → SameLimits mid new → SameLimits old new
+pub limits_on : (old mid new : Arena) → SameLimits old mid → SameLimits mid new → SameLimits old new
 limits_on old mid new same more = (more.0 ∙ same.0, more.1 ∙ same.1)
 
 -- what is refused after a step that leaves the limits, or written, is so from the start
-pub refuses_on : (old mid : Sheet) (e : WriteFault) (wanted : Written) → SameLimits old mid → Refuses mid.capacity e wanted → Refuses old.capacity e wanted
+pub refuses_on : (old mid : Arena) (e : WriteFault) (wanted : Written) → SameLimits old mid → Refuses mid.capacity e wanted → Refuses old.capacity e wanted
 refuses_on old mid e wanted same h = subst (λ k. Refuses k e wanted) same.0 h
 
-pub writes_on : {X : Type 0} (old mid new : Sheet) (r : Result X WriteFault) (wanted : Written) → SameLimits old mid → Writes mid new r wanted → Writes old new r wanted
+pub writes_on : {X : Type 0} (old mid new : Arena) (r : Result X WriteFault) (wanted : Written) → SameLimits old mid → Writes mid new r wanted → Writes old new r wanted
 writes_on old mid new (Ok x) wanted same h = (h.0, h.1, limits_on old mid new same h.2)
 writes_on old mid new (Err e) wanted same h = refuses_on old mid e wanted same h
 
 -- words that were counted were appended
-abbrev Appended : Sheet → List ℕ → Strip → Sheet → Type 0
+abbrev Appended : Arena → List ℕ → Strip → Arena → Type 0
 Appended old ws v mid = (written (record mid { last = v }) ≡ append ws (written old)) × IsWithin (record mid { last = v }) × SameLimits old (record mid { last = v })
 
-pub counted : (old mid : Sheet) (v : Strip) (ws : List ℕ) (n : ℕ) → IsWithin old → length ws ≡ n → old.words + n ≤ old.capacity.whole → mid ≡ record old { words = old.words + n } → words_on v ≡ words_on mid.last ++ ws → Appended old ws v mid
+pub counted : (old mid : Arena) (v : Strip) (ws : List ℕ) (n : ℕ) → IsWithin old → length ws ≡ n → old.words + n ≤ old.capacity.whole → mid ≡ record old { words = old.words + n } → words_on v ≡ words_on mid.last ++ ws → Appended old ws v mid
 counted old mid v ws n h long most count is =
-    let last : words_on v ≡ words_on old.last ++ ws = is ∙ ap (λ (w : Sheet). words_on w.last ++ ws) count in
-    let new : Sheet = record old { words = old.words + n; last = v } in
+    let last : words_on v ≡ words_on old.last ++ ws = is ∙ ap (λ (w : Arena). words_on w.last ++ ws) count in
+    let new : Arena = record old { words = old.words + n; last = v } in
     let e : written new ≡ append ws (written old) = rw (last, long) refl in
     subst (Appended old ws v) (sym count) (e, within old new _ e (refl, refl) (append-keeps old.capacity (written old) ws h (omega (arith, long, most))), (refl, refl))
 

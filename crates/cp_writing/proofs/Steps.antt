@@ -3,7 +3,7 @@ use Rattle.std.proofs.Common.{◌≡◌, ℕ, ◌+◌, ◌*◌, ◌^◌, ◌<◌
 use Rattle.std.proofs.Math.Nat.{suc-mul}
 use Rattle.cp_words.specs.declared.place.Place.{Place}
 use Rattle.cp_tree.specs.declared.fault.WriteFault.{WriteFault}
-use Rattle.cp_writing.specs.declared.sheet.Sheet.{Sheet}
+use Rattle.cp_writing.specs.declared.arena.Arena.{Arena}
 use Rattle.cp_tree.specs.Node.{Elements, voids, bits, bytes, halves, quads, words, element_count, Node, Nodes, node, Bodies, body, count, number_of}
 use Rattle.cp_tree.specs.Shaped.{ElementsFit, Shaped, EachShaped, EachEven}
 use Rattle.cp_writing.specs.Sheets.{Written, written, IsWithin, IsRun, IsPlace, Refuses}
@@ -12,10 +12,10 @@ use Rattle.cp_writing.proofs.Begins.{writes_err}
 use Rattle.cp_writing.proofs.Keeps.{keeps_tree, keeps_row, keeps_bodies}
 
 -- These trees are still to be written, whose pointers stand from a place on, and then all is as it is to be.
-abbrev pub RowKept : Sheet → Sheet → Place → Nodes → Written → Type 0
+abbrev pub RowKept : Arena → Arena → Place → Nodes → Written → Type 0
 RowKept old cur at here all = IsWithin cur × (cur.capacity ≡ old.capacity) × IsRun (written cur) at (count here) × EachShaped here × (row_on cur at here ≡ all)
 
-module _ (old cur : Sheet) (at : Place) (here rest : Nodes) (t : Node) (all : Written) (e : here ≡ node t rest) (kept : RowKept old cur at here all) where
+module _ (old cur : Arena) (at : Place) (here rest : Nodes) (t : Node) (all : Written) (e : here ≡ node t rest) (kept : RowKept old cur at here all) where
   abbrev next : Place
   next = record { segment = at.segment; word = at.word + 1 }
 
@@ -40,7 +40,7 @@ module _ (old cur : Sheet) (at : Place) (here rest : Nodes) (t : Node) (all : Wr
       let k = keeps_row cur.capacity rest at.segment (at.word + 1) G tree_shaped.1 run_is.0 run_is.1 in
       subst (λ c. Refuses c fault all) kept.1 (writes_err cur.capacity fault G all (omega (arith, k.counts, ap (λ (W : Written). W.words) row_is)) h)
 
-  pub row_next : (new : Sheet) → written new ≡ tree_on cur at t → IsWithin new → new.capacity ≡ cur.capacity → RowKept old new next rest all
+  pub row_next : (new : Arena) → written new ≡ tree_on cur at t → IsWithin new → new.capacity ≡ cur.capacity → RowKept old new next rest all
   row_next new step keeps same = (
     keeps,
     same ∙ kept.1,
@@ -50,10 +50,10 @@ module _ (old cur : Sheet) (at : Place) (here rest : Nodes) (t : Node) (all : Wr
   )
 
 -- The same of elements of a composite list.
-abbrev pub BodiesKept : Sheet → Sheet → Place → ℕ → ℕ → Bodies → Written → Type 0
+abbrev pub BodiesKept : Arena → Arena → Place → ℕ → ℕ → Bodies → Written → Type 0
 BodiesKept old cur at d n here all = IsWithin cur × (cur.capacity ≡ old.capacity) × IsRun (written cur) at (number_of here * (d + n)) × EachEven d n here × (bodies_on cur at d n here ≡ all)
 
-module _ (old cur : Sheet) (at : Place) (d n : ℕ) (here rest : Bodies) (ws : List ℕ) (ts : Nodes) (all : Written) (e : here ≡ body ws ts rest) (kept : BodiesKept old cur at d n here all) where
+module _ (old cur : Arena) (at : Place) (d n : ℕ) (here rest : Bodies) (ws : List ℕ) (ts : Nodes) (all : Written) (e : here ≡ body ws ts rest) (kept : BodiesKept old cur at d n here all) where
   abbrev pointers : Place
   pointers = record { segment = at.segment; word = at.word + d }
 
@@ -86,7 +86,7 @@ module _ (old cur : Sheet) (at : Place) (d n : ℕ) (here rest : Bodies) (ws : L
       let k = keeps_bodies cur.capacity rest at.segment (at.word + d + n) d n G body_even.4 bodies_run.0 bodies_run.1 in
       subst (λ c. Refuses c fault all) kept.1 (writes_err cur.capacity fault G all (omega (arith, k.counts, ap (λ (W : Written). W.words) bodies_are)) h)
 
-  pub bodies_next : (new : Sheet) → written new ≡ row_on cur pointers ts → IsWithin new → new.capacity ≡ cur.capacity → BodiesKept old new after d n rest all
+  pub bodies_next : (new : Arena) → written new ≡ row_on cur pointers ts → IsWithin new → new.capacity ≡ cur.capacity → BodiesKept old new after d n rest all
   bodies_next new step keeps same = (
     keeps,
     same ∙ kept.1,

@@ -4,7 +4,7 @@ use Rattle.cp_words.specs.Limits.{Bounds}
 use Rattle.cp_tree.specs.Node.{Node}
 use Rattle.cp_tree.specs.declared.fault.WriteFault.{WriteFault}
 use Rattle.cp_tree.specs.declared.fault.WriteFault.TheVariants as faults
-use Rattle.cp_writing.specs.declared.sheet.Capacity.{Capacity}
+use Rattle.cp_writing.specs.declared.arena.Capacity.{Capacity}
 use Rattle.cp_writing.specs.Sheets.{Written}
 use Rattle.cp_writing.specs.Writing.{tree_by}
 use Rattle.cp_writing.specs.Writes.{FitsIn, IsCostFaultOf}

@@ -7,8 +7,8 @@ use Rattle.cp_words.specs.declared.kind.BodyKind.TheVariants as kinds
 use Rattle.cp_words.specs.declared.place.Place.{Place}
 use Rattle.cp_tree.specs.declared.fault.WriteFault.{WriteFault}
 use Rattle.cp_tree.specs.declared.fault.WriteFault.TheVariants as faults
-use Rattle.cp_writing.specs.declared.sheet.Sheet.{Sheet}
-use Rattle.cp_writing.specs.declared.sheet.Capacity.{Capacity}
+use Rattle.cp_writing.specs.declared.arena.Arena.{Arena}
+use Rattle.cp_writing.specs.declared.arena.Capacity.{Capacity}
 use Rattle.cp_writing.specs.Strips.{words_on}
 use Rattle.cp_words.specs.Segments.{words_of}
 use Rattle.cp_words.specs.Targets.{segment}
@@ -19,7 +19,7 @@ pub record Written : Type 0 where
   pub last : List ℕ
   pub words : ℕ
 
-abbrev pub written : Sheet → Written
+abbrev pub written : Arena → Written
 written w = record { full = words_of w.full.items; last = words_on w.last; words = w.words }
 
 abbrev pub segments_of : Written → List (List ℕ)
@@ -55,17 +55,17 @@ IsNamed (kinds.List size n) = n < 2 ^ 29
 
 -- what is written, and where a body goes
 pub record Placed : Type 0 where
-  pub sheet : Written
+  pub arena : Written
   pub at : Place
 
 -- directly, at the end of its pointer's segment
 abbrev pub here : ℕ → ℕ → BodyKind → Written → Placed
-here s p k F = record { sheet = put s p (body_word k (end_of F s - (p + 1))) F; at = record { segment = s; word = end_of F s } }
+here s p k F = record { arena = put s p (body_word k (end_of F s - (p + 1))) F; at = record { segment = s; word = end_of F s } }
 
 -- after a landing pad, at the end of the last segment
 abbrev pub after_landing_pad : ℕ → ℕ → BodyKind → Written → Placed
 after_landing_pad s p k F =
-    record { sheet = append (body_word k 0 ∷ []) (put s p (word_of (pointers.Far false (length F.last) (length F.full))) F); at = record { segment = length F.full; word = length F.last + 1 } }
+    record { arena = append (body_word k 0 ∷ []) (put s p (word_of (pointers.Far false (length F.last) (length F.full))) F); at = record { segment = length F.full; word = length F.last + 1 } }
 
 -- how many words a landing pad takes before a body whose pointer is in a segment
 abbrev pub landing_pad_for : ℕ → Written → ℕ
@@ -88,8 +88,8 @@ place_in s p k size F =
 abbrev pub place_by : Capacity → ℕ → ℕ → BodyKind → ℕ → Written → Placed
 place_by capacity s p k size F = place_in s p k size (with_segment_for capacity s size F)
 
--- the same on a sheet, of a body whose pointer is at a place
-abbrev pub place_on : Sheet → Place → BodyKind → ℕ → Placed
+-- the same on an arena, of a body whose pointer is at a place
+abbrev pub place_on : Arena → Place → BodyKind → ℕ → Placed
 place_on w at k size = place_by w.capacity at.segment at.word k size (written w)
 
 -- no more than limits can allow
@@ -100,12 +100,12 @@ IsCapacity capacity = (0 < capacity.whole) × (capacity.whole ≤ 67108864) × (
 abbrev pub KeepsTo : Capacity → Written → Type 0
 KeepsTo capacity F = IsCapacity capacity × (F.words ≤ capacity.whole) × (length F.full < 512) × ((s : ℕ) → end_of F s ≤ F.words)
 
--- a sheet keeps to its capacity
-abbrev pub IsWithin : Sheet → Type 0
+-- an arena keeps to its capacity
+abbrev pub IsWithin : Arena → Type 0
 IsWithin w = KeepsTo w.capacity (written w)
 
--- the capacity of a sheet and its budget stay
-abbrev pub SameLimits : Sheet → Sheet → Type 0
+-- the capacity of an arena and its budget stay
+abbrev pub SameLimits : Arena → Arena → Type 0
 SameLimits old new = (new.capacity ≡ old.capacity) × (new.budget ≡ old.budget)
 
 -- a word was written there
@@ -123,14 +123,14 @@ Refuses capacity faults.OutOfMemory wanted = Unit {0}
 Refuses capacity other wanted = ⊥
 
 -- the words were written and counted, and the limits stay; or no more is written
-abbrev pub Writes : {X : Type 0} → Sheet → Sheet → Result X WriteFault → Written → Type 0
+abbrev pub Writes : {X : Type 0} → Arena → Arena → Result X WriteFault → Written → Type 0
 Writes old new (Ok x) wanted = (written new ≡ wanted) × IsWithin new × SameLimits old new
 Writes old new (Err e) wanted = Refuses old.capacity e wanted
 
 -- the same of words that are appended
-abbrev pub Appends : {X : Type 0} → Sheet → Sheet → Result X WriteFault → List ℕ → Type 0
+abbrev pub Appends : {X : Type 0} → Arena → Arena → Result X WriteFault → List ℕ → Type 0
 Appends old new result ws = Writes old new result (append ws (written old))
 
 -- a body was placed, or its landing pad is one word too many
-abbrev pub Places : Sheet → Sheet → Result Place WriteFault → Placed → Type 0
-Places old new result wanted = Writes old new result wanted.sheet × IfOk result (λ at. at ≡ wanted.at)
+abbrev pub Places : Arena → Arena → Result Place WriteFault → Placed → Type 0
+Places old new result wanted = Writes old new result wanted.arena × IfOk result (λ at. at ≡ wanted.at)

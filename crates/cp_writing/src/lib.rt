@@ -1,12 +1,12 @@
 //! Trees, written into the segments of a Cap'n Proto message.
 #![tactic(auto)]
 
+mod arena;
 mod block;
 mod laws;
 mod lay;
 mod lay_list;
 mod pack;
-mod sheet;
 mod strip;
 mod write;
 

@@ -42,7 +42,7 @@ impl Strip {
         match self {
             Strip::Bytes(block) => Ok(block.into_bytes()),
             Strip::Words(words) => {
-                // A sheet of one segment that began over bytes doesn't come here.
+                // An arena of one segment that began over bytes doesn't come here.
                 let mut block = Block::new(Vec::new(alloc))?;
                 block.append(&words)?;
                 Ok(block.into_bytes())

@@ -11,9 +11,9 @@ ghost use Rattle.cp_writing.specs.Strips.{words_on};
 ghost use Rattle.cp_writing.specs.Writes.{AreBytesOf, IsCostFaultOf, IsWriteFaultOf, FitsIn};
 ghost use Rattle.cp_writing.specs.LaidOut.{capacity_for, laid_out, MeetsLimit};
 
+use crate::arena::{Arena, Capacity};
 use crate::block::Block;
 use crate::lay::lay;
-use crate::sheet::{Capacity, Sheet};
 use crate::strip::Strip;
 use cp_tree::{Draft, Object, TreeRef, WriteFault, nests};
 use cp_words::{Limits, Place, Segments};
@@ -84,7 +84,7 @@ pub fn write_root(alloc: Global, object: &Object, limits: Limits) -> Result<Vec<
     ensures refused { IfErr result (IsWriteFaultOf limits (record { words = limits.frame_words; segments = 1 }) object.now) }
 {
     let tree = TreeRef::Tree(object.tree());
-    let sheet = lay_out(
+    let arena = lay_out(
         alloc,
         Strip::Words(Vec::new(alloc)),
         tree,
@@ -93,7 +93,7 @@ pub fn write_root(alloc: Global, object: &Object, limits: Limits) -> Result<Vec<
         1,
         limits,
     )?;
-    Ok(sheet.into_last()?)
+    Ok(arena.into_last()?)
 }
 
 /// Writes a tree with lent parts, of one that a message can hold, into one segment, as `write_root` writes a tree, and gives
@@ -114,8 +114,8 @@ pub fn write_draft_bytes(
 {
     let strip = Strip::Bytes(Block::new(buffer)?);
     let tree = TreeRef::Draft(draft);
-    let sheet = lay_out(alloc, strip, tree, limits.frame_words(), 1, limits)?;
-    Ok(sheet.into_bytes()?)
+    let arena = lay_out(alloc, strip, tree, limits.frame_words(), 1, limits)?;
+    Ok(arena.into_bytes()?)
 }
 
 /// Writes a tree, of one that a message can hold, into segments as `write_draft_over` writes one with lent parts.
@@ -134,8 +134,8 @@ fn write_tree(
 {
     let words = if max_words == 0 { 1 } else { max_words };
     let strip = Strip::over(buffer);
-    let sheet = lay_out(alloc, strip, tree, words, limits.segments(), limits)?;
-    Ok(sheet.into_segments()?)
+    let arena = lay_out(alloc, strip, tree, words, limits.segments(), limits)?;
+    Ok(arena.into_segments()?)
 }
 
 /// The tree written into segments of at most this many words each, and of them at most this many, the first
@@ -147,7 +147,7 @@ fn lay_out(
     words: u32,
     segments: u32,
     limits: Limits,
-) -> Result<Sheet, WriteFault>
+) -> Result<Arena, WriteFault>
     requires blank { words_on strip ≡ [] }
     requires shaped { Shaped (node_in tree) }
     requires few { segments ≤ 512 }
@@ -162,13 +162,13 @@ fn lay_out(
         segments: segments as usize,
         whole: limits.frame_words() as usize,
     };
-    let mut sheet = Sheet::new(alloc, strip, capacity, limits.traversal() as u64)?;
+    let mut arena = Arena::new(alloc, strip, capacity, limits.traversal() as u64)?;
     let root = Place {
         segment: 0,
         word: 0,
     };
-    match lay(&mut sheet, root, tree, limits.nesting()) {
-        Ok(()) => Ok(sheet),
+    match lay(&mut arena, root, tree, limits.nesting()) {
+        Ok(()) => Ok(arena),
         // The walk ended before the limits were known, so B3 stands.
         Err(WriteFault::OutOfMemory) => Err(WriteFault::OutOfMemory),
         Err(fault) => {

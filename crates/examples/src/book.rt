@@ -5,7 +5,7 @@ use addressbook::{
     PersonPhoneNumberType as Phone, PersonReader,
 };
 use anyhow::anyhow;
-use jamdrosek::fields::Pointee;
+use jamdrosek::fields::PointerReader;
 use jamdrosek::reading::View;
 use jamdrosek::{FrameReader, Limits, Segments};
 use std::alloc::Global;
@@ -27,7 +27,7 @@ pub fn print_books(rt: &HostRuntime, bytes: &[u8]) -> anyhow::Result<()> {
 /// Prints whose book it is, what people are sorted into, and the people. What a book doesn't say is as by default.
 fn print_book(rt: &HostRuntime, segments: &Segments) -> anyhow::Result<()> {
     let view = View::root(segments, Limits::standard()).map_err(|fault| anyhow!("{fault}"))?;
-    let book = AddressBookReader::of(Pointee::of_view(view))?;
+    let book = AddressBookReader::of(PointerReader::of_view(view))?;
     print_head(rt, &book)?;
     for person in book.people()? {
         print_person(rt, &person)?;

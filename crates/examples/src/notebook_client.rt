@@ -2,9 +2,9 @@
 
 use jamdrosek::client::{Client, Question};
 use jamdrosek::interfaces::{MethodResult, ServiceObject};
-use jamdrosek::server::{Family, Hall, Here};
+use jamdrosek::server::{Context, ObjectTable, Objects};
 use jamdrosek::{Limits, Mode};
-use notebook::{NotebookClient, WatcherAddedCall, WatcherClient, WatcherServant, WatcherServer};
+use notebook::{NotebookClient, WatcherAddedCall, WatcherClient, WatcherDispatch, WatcherServer};
 use std::alloc::Global;
 use std::cell::RefCell;
 use std::io::{Read, Write};
@@ -12,7 +12,7 @@ use std::net::{Ipv4Addr, SocketAddr, TcpStream};
 use std::rc::Rc;
 
 /// The objects of the client: its watchers.
-type Served = WatcherServant<Watcher>;
+type Served = WatcherDispatch<Watcher>;
 
 pub fn run(rt: &HostRuntime) -> anyhow::Result<()> {
     let stream = TcpStream::connect(rt, SocketAddr::from((Ipv4Addr::LOCALHOST, 7001)))?;
@@ -31,10 +31,10 @@ pub fn talk<R: Read + Drop, W: Write + Drop>(
     let object = Watcher {
         heard: heard.clone()?,
     };
-    let mut objects = Family::new(alloc);
-    let watcher = WatcherClient::new(alloc, objects.add(WatcherServant::new(object))?);
+    let mut objects = Objects::new(alloc);
+    let watcher = WatcherClient::new(alloc, objects.add(WatcherDispatch::new(object))?);
     let limits = Limits::standard();
-    let mut client = Client::with_family(alloc, from, to, Mode::Plain, limits, objects);
+    let mut client = Client::with_objects(alloc, from, to, Mode::Plain, limits, objects);
     let said = add_and_read(alloc, &mut client, watcher, &heard);
     // This consumes the client, so that the prover needn't check its drop here.
     let (_, to) = client.into_devices();
@@ -42,7 +42,7 @@ pub fn talk<R: Read + Drop, W: Write + Drop>(
 }
 
 /// Watches, reads the page of the next note, adds that note, and gives the page up, in one round trip.
-fn add_and_read<R: Read + Drop, W: Write + Drop, H: Hall>(
+fn add_and_read<R: Read + Drop, W: Write + Drop, H: ObjectTable>(
     alloc: Global,
     client: &mut Client<R, W, H>,
     watcher: WatcherClient,
@@ -74,8 +74,12 @@ impl ServiceObject for Watcher {
 }
 
 impl WatcherServer for Watcher {
-    fn added(&mut self, call: &mut WatcherAddedCall<'_>, here: &mut Here<Served>) -> MethodResult {
-        let note = call.params.text()?.text(here.alloc())?;
+    fn added(
+        &mut self,
+        call: &mut WatcherAddedCall<'_>,
+        context: &mut Context<Served>,
+    ) -> MethodResult {
+        let note = call.params.text()?.text(context.alloc())?;
         let mut heard = self.heard.try_borrow_mut()?;
         heard.push_str(", told of ")?;
         heard.push_str(note.as_str())?;

@@ -1,11 +1,11 @@
 //! Serves notes to many clients at once, over TCP. A call makes a page, and watchers are told of each new note.
 
-use jamdrosek::host::{Host, HostPlan, Listener, News};
+use jamdrosek::host::{Host, HostConfig, HostEvent, Listener};
 use jamdrosek::interfaces::{MethodFault, MethodResult, ServiceObject, failed};
-use jamdrosek::server::{Any2, Family, Here, Settled, Waker};
+use jamdrosek::server::{Context, Either, Objects, Settled, Waker};
 use notebook::{
-    NotebookAddCall, NotebookNextCall, NotebookOpenCall, NotebookServant, NotebookServer,
-    NotebookWatchCall, PageClient, PageReadCall, PageResolver, PageServant, PageServer,
+    NotebookAddCall, NotebookDispatch, NotebookNextCall, NotebookOpenCall, NotebookServer,
+    NotebookWatchCall, PageClient, PageDispatch, PageReadCall, PageResolver, PageServer,
     WatcherClient,
 };
 use std::alloc::Global;
@@ -16,7 +16,7 @@ use std::net::{Ipv4Addr, SocketAddr};
 use std::rc::Rc;
 
 /// The objects of a connection: its notebook, and the pages that are open.
-pub type Served = Any2<NotebookServant<Notebook>, PageServant<Page>>;
+pub type Served = Either<NotebookDispatch<Notebook>, PageDispatch<Page>>;
 
 /// What all clients share.
 pub type Shared = Rc<RefCell<Shelf>>;
@@ -31,14 +31,14 @@ pub struct Shelf {
 
 pub fn run(rt: &HostRuntime) -> anyhow::Result<()> {
     let listener = Listener::bind(rt, SocketAddr::from((Ipv4Addr::LOCALHOST, 7001)))?;
-    let mut host = Host::new(rt, HostPlan::standard(), listener)?;
+    let mut host = Host::new(rt, HostConfig::standard(), listener)?;
     let shelf = new_shelf(rt.alloc())?;
     for _ in 0..u64::MAX {
         match host.next(rt)? {
-            Some(News::Came { number, .. }) => {
+            Some(HostEvent::Connected { number, .. }) => {
                 host.admit(new_objects(rt.alloc(), &shelf, number)?)?;
             }
-            Some(News::Ended { number, .. }) => {
+            Some(HostEvent::Ended { number, .. }) => {
                 let mut shelf = shelf.try_borrow_mut()?;
                 let _ = shelf.wakers.remove(&number);
             }
@@ -56,7 +56,7 @@ pub fn new_shelf(alloc: Global) -> anyhow::Result<Shared> {
 }
 
 /// The objects of the connection of this number: a notebook at first.
-pub fn new_objects(alloc: Global, shelf: &Shared, number: u64) -> anyhow::Result<Family<Served>> {
+pub fn new_objects(alloc: Global, shelf: &Shared, number: u64) -> anyhow::Result<Objects<Served>> {
     let object = Notebook {
         shelf: shelf.clone()?,
         number,
@@ -64,8 +64,8 @@ pub fn new_objects(alloc: Global, shelf: &Shared, number: u64) -> anyhow::Result
         promised: Vec::new(alloc),
         told: shelf.try_borrow()?.notes.len(),
     };
-    let mut objects = Family::new(alloc);
-    objects.add(Served::First(NotebookServant::new(object)))?;
+    let mut objects = Objects::new(alloc);
+    objects.add(Served::Left(NotebookDispatch::new(object)))?;
     Ok(objects)
 }
 
@@ -83,16 +83,16 @@ pub struct Notebook {
 
 impl Notebook {
     /// Tells the watchers of each note that was added, and makes the pages of it that were promised.
-    fn tell_all(&mut self, here: &mut Here<Served>) -> MethodResult {
+    fn tell_all(&mut self, context: &mut Context<Served>) -> MethodResult {
         let mut shelf = self.shelf.try_borrow_mut()?;
-        shelf.wakers.insert(self.number, here.waker())?;
+        shelf.wakers.insert(self.number, context.waker())?;
         for note in shelf.notes.iter().skip(self.told) {
             for watcher in &self.watchers {
-                here.tell(watcher.added_ask(note.as_str(), 0)?)?;
+                context.send(watcher.added_call(note.as_str(), 0)?)?;
             }
-            for resolver in mem::replace(&mut self.promised, Vec::new(here.alloc())) {
-                let page = new_page(&self.shelf, self.told, here)?;
-                resolver.resolve(here, page)?;
+            for resolver in mem::replace(&mut self.promised, Vec::new(context.alloc())) {
+                let page = new_page(&self.shelf, self.told, context)?;
+                resolver.resolve(context, page)?;
             }
             self.told = self.told.saturating_add(1);
         }
@@ -103,55 +103,75 @@ impl Notebook {
 impl ServiceObject for Notebook {
     type Makes = Served;
 
-    fn poll(&mut self, here: &mut Here<Served>) -> Result<Option<Settled>, MethodFault> {
-        self.tell_all(here)?;
+    fn poll(&mut self, context: &mut Context<Served>) -> Result<Option<Settled>, MethodFault> {
+        self.tell_all(context)?;
         Ok(None)
     }
 }
 
 impl NotebookServer for Notebook {
-    fn add(&mut self, call: &mut NotebookAddCall<'_>, here: &mut Here<Served>) -> MethodResult {
-        let text = call.params.text()?.text(here.alloc())?;
+    fn add(
+        &mut self,
+        call: &mut NotebookAddCall<'_>,
+        context: &mut Context<Served>,
+    ) -> MethodResult {
+        let text = call.params.text()?.text(context.alloc())?;
         let mut shelf = self.shelf.try_borrow_mut()?;
         call.results.set_id(u32::try_from(shelf.notes.len())?);
         shelf.notes.push(text)?;
         for (_, waker) in &shelf.wakers {
-            here.wake(*waker)?;
+            context.wake(*waker)?;
         }
         Ok(())
     }
 
-    fn open_(&mut self, call: &mut NotebookOpenCall<'_>, here: &mut Here<Served>) -> MethodResult {
-        let page = new_page(&self.shelf, call.params.id() as usize, here)?;
+    fn open_(
+        &mut self,
+        call: &mut NotebookOpenCall<'_>,
+        context: &mut Context<Served>,
+    ) -> MethodResult {
+        let page = new_page(&self.shelf, call.params.id() as usize, context)?;
         Ok(call.results.set_page(page)?)
     }
 
-    fn watch(&mut self, call: &mut NotebookWatchCall<'_>, here: &mut Here<Served>) -> MethodResult {
-        let watcher = call.params.watcher_client(here.alloc(), call.caps())?;
-        call.keep(&watcher.target, here)?;
-        self.tell_all(here)?;
+    fn watch(
+        &mut self,
+        call: &mut NotebookWatchCall<'_>,
+        context: &mut Context<Served>,
+    ) -> MethodResult {
+        let watcher = call.params.watcher_client(context.alloc(), call.caps())?;
+        call.keep(&watcher.target, context)?;
+        self.tell_all(context)?;
         self.watchers.push(watcher)?;
         Ok(())
     }
 
-    fn next(&mut self, call: &mut NotebookNextCall<'_>, here: &mut Here<Served>) -> MethodResult {
-        let resolver = PageResolver::new(here)?;
-        let page = resolver.client(here.alloc());
+    fn next(
+        &mut self,
+        call: &mut NotebookNextCall<'_>,
+        context: &mut Context<Served>,
+    ) -> MethodResult {
+        let resolver = PageResolver::new(context)?;
+        let page = resolver.client(context.alloc());
         call.results.set_page(page)?;
-        self.tell_all(here)?;
+        self.tell_all(context)?;
         self.promised.push(resolver)?;
         Ok(())
     }
 }
 
 /// Makes an object for a note.
-fn new_page(shelf: &Shared, id: usize, here: &mut Here<Served>) -> Result<PageClient, MethodFault> {
+fn new_page(
+    shelf: &Shared,
+    id: usize,
+    context: &mut Context<Served>,
+) -> Result<PageClient, MethodFault> {
     let object = Page {
         shelf: shelf.clone()?,
         id,
     };
-    let page = here.make(Served::Second(PageServant::new(object)))?;
-    Ok(PageClient::new(here.alloc(), page))
+    let page = context.make(Served::Right(PageDispatch::new(object)))?;
+    Ok(PageClient::new(context.alloc(), page))
 }
 
 /// A note, as an object.
@@ -166,11 +186,11 @@ impl ServiceObject for Page {
 }
 
 impl PageServer for Page {
-    fn read(&mut self, call: &mut PageReadCall<'_>, here: &mut Here<Served>) -> MethodResult {
+    fn read(&mut self, call: &mut PageReadCall<'_>, context: &mut Context<Served>) -> MethodResult {
         let shelf = self.shelf.try_borrow()?;
         let Some(note) = shelf.notes.get(self.id) else {
-            return Err(MethodFault::from(failed(here.alloc(), "there is no such note")?));
+            return Err(MethodFault::from(failed(context.alloc(), "there is no such note")?));
         };
-        Ok(call.results.set_text(here.alloc(), note.as_str())?)
+        Ok(call.results.set_text(context.alloc(), note.as_str())?)
     }
 }

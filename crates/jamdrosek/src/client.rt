@@ -2,7 +2,7 @@
 //!
 //! `bootstrap` asks for the peer's object, `call` calls a capability, and `wait` returns a question's outcome, once. Results can be called
 //! before they arrive (pipelining): `Question::cap` is a bootstrap's object, and `Question::at` the capability at a path of pointer fields.
-//! Calls are sent when the client next waits, all together. `ask` calls and waits.
+//! Calls are sent when the client next waits, all together. `call_and_wait` calls and waits.
 //!
 //! `finish` gives a question up, and `release` an import that an outcome named; until then the peer keeps them. `flush` writes what is still
 //! to be sent. `into_devices` ends the client, and returns the reader and the writer.
@@ -11,23 +11,23 @@
 //! when a reader's timeout ended a read. After `Ended` nothing more is read. Outcomes that came before that, or before a fault of the
 //! connection, are still returned, and `closed` says why the vat closed.
 //!
-//! A `Content` builds a call's params field by field. `results_of`, `word_in`, `text_in` and `data_in` read results. `request_of` is a call
+//! A `PayloadBuilder` builds a call's params field by field. `results_of`, `word_in`, `text_in` and `data_in` read results. `request_of` is a call
 //! whose params are a struct of data words, and `word_at` a data word of results.
 //!
-//! A client answers an incoming call with `no such object`. One made by `with_objects` can have objects: `export` adds one, whose capability
+//! A client answers an incoming call with `no such object`. One made by `with_servants` can have objects: `export` adds one, whose capability
 //! a call's table may name. While the client waits they get the calls that come, and are polled. They may call what they were given
-//! (`server::Servant::ask`). `with_objects` also says which of them the peer's Bootstrap gets, by its number: the first one exported is 0.
-//! `serve` answers until the peer ends. `with_family` makes a client of objects that make others (`server::Family`).
+//! (`server::Servant::next_call`). `with_servants` also says which of them the peer's Bootstrap gets, by its number: the first one exported is 0.
+//! `serve` answers until the peer ends. `with_objects` makes a client of objects that make others (`server::Objects`).
 //!
-//! A `Stream` keeps several calls in flight, up to a window, for example those of a `-> stream` method.
+//! A `CallWindow` keeps several calls in flight, up to a window, for example those of a `-> stream` method.
 //!
 //! The reader and the writer may be the two ends of a `TcpStream`, `&stream` twice, or bytes in memory.
 
-pub use cp_builder::DraftFault;
+pub use cp_builder::BuildError;
 pub use cp_client::{
-    Client, ClientFault, Nobody, Question, Stream, StreamingFault, request_of, word_at,
+    CallError, CallWindow, Client, ClientFault, Nobody, Question, request_of, word_at,
 };
 pub use cp_connection::ConnectionFault;
 pub use cp_refs::{Cap, Caps, Outcome, Path, Request};
-pub use cp_servants::{Content, data_in, results_of, text_in, word_in};
+pub use cp_servants::{PayloadBuilder, data_in, results_of, text_in, word_in};
 pub use cp_vat_machine::Reason;

@@ -1,8 +1,8 @@
-//! Interfaces of a schema by name (cp_stubs, cp_services): what generated code stands on, and what objects and callers need beside it.
+//! Interfaces of a schema by name (cp_interfaces, cp_interface_objects): what generated code stands on, and what objects and callers need beside it.
 //!
 //! For an interface `Store`, `capnpc_rattle` generates the trait `StoreServer`, with a method for each of the schema's. Your object
-//! implements it and `ServiceObject`, which names the one type of all objects of its connection. A `StoreServant` around it is a
-//! `server::Maker`. A method gets its `ServiceCall`, which has its params and its results, to be filled in, and the `server::Here` of the
+//! implements it and `ServiceObject`, which names the one type of all objects of its connection. A `StoreDispatch` around it is a
+//! `server::ServedObject`. A method gets its `ServiceCall`, which has its params and its results, to be filled in, and the `server::Context` of the
 //! object; it returns a `MethodResult`. An `Err` fails the call with an exception: `?` converts faults of fields and of memory, and `failed`
 //! makes one of your own. Capabilities of the params are released with the answer, unless `ServiceCall::keep` keeps them, or `keep_for` has
 //! another object do so. `ServiceCall::later` gives the `LaterCall` by which a poll of the object answers.
@@ -16,17 +16,17 @@
 //! A `StoreClient` calls. Its method `get` takes a `Caller`, for example a `Client`, and the params; it returns a promise. Params that are at
 //! most four numbers, texts and capabilities are arguments, and others have a builder. Fields of the promise that are structs or
 //! capabilities are promises and clients too: call them before anything has arrived (pipelining). `payload_of` turns the outcome into what
-//! the promise's `results` reads. `get_request` is the call as a value, for a `Vat`, and `get_ask` such a call as an object makes it.
+//! the promise's `results` reads. `get_request` is the call as a value, for a `Vat`, and `get_call` such a call as an object makes it.
 
-pub use cp_builder::DraftFault;
-pub use cp_refs::failed;
-pub use cp_services::{
+pub use cp_builder::BuildError;
+pub use cp_interface_objects::{
     CapListBuilder, DataListBuilder, Dispatch, Enumerant, LaterCall, ListValue, ListsBuilder,
-    MethodResult, NamedResults, ServedObject, ServiceCall, ServiceObject, TextListBuilder,
+    MethodResult, NamedResults, ObjectDispatch, ServiceCall, ServiceObject, TextListBuilder,
     TypedResolver, fail,
 };
-pub use cp_stubs::{
-    CallTarget, Caller, CapFault, Lends, MethodCall, MethodFault, NoFieldsBuilder, NoFieldsPromise,
-    NoFieldsReader, NoResults, Promise, Promised, ResultPayload, Results, Table, TypedClient,
-    payload_of, refuse, reply,
+pub use cp_interfaces::{
+    CallTarget, Caller, CapFault, CapTableBuilder, Lends, MethodCall, MethodFault, NoFieldsBuilder,
+    NoFieldsPipeline, NoFieldsReader, NoResults, Pipeline, ResultPayload, Results, TypedClient,
+    TypedPipeline, payload_of, refuse, reply,
 };
+pub use cp_refs::failed;

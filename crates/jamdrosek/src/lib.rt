@@ -9,8 +9,12 @@
 //! gets its call, with the params to read and the results to fill in:
 //!
 //! ```rust crates/examples/src/notebook_server.rt
-//! fn add(&mut self, call: &mut NotebookAddCall<'_>, here: &mut Here<Served>) -> MethodResult {
-//!     let text = call.params.text()?.text(here.alloc())?;
+//! fn add(
+//!     &mut self,
+//!     call: &mut NotebookAddCall<'_>,
+//!     context: &mut Context<Served>,
+//! ) -> MethodResult {
+//!     let text = call.params.text()?.text(context.alloc())?;
 //!     let mut shelf = self.shelf.try_borrow_mut()?;
 //!     call.results.set_id(u32::try_from(shelf.notes.len())?);
 //!     shelf.notes.push(text)?;
@@ -19,14 +23,14 @@
 //! A `Host` serves many connections in one thread, over TCP or a Unix socket. Give each one its objects when it has come:
 //!
 //! ```rust crates/examples/src/notebook_server.rt
-//! let mut host = Host::new(rt, HostPlan::standard(), listener)?;
+//! let mut host = Host::new(rt, HostConfig::standard(), listener)?;
 //! ..
 //! for _ in 0..u64::MAX {
 //!     match host.next(rt)? {
-//!         Some(News::Came { number, .. }) => {
+//!         Some(HostEvent::Connected { number, .. }) => {
 //!             host.admit(new_objects(rt.alloc(), &shelf, number)?)?;
 //!         }
-//!         Some(News::Ended { number, .. }) => {
+//!         Some(HostEvent::Ended { number, .. }) => {
 //!             let mut shelf = shelf.try_borrow_mut()?;
 //!             let _ = shelf.wakers.remove(&number);
 //!         }
@@ -58,14 +62,18 @@
 //!
 //! # Objects made in calls
 //!
-//! A method also gets a `Here`, by which it makes other objects. What a call made is dropped once its client dropped it:
+//! A method also gets a `Context`, by which it makes other objects. What a call made is dropped once its client dropped it:
 //!
 //! ```rust crates/examples/src/notebook_server.rt
-//! let mut objects = Family::new(alloc);
-//! objects.add(Served::First(NotebookServant::new(object)))?;
+//! let mut objects = Objects::new(alloc);
+//! objects.add(Served::Left(NotebookDispatch::new(object)))?;
 //! ..
-//! fn open_(&mut self, call: &mut NotebookOpenCall<'_>, here: &mut Here<Served>) -> MethodResult {
-//!     let page = new_page(&self.shelf, call.params.id() as usize, here)?;
+//! fn open_(
+//!     &mut self,
+//!     call: &mut NotebookOpenCall<'_>,
+//!     context: &mut Context<Served>,
+//! ) -> MethodResult {
+//!     let page = new_page(&self.shelf, call.params.id() as usize, context)?;
 //!     Ok(call.results.set_page(page)?)
 //! }
 //! ```
@@ -73,31 +81,31 @@
 //! An object can promise another one, and say later which it is. Calls of it wait, in order:
 //!
 //! ```rust crates/examples/src/notebook_server.rt
-//! let resolver = PageResolver::new(here)?;
-//! let page = resolver.client(here.alloc());
+//! let resolver = PageResolver::new(context)?;
+//! let page = resolver.client(context.alloc());
 //! call.results.set_page(page)?;
 //! ```
 //!
 //! # Be called back
 //!
-//! To be called back, make the client with a `Family` of your objects. They answer while the client waits:
+//! To be called back, make the client with `Objects` of your objects. They answer while the client waits:
 //!
 //! ```rust crates/examples/src/notebook_client.rt
-//! let mut objects = Family::new(alloc);
-//! let watcher = WatcherClient::new(alloc, objects.add(WatcherServant::new(object))?);
+//! let mut objects = Objects::new(alloc);
+//! let watcher = WatcherClient::new(alloc, objects.add(WatcherDispatch::new(object))?);
 //! ..
-//! let mut client = Client::with_family(alloc, from, to, Mode::Plain, limits, objects);
+//! let mut client = Client::with_objects(alloc, from, to, Mode::Plain, limits, objects);
 //! ..
 //! notebook.watch(client, watcher)?;
 //! ```
 //!
-//! An object calls back by `ServiceObject::ask`, at a `Host` or at a client.
+//! An object calls back by `ServiceObject::next_call`, at a `Host` or at a client.
 //!
 //! # Send a stream of calls
 //!
-//! For `-> stream` methods, a `Stream` keeps up to a window of calls in flight: `Stream::new(alloc, 16)`. If the window is full,
-//! `stream.send(&mut client, &target, request)` waits for the oldest call, and returns its error if it failed.
-//! `stream.end(&mut client)` waits for the rest.
+//! For `-> stream` methods, a `CallWindow` keeps up to a window of calls in flight: `CallWindow::new(alloc, 16)`. If it is full,
+//! `window.send(&mut client, &target, request)` waits for the oldest call, and returns its error if it failed.
+//! `window.end(&mut client)` waits for the rest.
 //!
 //! # Read a stream of messages
 //!
@@ -165,7 +173,7 @@
 //! a newer schema knows is `Unknown`:
 //!
 //! ```rust crates/examples/src/book.rt
-//! let book = AddressBookReader::of(Pointee::of_view(view))?;
+//! let book = AddressBookReader::of(PointerReader::of_view(view))?;
 //! ..
 //! for person in book.people()? {
 //!     print_person(rt, &person)?;
@@ -214,12 +222,12 @@
 //! impl Servant for Shelf {
 //!     fn call(&mut self, _ticket: u64, request: Request) -> Result<Reply, AllocError> {
 //!         let key = String::from_str(self.alloc, text_in(&request.content, 0).unwrap_or(""))?;
-//!         let mut results = Ok(Content::new(self.alloc));
+//!         let mut results = Ok(PayloadBuilder::new(self.alloc));
 //!         if request.method == 0 {
 //!             let value = text_in(&request.content, 1).unwrap_or("");
 //!             self.texts.insert(key, String::from_str(self.alloc, value)?)?;
 //!         } else if let Some(value) = self.texts.get(&key) {
-//!             results = Content::new(self.alloc).text(value.as_str());
+//!             results = PayloadBuilder::new(self.alloc).text(value.as_str());
 //!         }
 //!         Ok(Reply::Now {
 //!             outcome: outcome_of(self.alloc, results)?,
@@ -267,18 +275,18 @@
 //!
 
 //!
-//! With objects that make none (`Box<dyn Servant>`) a client is made by `Client::with_objects`, and `export` adds one.
+//! With objects that make none (`Box<dyn Servant>`) a client is made by `Client::with_servants`, and `export` adds one.
 //!
 //! ## Without a schema
 //!
-//! An object may be a `Servant` itself, which takes requests as they come. A `Content` is the struct of its results, or of a call's params.
+//! An object may be a `Servant` itself, which takes requests as they come. A `PayloadBuilder` is the struct of its results, or of a call's params.
 //! Each builder method adds one data word or one pointer (text, data, capability, ..):
 //!
 //! ```rust tests/more_examples/src/connection.rs
 //! impl Servant for Total {
 //!     fn call(&mut self, _ticket: u64, request: Request) -> Result<Reply, AllocError> {
 //!         self.number = self.number.saturating_add(word_in(&request.content, 0));
-//!         let results = Content::new(self.alloc).word(self.number);
+//!         let results = PayloadBuilder::new(self.alloc).word(self.number);
 //!         Ok(Reply::Now {
 //!             outcome: outcome_of(self.alloc, results)?,
 //!             gives_up: Ids::new(Vec::new(self.alloc)),
@@ -306,11 +314,11 @@
 //!
 //! ```rust tests/more_examples/src/connection.rs
 //! let total = Cap::Pipelined(client.bootstrap()?, Path::new(Vec::new(alloc)));
-//! let params = Content::new(alloc).word(41)?;
+//! let params = PayloadBuilder::new(alloc).word(41)?;
 //! let asked = client.call(total, params.request(0xe5a1_0000_0000_0003, 0))?;
 //! carry(client, server)?;
 //! let mut objects = vec![in alloc; Total { alloc, number: 0 }]?;
-//! Objects::new(alloc).work_off(server, &mut objects)?;
+//! Dispatcher::new(alloc).work_off(server, &mut objects)?;
 //! carry(server, client)?;
 //! ```
 //!
@@ -319,7 +327,7 @@
 //! ```rust tests/more_examples/src/vat.rs
 //! let asked = client.bootstrap()?;
 //! let object = Cap::Pipelined(asked.value, Path::new(Vec::new(alloc)));
-//! let params = Content::new(alloc).word(41)?;
+//! let params = PayloadBuilder::new(alloc).word(41)?;
 //! let called = client.call(object, params.request(0xe5a1_0000_0000_0002, 0))?;
 //! let mut effects = asked.effects.into_effects();
 //! effects.extend(called.effects.into_effects())?;
@@ -338,7 +346,7 @@
 //! - `tree`: the values that a message holds, owned or borrowed.
 //! - `reading`, `writing`: from segments to trees, in place or owned, and from trees to segments.
 //! - `packed`, `frame`: the packed form, and the frames of a stream in any pieces.
-//! - `fields`, `builder`: generic access to struct fields by offset; `Past` is an enumerant unknown to this schema.
+//! - `fields`, `builder`: generic access to struct fields by offset; `UnknownEnumerant` is an enumerant unknown to this schema.
 //! - `message`: the messages of rpc.capnp, owned or read in place.
 //! - `stream`: messages read from and written to streams.
 //! - `relay`: a filter for one direction of a connection.

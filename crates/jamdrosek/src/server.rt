@@ -16,14 +16,14 @@
 //!
 //! A call on a number past the list fails with `no such object`, and one whose answer the vat refuses with `bad outcome`.
 //!
-//! An object that makes others is a `Maker`: what it does gets a `Here`. `Here::make` gives the capability of a new object, which is dropped
-//! once nothing of its connection refers to it, and `Here::keep` keeps one that the object stores. `Here::give_up` takes that back, and lets
-//! an import go that the object kept past its answer. `Here::keep_for` has another object keep what it stores. `Here::tell` has a call made
-//! once the object answered. `Here::wake` has another object polled, and `Here::wake_after` the object itself, some milliseconds later. A
-//! `Family` is the objects of one connection with all that they make, and an `Any2` is one of two types. A `Session`, a `Host` and a
-//! `Client` take a `Family` where they take a list.
+//! An object that makes others is a `ServedObject`: what it does gets a `Context`. `Context::make` gives the capability of a new object, which is dropped
+//! once nothing of its connection refers to it, and `Context::keep` keeps one that the object stores. `Context::give_up` takes that back, and lets
+//! an import go that the object kept past its answer. `Context::keep_for` has another object keep what it stores. `Context::send` has a call made
+//! once the object answered. `Context::wake` has another object polled, and `Context::wake_after` the object itself, some milliseconds later.
+//! `Objects` are the objects of one connection with all that they make, and an `Either` is one of two types. A `Session`, a `Host` and a
+//! `Client` take `Objects` where they take a list.
 //!
-//! `Content` builds results field by field, and `outcome_of` makes the call's outcome of them. The call fails if they are too long for a
+//! `PayloadBuilder` builds results field by field, and `outcome_of` makes the call's outcome of them. The call fails if they are too long for a
 //! message. `word_in`, `text_in` and `data_in` read the fields of the request's content.
 //!
 //! `Report` says how many messages were taken and sent, and why the vat closed, if it did. A `ServeFault` ends the serving: the messages
@@ -31,11 +31,14 @@
 //!
 //! The reader and the writer may be the two ends of a `TcpStream`, `&stream` twice, or bytes in memory.
 
-pub use cp_builder::DraftFault;
-pub use cp_makers::{Any2, Family, Hall, Here, Maker, Pledge, Resolver, Waker};
+pub use cp_builder::BuildError;
+pub use cp_objects::{
+    Context, Either, ObjectTable, Objects, PromiseRequest, Resolver, ServedObject, Waker,
+};
 pub use cp_refs::{Cap, Caps, Outcome, Request};
 pub use cp_servants::{
-    Ask, Content, Reply, RequestView, Servant, Settled, data_in, outcome_of, text_in, word_in,
+    OutgoingCall, PayloadBuilder, Reply, RequestView, Servant, Settled, data_in, outcome_of,
+    text_in, word_in,
 };
 pub use cp_serve::{Report, ServeFault, serve, serve_each};
 pub use cp_vat_machine::{Ids, PeerFault, Reason};

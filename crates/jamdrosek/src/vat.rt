@@ -11,7 +11,7 @@
 //!   outcome named stay until you release them.
 //! - `Closed`: the connection is over. Every later call of the vat is refused (V9).
 //!
-//! `receive_lending` lends a call that goes to an object at once: it returns a `Lent`, with the content in place, instead of its
+//! `receive_lending` lends a call that goes to an object at once: it returns a `BorrowedCall`, with the content in place, instead of its
 //! `Deliver`. Handle it before the other effects.
 //!
 //! A call that is refused (`VatFault`) changes nothing, and has no effects. At V10 memory ran out: the vat is closed
@@ -22,7 +22,7 @@
 //! `release` gives an import back, and `forget` drops a settled promise; `idle` says which of these nothing uses any more.
 
 pub use cp_refs::{Cap, Caps, Origin, Outcome, Path, PromiseId, Request};
-pub use cp_vat::{Lent, Vat};
+pub use cp_vat::{BorrowedCall, Vat};
 pub use cp_vat_machine::{
     Acted, Effect, Effects, Event, Idle, Ids, PeerFault, Reason, Value, VatFault,
 };

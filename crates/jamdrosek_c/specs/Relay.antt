@@ -6,8 +6,8 @@ use Rattle.cp_frame.specs.declared.mode.Mode.TheVariants as modes
 use Rattle.cp_relay.specs.declared.output.Output.{Output}
 use Rattle.cp_relay.specs.declared.output.Output.TheVariants as outputs
 use Rattle.cp_relay.specs.declared.fault.RelayFault.{RelayFault}
-use Rattle.cp_relay.specs.declared.fault.Why.{Why}
-use Rattle.cp_relay.specs.declared.fault.Why.TheVariants as whys
+use Rattle.cp_relay.specs.declared.fault.RelayCause.{RelayCause}
+use Rattle.cp_relay.specs.declared.fault.RelayCause.TheVariants as whys
 use Rattle.cp_relay.specs.Relay.{new_relay, Gives, StopsAt, EndsWell}
 use Rattle.c_handles.specs.declared.code.CallFault.{CallFault}
 use Rattle.c_handles.specs.declared.code.CallFault.TheVariants as faults
@@ -43,7 +43,7 @@ ThroughRelay (Some old) None code does = ⊥
 ThroughRelay (Some old) (Some new) code does = does old new
 
 -- why a relay stopped, as a fault of a call
-abbrev pub fault_of : Why → CallFault
+abbrev pub fault_of : RelayCause → CallFault
 fault_of (whys.Refused refusal) = faults.Refused refusal
 fault_of whys.Forbidden = faults.Forbidden
 

@@ -12,7 +12,7 @@ use c_handles::{
     Spot,
 };
 use cp_frame::Mode;
-use cp_relay::{Output, RelayFault, Why};
+use cp_relay::{Output, RelayCause, RelayFault};
 use std::alloc::Global;
 
 /// Opens a relay of a stream in the packed form or the plain one, of which nothing has come. The rules name methods: these alone may be
@@ -121,12 +121,12 @@ fn output_of(output: u8) -> Output
 }
 
 /// Why a relay stopped.
-fn fault_of(why: Why) -> CallFault
+fn fault_of(why: RelayCause) -> CallFault
     ensures { result ≡ relays.fault_of why }
 {
     match why {
-        Why::Refused(refusal) => CallFault::Refused(refusal),
-        Why::Forbidden => CallFault::Forbidden,
+        RelayCause::Refused(refusal) => CallFault::Refused(refusal),
+        RelayCause::Forbidden => CallFault::Forbidden,
     }
 }
 

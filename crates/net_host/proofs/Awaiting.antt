@@ -1,13 +1,13 @@
 -- Limits of time are looked at by the deadline of each connection.
 use Rattle.std.proofs.Common.{◌≡◌, ◌⊎◌, ◌∙◌, ℕ, min, Option, Some, None, inl, inr, refl, sym, ap, subst, arith}
 use Rattle.std.proofs.lemmas.Bool.{cases_eq, cases_order}
-use Rattle.cp_makers.specs.Hall.{HallKind}
+use Rattle.cp_objects.specs.ObjectTable.{ObjectTableKind}
 use Rattle.cp_session.specs.Doing.{due_of}
 use Rattle.cp_session.specs.Progress.{earlier}
-use Rattle.net_host.specs.declared.host.News.{News}
-use Rattle.net_host.specs.declared.host.News.TheVariants as all_news
+use Rattle.net_host.specs.declared.host.HostEvent.{HostEvent}
+use Rattle.net_host.specs.declared.host.HostEvent.TheVariants as all_news
 use Rattle.net_host.specs.Floor.{AwaitsAll, AwaitsEach, BeginsAwaited, Floor, Puts, ReportsAwaited, Rounds, Tells, Turns, begins, ends, goes_on, rests, sweeps, turns, wakes, wakes_none, wakes_short}
-use Rattle.net_host.specs.Guests.{Served}
+use Rattle.net_host.specs.HostedConnections.{Served}
 use Rattle.net_host.proofs.Timing.{same_some}
 use Rattle.net_host.specs.Timing.{ComesBy}
 use Rattle.net_host.specs.Waking.{key_of}
@@ -37,41 +37,41 @@ one_of time (Some a) (Some b) e = smaller (same_some (min a b) time e)
           | inr (inr more) ↦ inr (ap (λ x. Some x) (omega (arith, is, more)))
         ]
 
-module _ {H : Type 0} (hall : HallKind H) where
+module _ {H : Type 0} (table : ObjectTableKind H) where
   -- nothing is served that wasn't
-  same_each : (due next : Option ℕ) (old new : ℕ → Option (Served H)) → ((key : ℕ) → new key ≡ old key) → next ≡ due → AwaitsEach hall due old → AwaitsEach hall next new
+  same_each : (due next : Option ℕ) (old new : ℕ → Option (Served H)) → ((key : ℕ) → new key ≡ old key) → next ≡ due → AwaitsEach table due old → AwaitsEach table next new
   same_each due next old new same is each key deadline one there has =
       subst (λ d. ComesBy deadline d) (sym is) (each key deadline one (sym (same key) ∙ there) has)
 
   -- one is served in another state, or from now on, and its deadline counts
-  put_each : (due next : Option ℕ) (old new : ℕ → Option (Served H)) (key : ℕ) (one : Served H) → Puts old key (Some one) new → next ≡ earlier due (due_of hall one.session)
-      → AwaitsEach hall due old → AwaitsEach hall next new
+  put_each : (due next : Option ℕ) (old new : ℕ → Option (Served H)) (key : ℕ) (one : Served H) → Puts old key (Some one) new → next ≡ earlier due (due_of table one.session)
+      → AwaitsEach table due old → AwaitsEach table next new
   put_each due next old new key one puts is each other deadline it there has =
       elim (cases_eq other key) [
         | inl at ↦
             let same : Some one ≡ Some it = sym puts.here ∙ sym (ap new at) ∙ there in
-            let own : due_of hall one.session ≡ Some deadline = its_due one it same ∙ has in
-            subst (λ d. ComesBy deadline d) (sym is) (by_second deadline due (due_of hall one.session) (deadline, own, omega arith))
+            let own : due_of table one.session ≡ Some deadline = its_due one it same ∙ has in
+            subst (λ d. ComesBy deadline d) (sym is) (by_second deadline due (due_of table one.session) (deadline, own, omega arith))
         | inr differs ↦
-            subst (λ d. ComesBy deadline d) (sym is) (by_first deadline due (due_of hall one.session) (each other deadline it (sym (puts.elsewhere other differs) ∙ there) has))
+            subst (λ d. ComesBy deadline d) (sym is) (by_first deadline due (due_of table one.session) (each other deadline it (sym (puts.elsewhere other differs) ∙ there) has))
       ]
     where
       due_in : Option (Served H) → Option ℕ
       due_in None = None
-      due_in (Some it) = due_of hall it.session
+      due_in (Some it) = due_of table it.session
 
-      its_due : (a b : Served H) → Some a ≡ Some b → due_of hall a.session ≡ due_of hall b.session
+      its_due : (a b : Served H) → Some a ≡ Some b → due_of table a.session ≡ due_of table b.session
       its_due a b e = ap (λ o. due_in o) e
 
   -- one is served no more
-  out_each : (due next : Option ℕ) (old new : ℕ → Option (Served H)) (key : ℕ) → Puts old key None new → next ≡ due → AwaitsEach hall due old → AwaitsEach hall next new
+  out_each : (due next : Option ℕ) (old new : ℕ → Option (Served H)) (key : ℕ) → Puts old key None new → next ≡ due → AwaitsEach table due old → AwaitsEach table next new
   out_each due next old new key puts is each other deadline it there has =
       elim (cases_eq other key) [
         | inl at ↦ absurd (cc (ap new at, puts.here, there))
         | inr differs ↦ subst (λ d. ComesBy deadline d) (sym is) (each other deadline it (sym (puts.elsewhere other differs) ∙ there) has)
       ]
 
-  turned : (old new : Floor H) → Turns hall old new → AwaitsAll hall old → AwaitsAll hall new
+  turned : (old new : Floor H) → Turns table old new → AwaitsAll table old → AwaitsAll table new
   turned old new (rests r) all = same_each old.due new.due old.served new.served r.same r.due all
   turned old new (goes_on key now one next woken was stays puts ended note added awaits) all = put_each old.due new.due old.served new.served key next puts awaits all
   turned old new (ends key now one woken end was by puts ended forgets added due) all = out_each old.due new.due old.served new.served key puts due all
@@ -82,19 +82,19 @@ module _ {H : Type 0} (hall : HallKind H) where
       out_each old.due new.due old.served new.served (key_of waker.session) puts due all
   turned old new (sweeps same ended budget waits first) all = first.each
 
-  in_rounds : (old new : Floor H) → Rounds hall old new → AwaitsAll hall old → AwaitsAll hall new
+  in_rounds : (old new : Floor H) → Rounds table old new → AwaitsAll table old → AwaitsAll table new
   in_rounds old new begins all = all
   in_rounds old new (turns {mid = mid} before turn) all = turned mid new turn (in_rounds old mid before all)
 
-  told : (old new : Floor H) (news : Option News) → Tells old news new → AwaitsAll hall old → AwaitsAll hall new
-  told old new None h all = subst (λ (f : Floor H). AwaitsAll hall f) (sym h) all
-  told old new (Some (all_news.Came n peer)) h all = subst (λ (f : Floor H). AwaitsAll hall f) (sym h) all
-  told old new (Some (all_news.Refused peer)) h all = subst (λ (f : Floor H). AwaitsAll hall f) (sym h) all
-  told old new (Some all_news.Woken) h all = subst (λ (f : Floor H). AwaitsAll hall f) (sym h) all
+  told : (old new : Floor H) (news : Option HostEvent) → Tells old news new → AwaitsAll table old → AwaitsAll table new
+  told old new None h all = subst (λ (f : Floor H). AwaitsAll table f) (sym h) all
+  told old new (Some (all_news.Connected n peer)) h all = subst (λ (f : Floor H). AwaitsAll table f) (sym h) all
+  told old new (Some (all_news.Refused peer)) h all = subst (λ (f : Floor H). AwaitsAll table f) (sym h) all
+  told old new (Some all_news.Woken) h all = subst (λ (f : Floor H). AwaitsAll table f) (sym h) all
   told old new (Some (all_news.Ended n peer end)) h all = same_each old.due new.due old.served new.served (λ key. ap (λ f. f key) h.0) h.4 all
 
-  pub reports_awaited : ReportsAwaited hall
+  pub reports_awaited : ReportsAwaited table
   reports_awaited old new news h all = told h.0 new news h.2 (in_rounds old h.0 h.1 all)
 
-  pub begins_awaited : BeginsAwaited hall
+  pub begins_awaited : BeginsAwaited table
   begins_awaited old new one h all = put_each old.due new.due old.served new.served h.key one h.puts h.due all

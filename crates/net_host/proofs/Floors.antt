@@ -5,8 +5,8 @@ use Rattle.std.proofs.lemmas.Bool.{cases_eq}
 use Rattle.std.proofs.lemmas.List.Sums.{sum_by-set}
 use Rattle.slab.specs.Slab.{Slab, Updates, get, slab_len, with_value}
 use Rattle.slab.proofs.SlabLemmas.{ContainsKey-within, Updates-with_value}
-use Rattle.cp_makers.specs.declared.waker.Waker.{Waker}
-use Rattle.cp_makers.specs.Hall.{HallKind}
+use Rattle.cp_objects.specs.declared.waker.Waker.{Waker}
+use Rattle.cp_objects.specs.ObjectTable.{ObjectTableKind}
 use Rattle.cp_session.specs.Doing.{due_of}
 use Rattle.cp_session.specs.Progress.{earlier}
 use Rattle.cp_session.specs.State.{State, new_state}
@@ -15,24 +15,24 @@ use Rattle.net_host.specs.declared.end.End.{End}
 use Rattle.net_host.specs.declared.end.End.TheVariants as all_ends
 use Rattle.net_host.specs.declared.end.Ended.{Ended}
 use Rattle.net_host.specs.declared.event_loop.EventLoop.{EventLoop}
-use Rattle.net_host.specs.declared.guest.Guest.{Guest}
-use Rattle.net_host.specs.declared.host.News.{News}
+use Rattle.net_host.specs.declared.hosted_connection.HostedConnection.{HostedConnection}
+use Rattle.net_host.specs.declared.host.HostEvent.{HostEvent}
 use Rattle.net_host.specs.declared.pending.PendingConnection.{PendingConnection}
-use Rattle.net_host.specs.declared.plan.HostPlan.{HostPlan}
-use Rattle.net_host.specs.declared.host.News.TheVariants as all_news
+use Rattle.net_host.specs.declared.config.HostConfig.{HostConfig}
+use Rattle.net_host.specs.declared.host.HostEvent.TheVariants as all_news
 use Rattle.net_host.specs.Floor.{Floor, IsServed, Puts, Reports, Rests, Rounds, Seats, Tells, begins, floor_of, options_of, seen, turns}
-use Rattle.net_host.specs.Guests.{IsShort, Served, end_or, new_served, served_of}
+use Rattle.net_host.specs.HostedConnections.{IsShort, Served, end_or, new_served, served_of}
 use Rattle.net_host.specs.Roster.{Accepts, Roster}
 use Rattle.net_host.specs.Waking.{key_of, session_of}
 
-module _ {H : Type 0} {hall : HallKind H} where
+module _ {H : Type 0} {table : ObjectTableKind H} where
   -- turns, and more of them
-  pub rounds_both : {a b c : Floor H} → Rounds hall a b → Rounds hall b c → Rounds hall a c
+  pub rounds_both : {a b c : Floor H} → Rounds table a b → Rounds table b c → Rounds table a c
   rounds_both h begins = h
   rounds_both h (turns before one) = turns (rounds_both h before) one
 
   -- turns, and then more of them and news
-  pub reports_after : {a b : Floor H} (news : Option News) (c : Floor H) → Rounds hall a b → Reports hall b news c → Reports hall a news c
+  pub reports_after : {a b : Floor H} (news : Option HostEvent) (c : Floor H) → Rounds table a b → Reports table b news c → Reports table a news c
   reports_after news c h k = (k.0, rounds_both h k.1, k.2)
 
 pub rests_none : {H : Type 0} (floor : Floor H) → Rests floor floor
@@ -44,41 +44,41 @@ written_at {old = old} {new = new} {slot = slot} is puts = subst (λ k. Puts old
 
 module _ {S : Type 0} where
   -- a key that has a connection has one
-  pub is_there : (s : Slab (Guest S)) (key : ℕ) (guest : Guest S) → Some guest ≡ get s key → IsSome (get s key)
-  is_there s key guest e = subst (λ o. IsSome o) e refl
+  pub is_there : (s : Slab (HostedConnection S)) (key : ℕ) (hosted : HostedConnection S) → Some hosted ≡ get s key → IsSome (get s key)
+  is_there s key hosted e = subst (λ o. IsSome o) e refl
 
   -- as many are there
-  pub as_many : (s : Slab (Guest S)) (key : ℕ) (guest new : Guest S) → Some guest ≡ get s key → slab_len (with_value s key new) ≤ slab_len s
-  as_many s key guest new e =
-      let present = is_there s key guest e in
+  pub as_many : (s : Slab (HostedConnection S)) (key : ℕ) (hosted new : HostedConnection S) → Some hosted ≡ get s key → slab_len (with_value s key new) ≤ slab_len s
+  as_many s key hosted new e =
+      let present = is_there s key hosted e in
       let one : ◌≡◌ {A = ℕ} (cond (is_some (get s key)) 1 0) 1 = ap (λ (b : Bool). cond b 1 0) present in
       omega (arith, sum_by-set (λ o. cond (is_some o) 1 0) s.slots key (Some new) None (ContainsKey-within s key present), one)
 
 module _ {S H : Type 0} (state : S → State H) where
   -- a key has another connection, or none
-  pub seen_puts : (old new : Slab (Guest S)) (key : ℕ) (slot : Option (Guest S)) → Updates old new key slot → Puts (seen state old) key (option_map (served_of state) slot) (seen state new)
+  pub seen_puts : (old new : Slab (HostedConnection S)) (key : ℕ) (slot : Option (HostedConnection S)) → Updates old new key slot → Puts (seen state old) key (option_map (served_of state) slot) (seen state new)
   seen_puts old new key slot updates = record {
     here = ap (λ o. option_map (served_of state) o) updates.changed;
     elsewhere = λ other differs. ap (λ o. option_map (served_of state) o) (updates.others other differs);
   }
 
   -- a connection was written over
-  pub seen_written : (s : Slab (Guest S)) (key : ℕ) (guest new : Guest S) → Some guest ≡ get s key → Puts (seen state s) key (Some (served_of state new)) (seen state (with_value s key new))
-  seen_written s key guest new e = seen_puts s (with_value s key new) key (Some new) (Updates-with_value s key new (is_there s key guest e))
+  pub seen_written : (s : Slab (HostedConnection S)) (key : ℕ) (hosted new : HostedConnection S) → Some hosted ≡ get s key → Puts (seen state s) key (Some (served_of state new)) (seen state (with_value s key new))
+  seen_written s key hosted new e = seen_puts s (with_value s key new) key (Some new) (Updates-with_value s key new (is_there s key hosted e))
 
   -- one was written over that shows the same
-  pub seen_kept : (s : Slab (Guest S)) (key : ℕ) (guest new : Guest S) → Some guest ≡ get s key → served_of state new ≡ served_of state guest → (other : ℕ) → seen state (with_value s key new) other ≡ seen state s other
-  seen_kept s key guest new e same other =
-      let puts = seen_written s key guest new e in
+  pub seen_kept : (s : Slab (HostedConnection S)) (key : ℕ) (hosted new : HostedConnection S) → Some hosted ≡ get s key → served_of state new ≡ served_of state hosted → (other : ℕ) → seen state (with_value s key new) other ≡ seen state s other
+  seen_kept s key hosted new e same other =
+      let puts = seen_written s key hosted new e in
       elim (cases_eq other key) [
         | inl is ↦ ap (λ k. seen state (with_value s key new) k) is ∙ puts.here ∙ ap (λ x. Some x) same ∙ ap (λ o. option_map (served_of state) o) e ∙ ap (λ k. seen state s k) (sym is)
         | inr differs ↦ puts.elsewhere other differs
       ]
 
   -- one was written over, and then taken out
-  pub seen_taken : (s new : Slab (Guest S)) (key : ℕ) (guest last : Guest S) → Some guest ≡ get s key → Updates (with_value s key last) new key None → Puts (seen state s) key None (seen state new)
-  seen_taken s new key guest last e updates =
-      let puts = seen_written s key guest last e in
+  pub seen_taken : (s new : Slab (HostedConnection S)) (key : ℕ) (hosted last : HostedConnection S) → Some hosted ≡ get s key → Updates (with_value s key last) new key None → Puts (seen state s) key None (seen state new)
+  seen_taken s new key hosted last e updates =
+      let puts = seen_written s key hosted last e in
       record {
         here = ap (λ o. option_map (served_of state) o) updates.changed;
         elsewhere = λ other differs. ap (λ o. option_map (served_of state) o) (updates.others other differs) ∙ puts.elsewhere other differs;
@@ -96,18 +96,18 @@ module _ {S H : Type 0} (state : S → State H) where
   number_in (Some one) = one.number
 
   -- the one that is has a session of another number
-  pub unserved_other : (old : EventLoop S) (waker : Waker) (key session : ℕ) (guest : Guest S) → key ≡ key_of waker.session → Some guest ≡ get old.guests key
-      → session ≡ session_of guest.number key → session ≢ waker.session → (one : Served H) → IsServed (floor_of state old) waker one → ⊥
-  unserved_other old waker key session guest at there is differs one served =
-      let here : Some (served_of state guest) ≡ Some one = ap (λ o. option_map (served_of state) o) there ∙ ap (λ k. seen state old.guests k) at ∙ served.there in
-      let number : guest.number ≡ one.number = ap (λ o. number_in o) here in
+  pub unserved_other : (old : EventLoop S) (waker : Waker) (key session : ℕ) (hosted : HostedConnection S) → key ≡ key_of waker.session → Some hosted ≡ get old.guests key
+      → session ≡ session_of hosted.number key → session ≢ waker.session → (one : Served H) → IsServed (floor_of state old) waker one → ⊥
+  unserved_other old waker key session hosted at there is differs one served =
+      let here : Some (served_of state hosted) ≡ Some one = ap (λ o. option_map (served_of state) o) there ∙ ap (λ k. seen state old.guests k) at ∙ served.there in
+      let number : hosted.number ≡ one.number = ap (λ o. number_in o) here in
       differs (is ∙ ap (λ n. session_of n key) number ∙ ap (λ k. session_of one.number k) at ∙ served.named)
 
-  pub is_served : (old : EventLoop S) (waker : Waker) (key session : ℕ) (guest : Guest S) → key ≡ key_of waker.session → Some guest ≡ get old.guests key
-      → session ≡ session_of guest.number key → session ≡ waker.session → IsServed (floor_of state old) waker (served_of state guest)
-  is_served old waker key session guest at there is same = record {
+  pub is_served : (old : EventLoop S) (waker : Waker) (key session : ℕ) (hosted : HostedConnection S) → key ≡ key_of waker.session → Some hosted ≡ get old.guests key
+      → session ≡ session_of hosted.number key → session ≡ waker.session → IsServed (floor_of state old) waker (served_of state hosted)
+  is_served old waker key session hosted at there is same = record {
     there = ap (λ k. seen state old.guests k) (sym at) ∙ ap (λ o. option_map (served_of state) o) (sym there);
-    named = ap (λ k. session_of guest.number k) (sym at) ∙ sym is ∙ same;
+    named = ap (λ k. session_of hosted.number k) (sym at) ∙ sym is ∙ same;
   }
 
 module _ {H : Type 0} where
@@ -121,8 +121,8 @@ module _ {H : Type 0} where
   )
 
 -- what came is news of no end
-pub tells_accepted : {H : Type 0} (old new : Roster) (news : News) (floor next : Floor H) → Accepts old (Some news) new → next ≡ floor → Tells floor (Some news) next
-tells_accepted old new (all_news.Came number peer) floor next accepts e = e
+pub tells_accepted : {H : Type 0} (old new : Roster) (news : HostEvent) (floor next : Floor H) → Accepts old (Some news) new → next ≡ floor → Tells floor (Some news) next
+tells_accepted old new (all_news.Connected number peer) floor next accepts e = e
 tells_accepted old new (all_news.Refused peer) floor next accepts e = e
 tells_accepted old new (all_news.Ended number peer end) floor next accepts e = absurd accepts
 tells_accepted old new all_news.Woken floor next accepts e = absurd accepts
@@ -138,23 +138,23 @@ pub rests_same : {S H : Type 0} (state : S → State H) (old new : EventLoop S) 
 rests_same state old new e = record { same = λ key. ap (λ event_loop. seen state event_loop.guests key) e; ended = ap (λ event_loop. event_loop.ended.items) e; budget = ap (λ event_loop. event_loop.budget) e; wakes = ap (λ event_loop. event_loop.wakes.items) e; due = ap (λ event_loop. event_loop.time.sweep_at) e }
 
 -- news of an end is of the first of those of which there was none
-pub tells_ended : {S H : Type 0} (state : S → State H) (old new : EventLoop S) (ended : Ended) (news : News) → new.guests ≡ old.guests → new.budget ≡ old.budget → new.wakes ≡ old.wakes → new.time ≡ old.time
+pub tells_ended : {S H : Type 0} (state : S → State H) (old new : EventLoop S) (ended : Ended) (news : HostEvent) → new.guests ≡ old.guests → new.budget ≡ old.budget → new.wakes ≡ old.wakes → new.time ≡ old.time
     → old.ended.items ≡ ended ∷ new.ended.items → news ≡ all_news.Ended ended.number ended.peer ended.end → Tells (floor_of state old) (Some news) (floor_of state new)
 tells_ended state old new ended news same budget wakes time first is = rw is (ap (λ guests. seen state guests) same, first, budget, ap (λ w. w.items) wakes, ap (λ t. t.sweep_at) time)
 
 module _ {S H : Type 0} (state : S → State H) where
   -- more room changes no connection
-  pub kept_in_room : (guests mid : Slab (Guest S)) → mid ≡ record guests { capacity = mid.capacity } → (key : ℕ) → seen state mid key ≡ seen state guests key
-  kept_in_room guests mid e key = ap (λ (s : Slab (Guest S)). seen state s key) e
+  pub kept_in_room : (guests mid : Slab (HostedConnection S)) → mid ≡ record guests { capacity = mid.capacity } → (key : ℕ) → seen state mid key ≡ seen state guests key
+  kept_in_room guests mid e key = ap (λ (s : Slab (HostedConnection S)). seen state s key) e
 
   -- a connection more is served with its objects, once there is room
-  pub seats_in_room : (hall : HallKind H) (plan : HostPlan) (pending : PendingConnection) (objects seated : H) (now : ℕ) (old : EventLoop S) (new : Floor H)
-      → (mid after : Slab (Guest S)) (key : ℕ) (guest : Guest S) → mid ≡ record old.guests { capacity = mid.capacity } → get mid key ≡ None → Updates mid after key (Some guest)
-      → served_of state guest ≡ new_served pending (new_state (options_of plan) seated now) → new.served ≡ seen state after → new.ended ≡ old.ended.items → new.budget ≡ old.budget
-      → new.wakes ≡ old.wakes.items → new.due ≡ earlier old.time.sweep_at (due_of hall (new_state (options_of plan) seated now))
-      → hall.is_in (session_of pending.number key) objects seated → Seats hall plan (Some pending) objects (floor_of state old) new
-  seats_in_room hall plan pending objects seated now old new mid after key guest room vacant updates is shows same as_much no_more due knows =
-      let puts = seen_puts state mid after key (Some guest) updates in (
+  pub seats_in_room : (table : ObjectTableKind H) (plan : HostConfig) (pending : PendingConnection) (objects seated : H) (now : ℕ) (old : EventLoop S) (new : Floor H)
+      → (mid after : Slab (HostedConnection S)) (key : ℕ) (hosted : HostedConnection S) → mid ≡ record old.guests { capacity = mid.capacity } → get mid key ≡ None → Updates mid after key (Some hosted)
+      → served_of state hosted ≡ new_served pending (new_state (options_of plan) seated now) → new.served ≡ seen state after → new.ended ≡ old.ended.items → new.budget ≡ old.budget
+      → new.wakes ≡ old.wakes.items → new.due ≡ earlier old.time.sweep_at (due_of table (new_state (options_of plan) seated now))
+      → table.is_in (session_of pending.number key) objects seated → Seats table plan (Some pending) objects (floor_of state old) new
+  seats_in_room table plan pending objects seated now old new mid after key hosted room vacant updates is shows same as_much no_more due knows =
+      let puts = seen_puts state mid after key (Some hosted) updates in (
         now,
         seated,
         record {

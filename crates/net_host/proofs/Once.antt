@@ -2,14 +2,14 @@
 use Rattle.std.proofs.Common.{◌≡◌, ◌≢◌, ◌∙◌, ℕ, ◌+◌, eqb, cond, List, [], ◌∷◌, ◌++◌, Option, Some, None, inl, inr, sym, ap, subst, arith}
 use Rattle.std.proofs.lemmas.Bool.{cases_eq}
 use Rattle.std.proofs.lemmas.Bool.Decides.{nat_tests}
-use Rattle.cp_makers.specs.Hall.{HallKind}
+use Rattle.cp_objects.specs.ObjectTable.{ObjectTableKind}
 use Rattle.net_host.specs.declared.end.End.{End}
 use Rattle.net_host.specs.declared.end.Ended.{Ended}
-use Rattle.net_host.specs.declared.host.News.{News}
-use Rattle.net_host.specs.declared.host.News.TheVariants as all_news
+use Rattle.net_host.specs.declared.host.HostEvent.{HostEvent}
+use Rattle.net_host.specs.declared.host.HostEvent.TheVariants as all_news
 use Rattle.net_host.proofs.Serving.{works_number}
 use Rattle.net_host.specs.Floor.{Begins, Floor, Puts, QueuesEnd, Rounds, Tells, Turns, begins, ends, goes_on, rests, sweeps, turns, wakes, wakes_none, wakes_short}
-use Rattle.net_host.specs.Guests.{Served}
+use Rattle.net_host.specs.HostedConnections.{Served}
 use Rattle.net_host.specs.Once.{Has, IsGone, IsGoneBy, IsOnce, ends_of}
 use Rattle.net_host.specs.Waking.{key_of}
 
@@ -99,8 +99,8 @@ module _ {H : Type 0} where
         unended = omega (arith, count, gone.unended, is_none one.number number other);
       }
 
-module _ {H : Type 0} {hall : HallKind H} where
-  once_turn : (old new : Floor H) (number : ℕ) → Turns hall old new → IsOnce old number → IsOnce new number
+module _ {H : Type 0} {table : ObjectTableKind H} where
+  once_turn : (old new : Floor H) (number : ℕ) → Turns table old new → IsOnce old number → IsOnce new number
   once_turn old new number (rests r) once =
       once_by old new number (λ key has. subst (λ (slot : Option (Served H)). Has slot number) (r.same key) has) r.ended once
   once_turn old new number (goes_on key now one next woken was stays puts same noted added awaits) once =
@@ -115,7 +115,7 @@ module _ {H : Type 0} {hall : HallKind H} where
   once_turn old new number (sweeps still same budget waits first) once =
       once_by old new number (λ key has. subst (λ (slot : Option (Served H)). Has slot number) (still key) has) same once
 
-  gone_turn : (old new : Floor H) (number : ℕ) → Turns hall old new → IsGone old number → IsGone new number
+  gone_turn : (old new : Floor H) (number : ℕ) → Turns table old new → IsGone old number → IsGone new number
   gone_turn old new number (rests r) gone =
       gone_by old new number (λ key has. subst (λ (slot : Option (Served H)). Has slot number) (r.same key) has) r.ended gone
   gone_turn old new number (goes_on key now one next woken was stays puts same noted added awaits) gone =
@@ -130,11 +130,11 @@ module _ {H : Type 0} {hall : HallKind H} where
   gone_turn old new number (sweeps still same budget waits first) gone =
       gone_by old new number (λ key has. subst (λ (slot : Option (Served H)). Has slot number) (still key) has) same gone
 
-  pub once_rounds : (old new : Floor H) (number : ℕ) → Rounds hall old new → IsOnce old number → IsOnce new number
+  pub once_rounds : (old new : Floor H) (number : ℕ) → Rounds table old new → IsOnce old number → IsOnce new number
   once_rounds old new number begins once = once
   once_rounds old new number (turns {mid = mid} before turn) once = once_turn mid new number turn (once_rounds old mid number before once)
 
-  pub gone_rounds : (old new : Floor H) (number : ℕ) → Rounds hall old new → IsGone old number → IsGone new number
+  pub gone_rounds : (old new : Floor H) (number : ℕ) → Rounds table old new → IsGone old number → IsGone new number
   gone_rounds old new number begins gone = gone
   gone_rounds old new number (turns {mid = mid} before turn) gone = gone_turn mid new number turn (gone_rounds old mid number before gone)
 
@@ -168,30 +168,30 @@ module _ {H : Type 0} where
         unended = omega (arith, count, one, once.one_end);
       }
 
-  pub once_tells : (old new : Floor H) (news : Option News) (number : ℕ) → Tells old news new → IsOnce old number → IsOnce new number
+  pub once_tells : (old new : Floor H) (news : Option HostEvent) (number : ℕ) → Tells old news new → IsOnce old number → IsOnce new number
   once_tells old new None number h once = subst (λ (x : Floor H). IsOnce x number) (sym h) once
-  once_tells old new (Some (all_news.Came n peer)) number h once = subst (λ (x : Floor H). IsOnce x number) (sym h) once
+  once_tells old new (Some (all_news.Connected n peer)) number h once = subst (λ (x : Floor H). IsOnce x number) (sym h) once
   once_tells old new (Some (all_news.Refused peer)) number h once = subst (λ (x : Floor H). IsOnce x number) (sym h) once
   once_tells old new (Some all_news.Woken) number h once = subst (λ (x : Floor H). IsOnce x number) (sym h) once
   once_tells old new (Some (all_news.Ended n peer end)) number h once = once_told old new number _ h.0 h.1 once
 
-  pub gone_tells : (old new : Floor H) (news : Option News) (number : ℕ) → Tells old news new → IsGone old number → IsGone new number
+  pub gone_tells : (old new : Floor H) (news : Option HostEvent) (number : ℕ) → Tells old news new → IsGone old number → IsGone new number
   gone_tells old new None number h gone = subst (λ (x : Floor H). IsGone x number) (sym h) gone
-  gone_tells old new (Some (all_news.Came n peer)) number h gone = subst (λ (x : Floor H). IsGone x number) (sym h) gone
+  gone_tells old new (Some (all_news.Connected n peer)) number h gone = subst (λ (x : Floor H). IsGone x number) (sym h) gone
   gone_tells old new (Some (all_news.Refused peer)) number h gone = subst (λ (x : Floor H). IsGone x number) (sym h) gone
   gone_tells old new (Some all_news.Woken) number h gone = subst (λ (x : Floor H). IsGone x number) (sym h) gone
   gone_tells old new (Some (all_news.Ended n peer end)) number h gone = gone_told old new number _ h.0 h.1 gone
 
-  pub reported_tells : (old new : Floor H) (news : Option News) (number : ℕ) → Tells old news new → IsOnce old number → IsGoneBy news number new
+  pub reported_tells : (old new : Floor H) (news : Option HostEvent) (number : ℕ) → Tells old news new → IsOnce old number → IsGoneBy news number new
   reported_tells old new None number h once = tt
-  reported_tells old new (Some (all_news.Came n peer)) number h once = tt
+  reported_tells old new (Some (all_news.Connected n peer)) number h once = tt
   reported_tells old new (Some (all_news.Refused peer)) number h once = tt
   reported_tells old new (Some all_news.Woken) number h once = tt
   reported_tells old new (Some (all_news.Ended n peer end)) number h once = λ named. gone_reported old new number _ h.0 h.1 named once
 
-module _ {H : Type 0} {hall : HallKind H} where
+module _ {H : Type 0} {table : ObjectTableKind H} where
   -- a connection that begins, whose number none had
-  pub once_begins : (old new : Floor H) (one : Served H) → Begins hall old one new → IsGone old one.number → IsOnce new one.number
+  pub once_begins : (old new : Floor H) (one : Served H) → Begins table old one new → IsGone old one.number → IsOnce new one.number
   once_begins old new one h gone =
       let only : (key : ℕ) → Has (new.served key) one.number → key ≡ h.key = λ key has.
       elim (cases_eq key h.key) [

@@ -4,8 +4,8 @@ use Rattle.std.specs.IoError.{raw_os_error}
 use Rattle.std.specs.declared.io.Error.{Error}
 use Rattle.cp_connection.specs.declared.excess.Excess.{Excess}
 use Rattle.cp_connection.specs.declared.fault.ConnectionFault.{ConnectionFault}
-use Rattle.cp_makers.specs.declared.waker.Waker.{Waker}
-use Rattle.cp_makers.specs.Hall.{HallKind}
+use Rattle.cp_objects.specs.declared.waker.Waker.{Waker}
+use Rattle.cp_objects.specs.ObjectTable.{ObjectTableKind}
 use Rattle.cp_session.specs.declared.event.SessionEvent.{SessionEvent}
 use Rattle.cp_session.specs.declared.limits.SessionLimits.{SessionLimits}
 use Rattle.cp_session.specs.declared.progress.Limit.{Limit}
@@ -23,7 +23,7 @@ use Rattle.net_host.specs.declared.end.End.{End}
 use Rattle.net_host.specs.declared.end.End.TheVariants as all_ends
 use Rattle.net_host.specs.Feeding.{IsFed}
 use Rattle.net_host.proofs.Fed.{at_both, at_none, at_one, parts}
-use Rattle.net_host.specs.Guests.{Adds, Breaks, Closes, EndsBy, Fails, HandsOver, HandsSome, HasFailed, Hears, IsShort, IsTooMuch, IsWhy, Lasts, Minds, Passes, Proceeds, Sends, Served, Serves, Stops, StopsAfter, Works, breaks_off, end_after, end_of, end_or, ends_broken, ends_short, ends_whole, fails_short, fails_whole, heard, is_short, kept_by, minds_full, minds_none, none, or_before, passes_on, some}
+use Rattle.net_host.specs.HostedConnections.{Adds, Breaks, Closes, EndsBy, Fails, HandsOver, HandsSome, HasFailed, Hears, IsShort, IsTooMuch, IsWhy, Lasts, Minds, Passes, Proceeds, Sends, Served, Serves, Stops, StopsAfter, Works, breaks_off, end_after, end_of, end_or, ends_broken, ends_short, ends_whole, fails_short, fails_whole, heard, is_short, kept_by, minds_full, minds_none, none, or_before, passes_on, some}
 use Rattle.net_host.specs.Waking.{HandsAll, HandsOut, hands_more, hands_none}
 
 -- events, and more of them
@@ -62,12 +62,12 @@ limited (Some excess) p h = h
 is_limited : (limit : Limit) (p q : Progress) → q ≡ met limit p → IsSome q.limit
 is_limited limit p q is = subst (λ (x : Progress). IsSome x.limit) (sym is) (limited (excess_by limit p.phase) (record p { limit = Some limit }) refl)
 
-module _ {H : Type 0} {hall : HallKind H} where
-  pub serves_none : (now : ℕ) (s : Served H) → Serves hall now s [] s.rest s
+module _ {H : Type 0} {table : ObjectTableKind H} where
+  pub serves_none : (now : ℕ) (s : Served H) → Serves table now s [] s.rest s
   serves_none now s = record {
     number = refl;
     peer = refl;
-    deed = nothing;
+    transfer = nothing;
     runs = begins;
     no_call = refl;
     unroused = refl;
@@ -80,32 +80,32 @@ module _ {H : Type 0} {hall : HallKind H} where
   }
 
   -- one after the other
-  pub serves_both : {now : ℕ} {a b c : Served H} {came more left : List ℕ} → Serves hall now a came b.rest b → Serves hall now b more left c
-      → Serves hall now a (came ++ more) left c
+  pub serves_both : {now : ℕ} {a b c : Served H} {came more left : List ℕ} → Serves table now a came b.rest b → Serves table now b more left c
+      → Serves table now a (came ++ more) left c
   serves_both {now = now} {a = a} {b = b} {came = came} {more = more} {left = left} h k = record {
     number = k.number ∙ h.number;
     peer = k.peer ∙ h.peer;
-    deed = both h.deed k.deed;
+    transfer = both h.transfer k.transfer;
     runs = runs_both h.runs k.runs;
     no_call = rw (h.no_call, k.no_call) refl;
     unroused = rw (h.unroused, k.unroused) refl;
     unrefused = rw (h.unrefused, k.unrefused) refl;
     unticked = rw (h.unticked, k.unticked) refl;
     unwoken = rw (h.unwoken, k.unwoken) refl;
-    at_once = at_both now h.deed.times k.deed.times h.at_once k.at_once;
+    at_once = at_both now h.transfer.times k.transfer.times h.at_once k.at_once;
     in_order =
-        sym (append_assoc a.rest came more) ∙ ap (λ (x : List ℕ). x ++ more) h.in_order ∙ append_assoc h.deed.given b.rest more
-        ∙ ap (λ (x : List ℕ). h.deed.given ++ x) k.in_order ∙ sym (append_assoc h.deed.given k.deed.given left);
-    end = k.end ∙ ap (λ known. end_after known k.deed.told) h.end ∙ sym (end_after-both a.end h.deed.told k.deed.told);
+        sym (append_assoc a.rest came more) ∙ ap (λ (x : List ℕ). x ++ more) h.in_order ∙ append_assoc h.transfer.given b.rest more
+        ∙ ap (λ (x : List ℕ). h.transfer.given ++ x) k.in_order ∙ sym (append_assoc h.transfer.given k.transfer.given left);
+    end = k.end ∙ ap (λ known. end_after known k.transfer.told) h.end ∙ sym (end_after-both a.end h.transfer.told k.transfer.told);
   }
 
   -- a call of its session that gave it nothing
-  pub serves_call : (now : ℕ) (s : Served H) (t : State H) (written : List ℕ) → Does hall s.session (record (called_at now) { written = written }) t
-      → Serves hall now s [] s.rest (record s { session = t })
+  pub serves_call : (now : ℕ) (s : Served H) (t : State H) (written : List ℕ) → Does table s.session (record (called_at now) { written = written }) t
+      → Serves table now s [] s.rest (record s { session = t })
   serves_call now s t written does = record {
     number = refl;
     peer = refl;
-    deed = record (called_at now) { written = written };
+    transfer = record (called_at now) { written = written };
     runs = runs_one _ does;
     no_call = refl;
     unroused = refl;
@@ -117,54 +117,54 @@ module _ {H : Type 0} {hall : HallKind H} where
     end = refl;
   }
 
-  pub proceeds_none : (now : ℕ) (s : Served H) → Proceeds hall now s s
+  pub proceeds_none : (now : ℕ) (s : Served H) → Proceeds table now s s
   proceeds_none now s = ([], serves_none now s, refl)
 
-  pub proceeds_both : {now : ℕ} {a b c : Served H} → Proceeds hall now a b → Proceeds hall now b c → Proceeds hall now a c
+  pub proceeds_both : {now : ℕ} {a b c : Served H} → Proceeds table now a b → Proceeds table now b c → Proceeds table now a c
   proceeds_both h k = (_, serves_both h.1 k.1, k.2 ∙ h.2)
 
   -- it went on, and then for the last time
-  pub stops_then : {now : ℕ} {a b c : Served H} → Proceeds hall now a b → Stops hall now b c → Stops hall now a c
+  pub stops_then : {now : ℕ} {a b c : Served H} → Proceeds table now a b → Stops table now b c → Stops table now a c
   stops_then h k = (_, (k.1.0, serves_both h.1 k.1.1))
 
   -- it went on for the last time
-  pub stops_after : {now : ℕ} {a b : Served H} {came left : List ℕ} → Serves hall now a came left b → StopsAfter hall now a came b
+  pub stops_after : {now : ℕ} {a b : Served H} {came left : List ℕ} → Serves table now a came left b → StopsAfter table now a came b
   stops_after h = (_, h)
 
-  pub stops_now : {now : ℕ} {a b : Served H} {came left : List ℕ} → Serves hall now a came left b → Stops hall now a b
+  pub stops_now : {now : ℕ} {a b : Served H} {came left : List ℕ} → Serves table now a came left b → Stops table now a b
   stops_now h = (_, (_, h))
 
   -- the objects went on, or memory ran out
-  pub serves_polled : {E : Type 0} (s : Served H) (t : State H) (r : Result (Unit {0}) E) (now : ℕ) → OnOk r (PollsOn hall s.session now t) → OnErr r (RunsOut hall s.session now t)
-      → Serves hall now s [] s.rest (record s { session = t })
+  pub serves_polled : {E : Type 0} (s : Served H) (t : State H) (r : Result (Unit {0}) E) (now : ℕ) → OnOk r (PollsOn table s.session now t) → OnErr r (RunsOut table s.session now t)
+      → Serves table now s [] s.rest (record s { session = t })
   serves_polled s t (Ok x) now h k = serves_call now s t [] (polls now h refl)
   serves_polled s t (Err e) now h k = serves_call now s t [] (runs_out now k refl)
 
   -- the peer's bytes ended, well or not
-  pub serves_ended : (s : Served H) (t : State H) (r : Result (Unit {0}) ConnectionFault) (now : ℕ) → OnOk r (EndsBytes hall s.session now t)
-      → IfErr r (λ fault. EndsCut hall s.session now fault t) → Serves hall now s [] s.rest (record s { session = t })
+  pub serves_ended : (s : Served H) (t : State H) (r : Result (Unit {0}) ConnectionFault) (now : ℕ) → OnOk r (EndsBytes table s.session now t)
+      → IfErr r (λ fault. EndsCut table s.session now fault t) → Serves table now s [] s.rest (record s { session = t })
   serves_ended s t (Ok x) now h k = serves_call now s t [] (ends now h refl)
   serves_ended s t (Err fault) now h k = serves_call now s t [] (ends_inside now fault k refl)
 
   -- what is over stays so where its peer is refused
-  over_minded : {most now : ℕ} (s t : State H) → Minds hall most now s t → s.progress.phase ≡ phases.Over → t.progress.phase ≡ phases.Over
+  over_minded : {most now : ℕ} (s t : State H) → Minds table most now s t → s.progress.phase ≡ phases.Over → t.progress.phase ≡ phases.Over
   over_minded s t (minds_none few same) over = ap (λ (x : State H). x.progress.phase) same ∙ over
   over_minded s t (minds_full many (was_over so same)) over = ap (λ (x : State H). x.progress.phase) same ∙ over
   over_minded s t (minds_full many (refuses mid goes_on told is settles)) over = absurd (goes_on over)
 
   -- its stream took some bytes, or none
-  pub proceeds_sent : (s t : Served H) (count now : ℕ) → Sends hall s count now t → Proceeds hall now s t
-  proceeds_sent s t count now (none zero same) = subst (λ (x : Served H). Proceeds hall now s x) (sym same) (proceeds_none now s)
+  pub proceeds_sent : (s t : Served H) (count now : ℕ) → Sends table s count now t → Proceeds table now s t
+  proceeds_sent s t count now (none zero same) = subst (λ (x : Served H). Proceeds table now s x) (sym same) (proceeds_none now s)
   proceeds_sent s t count now (some sent same) =
-      subst (λ (x : Served H). Proceeds hall now s x) (sym same) ([], serves_call now s t.session _ (writes count now sent refl), refl)
+      subst (λ (x : Served H). Proceeds table now s x) (sym same) ([], serves_call now s t.session _ (writes count now sent refl), refl)
 
   -- it had some of what was left
-  pub serves_rest : {now : ℕ} (s : Served H) (t : State H) (rest left : List ℕ) (count : ℕ) → left ≡ s.rest → IsFed hall now s.session (take count left) t
-      → Serves hall now s [] (take (length left - count) (drop count left)) (record s { session = t; rest = rest })
+  pub serves_rest : {now : ℕ} (s : Served H) (t : State H) (rest left : List ℕ) (count : ℕ) → left ≡ s.rest → IsFed table now s.session (take count left) t
+      → Serves table now s [] (take (length left - count) (drop count left)) (record s { session = t; rest = rest })
   serves_rest s t rest left count is fed = record {
     number = refl;
     peer = refl;
-    deed = record nothing { given = take count left; taken = fed.0; times = fed.1 };
+    transfer = record nothing { given = take count left; taken = fed.0; times = fed.1 };
     runs = fed.3;
     no_call = refl;
     unroused = refl;
@@ -177,12 +177,12 @@ module _ {H : Type 0} {hall : HallKind H} where
   }
 
   -- it had some of what came, where nothing was left
-  pub serves_came : {now : ℕ} (s : Served H) (t : State H) (rest came given left : List ℕ) → s.rest ≡ [] → came ≡ given ++ left → IsFed hall now s.session given t
-      → Serves hall now s came left (record s { session = t; rest = rest })
+  pub serves_came : {now : ℕ} (s : Served H) (t : State H) (rest came given left : List ℕ) → s.rest ≡ [] → came ≡ given ++ left → IsFed table now s.session given t
+      → Serves table now s came left (record s { session = t; rest = rest })
   serves_came s t rest came given left empty is fed = record {
     number = refl;
     peer = refl;
-    deed = record nothing { given = given; taken = fed.0; times = fed.1 };
+    transfer = record nothing { given = given; taken = fed.0; times = fed.1 };
     runs = fed.3;
     no_call = refl;
     unroused = refl;
@@ -195,29 +195,29 @@ module _ {H : Type 0} {hall : HallKind H} where
   }
 
   -- the same, where the rest is what was added to nothing
-  pub serves_added : {now : ℕ} (s : Served H) (t : State H) (rest came given left : List ℕ) → s.rest ≡ [] → rest ≡ s.rest ++ left → came ≡ given ++ left → IsFed hall now s.session given t
-      → Serves hall now s came rest (record s { session = t; rest = rest })
+  pub serves_added : {now : ℕ} (s : Served H) (t : State H) (rest came given left : List ℕ) → s.rest ≡ [] → rest ≡ s.rest ++ left → came ≡ given ++ left → IsFed table now s.session given t
+      → Serves table now s came rest (record s { session = t; rest = rest })
   serves_added s t rest came given left empty added is fed =
       serves_came s t rest came given rest empty (is ∙ ap (λ (x : List ℕ). given ++ x) (sym (added ∙ ap (λ (x : List ℕ). x ++ left) empty))) fed
 
   -- ---- events
 
-  pub hears_none : (s : Served H) → Hears hall s s
+  pub hears_none : (s : Served H) → Hears table s s
   hears_none s = ([], begins, refl, refl)
 
   -- none was there
-  pub hears_nothing : (s : Served H) (t : State H) → Tells s.session None t → Hears hall s (record s { session = t })
+  pub hears_nothing : (s : Served H) (t : State H) → Tells s.session None t → Hears table s (record s { session = t })
   hears_nothing s t h = ([], runs_one _ (tells None h refl), ap (λ (x : State H). x.progress.phase) h.rest, refl)
 
   -- one was there
-  pub hears_one : (s new : Served H) (t : State H) (event : SessionEvent) → Tells s.session (Some event) t → new ≡ heard event (record s { session = t }) → Hears hall s new
-  hears_one s new t event h is = subst (λ (x : Served H). Hears hall s x) (sym is) (event ∷ [], runs_one _ (tells (Some event) h refl), ap (λ (x : State H). x.progress.phase) h.rest, refl)
+  pub hears_one : (s new : Served H) (t : State H) (event : SessionEvent) → Tells s.session (Some event) t → new ≡ heard event (record s { session = t }) → Hears table s new
+  hears_one s new t event h is = subst (λ (x : Served H). Hears table s x) (sym is) (event ∷ [], runs_one _ (tells (Some event) h refl), ap (λ (x : State H). x.progress.phase) h.rest, refl)
 
   -- what shows the same heard the same
-  hears_from : {a b c : Served H} → Hears hall a b → a ≡ c → Hears hall c b
-  hears_from {b = b} h e = subst (λ (x : Served H). Hears hall x b) e h
+  hears_from : {a b c : Served H} → Hears table a b → a ≡ c → Hears table c b
+  hears_from {b = b} h e = subst (λ (x : Served H). Hears table x b) e h
 
-  pub hears_both : {a b c : Served H} → Hears hall a b → Hears hall b c → Hears hall a c
+  pub hears_both : {a b c : Served H} → Hears table a b → Hears table b c → Hears table a c
   hears_both {a = a} {b = b} {c = c} h k = (
     h.0 ++ k.0,
     runs_both h.1 k.1,
@@ -227,30 +227,30 @@ module _ {H : Type 0} {hall : HallKind H} where
   )
 
   -- events change nothing of what is left
-  pub serves_hears : {now : ℕ} {a b c : Served H} {came left : List ℕ} → Serves hall now a came left b → Hears hall b c → Serves hall now a came left c
+  pub serves_hears : {now : ℕ} {a b c : Served H} {came left : List ℕ} → Serves table now a came left b → Hears table b c → Serves table now a came left c
   serves_hears {now = now} {a = a} {b = b} {c = c} {left = left} h k = record {
     number = ap (λ (x : Served H). x.number) k.3 ∙ h.number;
     peer = ap (λ (x : Served H). x.peer) k.3 ∙ h.peer;
-    deed = both h.deed (record nothing { told = k.0 });
+    transfer = both h.transfer (record nothing { told = k.0 });
     runs = runs_both h.runs k.1;
     no_call = rw (h.no_call) refl;
     unroused = rw (h.unroused) refl;
     unrefused = rw (h.unrefused) refl;
     unticked = rw (h.unticked) refl;
     unwoken = rw (h.unwoken) refl;
-    at_once = at_both now h.deed.times [] h.at_once (at_none now);
-    in_order = h.in_order ∙ ap (λ (x : List ℕ). x ++ left) (sym (append-nil h.deed.given));
-    end = ap (λ (x : Served H). x.end) k.3 ∙ ap (λ known. end_after known k.0) h.end ∙ sym (end_after-both a.end h.deed.told k.0);
+    at_once = at_both now h.transfer.times [] h.at_once (at_none now);
+    in_order = h.in_order ∙ ap (λ (x : List ℕ). x ++ left) (sym (append-nil h.transfer.given));
+    end = ap (λ (x : Served H). x.end) k.3 ∙ ap (λ known. end_after known k.0) h.end ∙ sym (end_after-both a.end h.transfer.told k.0);
   }
 
   -- ---- whom its objects want to be woken
 
-  pub hands_begin : (s : Served H) (wakes : List Waker) → Adds wakes (λ woken. HandsSome hall s woken s) wakes
+  pub hands_begin : (s : Served H) (wakes : List Waker) → Adds wakes (λ woken. HandsSome table s woken s) wakes
   hands_begin s wakes = ([], sym (append-nil wakes), (hands_none, refl))
 
   -- one more is handed out, where room was made
-  pub hands_next : {a b c : Served H} (first so_far room next : List Waker) (waker : Waker) → Adds first (λ woken. HandsSome hall a woken b) so_far → room ≡ so_far
-      → HandsOn hall (Some waker) b.session c.session → c ≡ record b { session = c.session } → next ≡ room ++ waker ∷ [] → Adds first (λ woken. HandsSome hall a woken c) next
+  pub hands_next : {a b c : Served H} (first so_far room next : List Waker) (waker : Waker) → Adds first (λ woken. HandsSome table a woken b) so_far → room ≡ so_far
+      → HandsOn table (Some waker) b.session c.session → c ≡ record b { session = c.session } → next ≡ room ++ waker ∷ [] → Adds first (λ woken. HandsSome table a woken c) next
   hands_next {c = c} first so_far room next waker h same one is added = (
     h.0 ++ waker ∷ [],
     added ∙ ap (λ (x : List Waker). x ++ waker ∷ []) (same ∙ h.1) ∙ append_assoc first h.0 (waker ∷ []),
@@ -258,64 +258,64 @@ module _ {H : Type 0} {hall : HallKind H} where
   )
 
   -- none was left
-  pub hands_end : {a b c : Served H} (first so_far room : List Waker) → Adds first (λ woken. HandsSome hall a woken b) so_far → room ≡ so_far
-      → HandsOn hall None b.session c.session → c ≡ record b { session = c.session } → Adds first (λ woken. HandsOver hall a woken c) room
+  pub hands_end : {a b c : Served H} (first so_far room : List Waker) → Adds first (λ woken. HandsSome table a woken b) so_far → room ≡ so_far
+      → HandsOn table None b.session c.session → c ≡ record b { session = c.session } → Adds first (λ woken. HandsOver table a woken c) room
   hands_end {b = b} {c = c} first so_far room h same one is = (
     h.0,
     same ∙ h.1,
     ((b.session, h.2.0, one), is ∙ ap (λ (x : Served H). record x { session = c.session }) h.2.1),
   )
 
-  pub hands_still : {a b : Served H} (first so_far room : List Waker) → Adds first (λ woken. HandsSome hall a woken b) so_far → room ≡ so_far
-      → Adds first (λ woken. HandsSome hall a woken b) room
+  pub hands_still : {a b : Served H} (first so_far room : List Waker) → Adds first (λ woken. HandsSome table a woken b) so_far → room ≡ so_far
+      → Adds first (λ woken. HandsSome table a woken b) room
   hands_still first so_far room h same = (h.0, same ∙ h.1, h.2)
 
   -- ---- what a turn comes to
 
   -- what is over stays so
-  over_settled : (s t : State H) (now : ℕ) → Settles hall s now t → s.progress.phase ≡ phases.Over → t.progress.phase ≡ phases.Over
+  over_settled : (s t : State H) (now : ℕ) → Settles table s now t → s.progress.phase ≡ phases.Over → t.progress.phase ≡ phases.Over
   over_settled s t now h over = by h.left_so
     where
       heeded : h.heeded.progress.phase ≡ phases.Over
       heeded = ap (λ (x : State H). x.progress.phase) h.heeds ∙ ap (λ phase. phase_by s.service.work.link.fault phase) over ∙ over_still s.service.work.link.fault
 
-      by : Leaves hall h.heeded now t → t.progress.phase ≡ phases.Over
+      by : Leaves table h.heeded now t → t.progress.phase ≡ phases.Over
       by (stays unsettled is) = ap (λ (x : State H). x.progress.phase) is ∙ heeded
       by (leaves settled is) = absurd (grind (arith, settled.ending, heeded))
 
   -- time passes for no object where a limit is met
-  goes_none : {now : ℕ} {ticked mid : State H} → GoesBy hall now ticked mid → IsSome ticked.progress.limit → mid ≡ ticked
+  goes_none : {now : ℕ} {ticked mid : State H} → GoesBy table now ticked mid → IsSome ticked.progress.limit → mid ≡ ticked
   goes_none (inl passed) limited = absurd (passed.0 (inr (inr limited)))
   goes_none (inr stopped) limited = stopped.1
 
   -- who is to be woken is handed out whatever the phase
-  same_phase_so_far : {a b : State H} {woken : List Waker} → HandsOut hall a woken b → b.progress.phase ≡ a.progress.phase
+  same_phase_so_far : {a b : State H} {woken : List Waker} → HandsOut table a woken b → b.progress.phase ≡ a.progress.phase
   same_phase_so_far hands_none = refl
   same_phase_so_far (hands_more waker before one is) = ap (λ (x : State H). x.progress.phase) one.1 ∙ same_phase_so_far before
 
-  same_phase : {a b : State H} {woken : List Waker} → HandsAll hall a woken b → b.progress.phase ≡ a.progress.phase
+  same_phase : {a b : State H} {woken : List Waker} → HandsAll table a woken b → b.progress.phase ≡ a.progress.phase
   same_phase h = ap (λ (x : State H). x.progress.phase) h.2.1 ∙ same_phase_so_far h.1
 
   -- a session that isn't over once time passed met no limit, but the one of which its peer is told
-  pub met_none : (s t : State H) (now : ℕ) → Ticks hall s now t → t.progress.phase ≢ phases.Over → (limit : Limit)
-      → Meets s.limits s.progress (kept_of s.service.work (hall.guests s.objects)) now limit → IsTooMuch hall s
+  pub met_none : (s t : State H) (now : ℕ) → Ticks table s now t → t.progress.phase ≢ phases.Over → (limit : Limit)
+      → Meets s.limits s.progress (kept_of s.service.work (table.guests s.objects)) now limit → IsTooMuch table s
   met_none s t now h goes_on limit met_so = by h.ticks
     where
-      by : TicksTo s.limits s.progress (kept_of s.service.work (hall.guests s.objects)) now h.told h.ticked.progress → IsTooMuch hall s
+      by : TicksTo s.limits s.progress (kept_of s.service.work (table.guests s.objects)) now h.told h.ticked.progress → IsTooMuch table s
       by (meets one is_met told is) =
           let still : h.mid ≡ h.ticked = goes_none h.goes_by (is_limited one s.progress h.ticked.progress is) in
-          told_so one s.limits s.progress (kept_of s.service.work (hall.guests s.objects)) now is_met
+          told_so one s.limits s.progress (kept_of s.service.work (table.guests s.objects)) now is_met
           (λ over. goes_on (over_settled h.mid t now h.settles (ap (λ (x : State H). x.progress.phase) still ∙ ap (λ p. p.phase) is ∙ over)))
       by (meets_none unmet told is) = absurd (unmet limit met_so)
 
   -- ---- its end
 
   -- its stream failed
-  serves_failed : {now : ℕ} {a b : Served H} {came left : List ℕ} (failure : Option (Option ℤ)) → Serves hall now a came left b → Serves hall now a came left (record b { failure = failure })
+  serves_failed : {now : ℕ} {a b : Served H} {came left : List ℕ} (failure : Option (Option ℤ)) → Serves table now a came left b → Serves table now a came left (record b { failure = failure })
   serves_failed failure h = record {
     number = h.number;
     peer = h.peer;
-    deed = h.deed;
+    transfer = h.transfer;
     runs = h.runs;
     no_call = h.no_call;
     unroused = h.unroused;
@@ -327,21 +327,21 @@ module _ {H : Type 0} {hall : HallKind H} where
     end = h.end;
   }
 
-  pub fails_now : {now : ℕ} {a b c : Served H} (error : Error) → Proceeds hall now a b → c ≡ record b { failure = Some (raw_os_error error) } → Breaks hall now a error c
+  pub fails_now : {now : ℕ} {a b c : Served H} (error : Error) → Proceeds table now a b → c ≡ record b { failure = Some (raw_os_error error) } → Breaks table now a error c
   fails_now {now = now} {a = a} {b = b} error h e =
-      subst (λ (x : Served H). Breaks hall now a error x) (sym e) ((h.0, (b.rest, serves_failed (Some (raw_os_error error)) h.1)), inl refl)
+      subst (λ (x : Served H). Breaks table now a error x) (sym e) ((h.0, (b.rest, serves_failed (Some (raw_os_error error)) h.1)), inl refl)
 
   -- it went on, and then failed
-  pub fails_then : {now : ℕ} {a b c : Served H} (error : Error) → Proceeds hall now a b → Breaks hall now b error c → Breaks hall now a error c
+  pub fails_then : {now : ℕ} {a b c : Served H} (error : Error) → Proceeds table now a b → Breaks table now b error c → Breaks table now a error c
   fails_then error h k = (stops_then h k.0, k.1)
 
   -- events say nothing of its stream
-  pub fails_hears : {now : ℕ} {a b c : Served H} (error : Error) → Breaks hall now a error b → Hears hall b c → Breaks hall now a error c
+  pub fails_hears : {now : ℕ} {a b c : Served H} (error : Error) → Breaks table now a error b → Hears table b c → Breaks table now a error c
   fails_hears {b = b} {c = c} error h k = ((h.0.0, (h.0.1.0, serves_hears h.0.1.1 k)), failed_still b c error h.1 (ap (λ (x : Served H). x.failure) k.3))
 
   -- it went on through a turn
-  pub passed : {most now : ℕ} {a refused b : Served H} (worked : Served H) (ticked minded : State H) → Proceeds hall now a worked → Ticks hall worked.session now ticked
-      → Minds hall most now ticked minded → refused ≡ record worked { session = minded } → Hears hall refused b → Passes hall most now a b
+  pub passed : {most now : ℕ} {a refused b : Served H} (worked : Served H) (ticked minded : State H) → Proceeds table now a worked → Ticks table worked.session now ticked
+      → Minds table most now ticked minded → refused ≡ record worked { session = minded } → Hears table refused b → Passes table most now a b
   passed worked ticked minded went_on went_by minds same heard = record {
     worked = worked;
     proceeds = went_on;
@@ -353,65 +353,65 @@ module _ {H : Type 0} {hall : HallKind H} where
   }
 
   -- it is the same connection, and its stream didn't fail
-  passes_number : {most now : ℕ} {a b : Served H} → Passes hall most now a b → b.number ≡ a.number
+  passes_number : {most now : ℕ} {a b : Served H} → Passes table most now a b → b.number ≡ a.number
   passes_number h = ap (λ (x : Served H). x.number) h.hears.3 ∙ h.proceeds.1.number
 
-  passes_peer : {most now : ℕ} {a b : Served H} → Passes hall most now a b → b.peer ≡ a.peer
+  passes_peer : {most now : ℕ} {a b : Served H} → Passes table most now a b → b.peer ≡ a.peer
   passes_peer h = ap (λ (x : Served H). x.peer) h.hears.3 ∙ h.proceeds.1.peer
 
-  pub works_number : {most now : ℕ} {a b : Served H} {woken : List Waker} → Works hall most now a woken b → b.number ≡ a.number
+  pub works_number : {most now : ℕ} {a b : Served H} {woken : List Waker} → Works table most now a woken b → b.number ≡ a.number
   works_number h = ap (λ (x : Served H). x.number) h.hands.1 ∙ passes_number h.passes
 
-  works_peer : {most now : ℕ} {a b : Served H} {woken : List Waker} → Works hall most now a woken b → b.peer ≡ a.peer
+  works_peer : {most now : ℕ} {a b : Served H} {woken : List Waker} → Works table most now a woken b → b.peer ≡ a.peer
   works_peer h = ap (λ (x : Served H). x.peer) h.hands.1 ∙ passes_peer h.passes
 
-  pub works_failure : {most now : ℕ} {a b : Served H} {woken : List Waker} → Works hall most now a woken b → b.failure ≡ a.failure
+  pub works_failure : {most now : ℕ} {a b : Served H} {woken : List Waker} → Works table most now a woken b → b.failure ≡ a.failure
   works_failure h = ap (λ (x : Served H). x.failure) h.hands.1 ∙ ap (λ (x : Served H). x.failure) h.passes.hears.3 ∙ h.passes.proceeds.2
 
-  pub works_as : {most now : ℕ} {a b c : Served H} {woken : List Waker} → Works hall most now a woken b → c ≡ b → Works hall most now a woken c
-  works_as {most = most} {now = now} {a = a} {woken = woken} h e = subst (λ (x : Served H). Works hall most now a woken x) (sym e) h
+  pub works_as : {most now : ℕ} {a b c : Served H} {woken : List Waker} → Works table most now a woken b → c ≡ b → Works table most now a woken c
+  works_as {most = most} {now = now} {a = a} {woken = woken} h e = subst (λ (x : Served H). Works table most now a woken x) (sym e) h
 
   -- one that isn't over then met no limit, but the one of which its peer is told
-  pub works_unmet : {most now : ℕ} {a b : Served H} {woken : List Waker} (h : Works hall most now a woken b) → b.session.progress.phase ≢ phases.Over → (limit : Limit)
-      → Meets h.passes.worked.session.limits h.passes.worked.session.progress (kept_by hall h.passes.worked) now limit → IsTooMuch hall h.passes.worked.session
+  pub works_unmet : {most now : ℕ} {a b : Served H} {woken : List Waker} (h : Works table most now a woken b) → b.session.progress.phase ≢ phases.Over → (limit : Limit)
+      → Meets h.passes.worked.session.limits h.passes.worked.session.progress (kept_by table h.passes.worked) now limit → IsTooMuch table h.passes.worked.session
   works_unmet {now = now} h goes_on =
       let turn = h.passes in
       met_none turn.worked.session turn.ticked now turn.ticks
       (λ over. goes_on (same_phase h.hands.0 ∙ turn.hears.2 ∙ over_minded turn.ticked turn.minded turn.minds over))
 
   -- its last turn
-  pub broken_off : {now : ℕ} {a b : Served H} (most : ℕ) (error : Error) → Breaks hall now a error b → Lasts hall most now a b
+  pub broken_off : {now : ℕ} {a b : Served H} (most : ℕ) (error : Error) → Breaks table now a error b → Lasts table most now a b
   broken_off most error h = breaks_off error h
 
-  pub passed_so : {most now : ℕ} {a b : Served H} → Passes hall most now a b → Lasts hall most now a b
+  pub passed_so : {most now : ℕ} {a b : Served H} → Passes table most now a b → Lasts table most now a b
   passed_so h = passes_on h
 
-  lasts_number : {most now : ℕ} {a b : Served H} → Lasts hall most now a b → b.number ≡ a.number
+  lasts_number : {most now : ℕ} {a b : Served H} → Lasts table most now a b → b.number ≡ a.number
   lasts_number (breaks_off error broken) = broken.0.1.1.number
   lasts_number (passes_on through) = passes_number through
 
-  lasts_peer : {most now : ℕ} {a b : Served H} → Lasts hall most now a b → b.peer ≡ a.peer
+  lasts_peer : {most now : ℕ} {a b : Served H} → Lasts table most now a b → b.peer ≡ a.peer
   lasts_peer (breaks_off error broken) = broken.0.1.1.peer
   lasts_peer (passes_on through) = passes_peer through
 
   -- it is closed, and keeps its number and peer
-  closed : {most now : ℕ} {woken : List Waker} (old last new : Served H) (end : End) → last.number ≡ old.number → last.peer ≡ old.peer → EndsBy hall most now old woken end
-      → new ≡ record last { end = None } → Closes hall most now old woken end new
+  closed : {most now : ℕ} {woken : List Waker} (old last new : Served H) (end : End) → last.number ≡ old.number → last.peer ≡ old.peer → EndsBy table most now old woken end
+      → new ≡ record last { end = None } → Closes table most now old woken end new
   closed old last new end number peer by is = (ap (λ (x : Served H). x.number) is ∙ number, ap (λ (x : Served H). x.peer) is ∙ peer, by)
 
   -- once all are handed out
-  pub closes : {most now : ℕ} {woken : List Waker} (old last new : Served H) (end : End) → Works hall most now old woken last → IsWhy hall most last end
-      → new ≡ record last { end = None } → Closes hall most now old woken end new
+  pub closes : {most now : ℕ} {woken : List Waker} (old last new : Served H) (end : End) → Works table most now old woken last → IsWhy table most last end
+      → new ≡ record last { end = None } → Closes table most now old woken end new
   closes old last new end h why is = closed old last new end (works_number h) (works_peer h) (ends_whole last h why) is
 
   -- as memory ran out
-  pub closes_short : {most now : ℕ} {woken : List Waker} (old last new : Served H) (end : End) → Works hall most now old woken last → IsShort last end
-      → new ≡ record last { end = None } → Closes hall most now old woken end new
+  pub closes_short : {most now : ℕ} {woken : List Waker} (old last new : Served H) (end : End) → Works table most now old woken last → IsShort last end
+      → new ≡ record last { end = None } → Closes table most now old woken end new
   closes_short old last new end h short is = closes old last new end h (is_short short) is
 
   -- as its stream failed, or memory ran out
-  pub closes_failed : {most now : ℕ} {woken : List Waker} (old last new : Served H) (error : Error) (end : End) → Fails hall most now old woken error last
-      → end ≡ end_or last.end (all_ends.Failed error) → new ≡ record last { end = None } → Closes hall most now old woken end new
+  pub closes_failed : {most now : ℕ} {woken : List Waker} (old last new : Served H) (error : Error) (end : End) → Fails table most now old woken error last
+      → end ≡ end_or last.end (all_ends.Failed error) → new ≡ record last { end = None } → Closes table most now old woken end new
   closes_failed old last new error end (fails_whole served breaks hands) why is =
       closed old last new end (ap (λ (x : Served H). x.number) hands.1 ∙ breaks.0.1.1.number) (ap (λ (x : Served H). x.peer) hands.1 ∙ breaks.0.1.1.peer)
       (ends_broken served last error breaks hands why) is

@@ -2,14 +2,14 @@
 use Rattle.std.proofs.Common.{◌≡◌, ◌≤◌, ℕ, Option, Some, None, ap, arith}
 use Rattle.std.specs.FinMap.{insert, remove}
 use Rattle.cp_refs.specs.Memory.{counted}
-use Rattle.cp_makers.specs.Hall.{HallKind}
+use Rattle.cp_objects.specs.ObjectTable.{ObjectTableKind}
 use Rattle.cp_session.specs.Budget.{IsWithin, Keeping, allowed}
 use Rattle.cp_session.proofs.Sharing.{stays}
 use Rattle.net_host.specs.Floor.{Floor, ReportsWithin, Rounds, Tells, Turns, begins, ends, goes_on, number_of, rests, sweeps, turns, wakes, wakes_none, wakes_short}
 use Rattle.net_host.specs.Waking.{key_of}
-use Rattle.net_host.specs.Guests.{kept_by}
-use Rattle.net_host.specs.declared.host.News.{News}
-use Rattle.net_host.specs.declared.host.News.TheVariants as all_news
+use Rattle.net_host.specs.HostedConnections.{kept_by}
+use Rattle.net_host.specs.declared.host.HostEvent.{HostEvent}
+use Rattle.net_host.specs.declared.host.HostEvent.TheVariants as all_news
 
 -- a connection came to keep no more than it may, or is served no more
 noted : (k next : Keeping) (number bytes : ℕ) → bytes ≤ counted (allowed k number) → next ≡ record k { kept = insert k.kept number bytes } → IsWithin k → IsWithin next
@@ -22,18 +22,18 @@ same : (k next : Keeping) → next ≡ k → IsWithin k → IsWithin next
 same k next is within = rw is within
 
 module _ {H : Type 0} where
-  told : (old new : Floor H) (news : Option News) → Tells old news new → IsWithin old.budget → IsWithin new.budget
+  told : (old new : Floor H) (news : Option HostEvent) → Tells old news new → IsWithin old.budget → IsWithin new.budget
   told old new None h within = same old.budget new.budget (ap (λ (f : Floor H). f.budget) h) within
-  told old new (Some (all_news.Came n peer)) h within = same old.budget new.budget (ap (λ (f : Floor H). f.budget) h) within
+  told old new (Some (all_news.Connected n peer)) h within = same old.budget new.budget (ap (λ (f : Floor H). f.budget) h) within
   told old new (Some (all_news.Refused peer)) h within = same old.budget new.budget (ap (λ (f : Floor H). f.budget) h) within
   told old new (Some all_news.Woken) h within = same old.budget new.budget (ap (λ (f : Floor H). f.budget) h) within
   told old new (Some (all_news.Ended n peer end)) h within = same old.budget new.budget h.2 within
 
-module _ {H : Type 0} {hall : HallKind H} where
-  turned : (old new : Floor H) → Turns hall old new → IsWithin old.budget → IsWithin new.budget
+module _ {H : Type 0} {table : ObjectTableKind H} where
+  turned : (old new : Floor H) → Turns table old new → IsWithin old.budget → IsWithin new.budget
   turned old new (rests r) within = same old.budget new.budget r.budget within
   turned old new (goes_on key now one next woken was stays puts ended note added awaits) within =
-      noted old.budget new.budget (number_of key) (kept_by hall next) stays.within note within
+      noted old.budget new.budget (number_of key) (kept_by table next) stays.within note within
   turned old new (ends key now one woken end was by puts ended forgets added due) within = forgotten old.budget new.budget (number_of key) forgets within
   turned old new (wakes waker one next first served rouses puts ended as_much awaits) within = same old.budget new.budget as_much within
   turned old new (wakes_none waker first unserved still ended as_much due) within = same old.budget new.budget as_much within
@@ -41,9 +41,9 @@ module _ {H : Type 0} {hall : HallKind H} where
       forgotten old.budget new.budget (number_of (key_of waker.session)) forgets within
   turned old new (sweeps still ended as_much waits first) within = same old.budget new.budget as_much within
 
-  in_rounds : (old new : Floor H) → Rounds hall old new → IsWithin old.budget → IsWithin new.budget
+  in_rounds : (old new : Floor H) → Rounds table old new → IsWithin old.budget → IsWithin new.budget
   in_rounds old new begins within = within
   in_rounds old new (turns {mid = mid} before turn) within = turned mid new turn (in_rounds old mid before within)
 
-  pub reports_within : ReportsWithin hall
+  pub reports_within : ReportsWithin table
   reports_within old new news h within = told h.0 new news h.2 (in_rounds old h.0 h.1 within)

@@ -1,11 +1,11 @@
 -- No connection is served whose stream failed.
 use Rattle.std.proofs.Common.{◌≡◌, ◌∙◌, ℕ, Option, Some, None, inl, inr, sym, ap, subst}
 use Rattle.std.proofs.lemmas.Bool.{cases_eq}
-use Rattle.cp_makers.specs.Hall.{HallKind}
-use Rattle.net_host.specs.declared.host.News.{News}
-use Rattle.net_host.specs.declared.host.News.TheVariants as all_news
+use Rattle.cp_objects.specs.ObjectTable.{ObjectTableKind}
+use Rattle.net_host.specs.declared.host.HostEvent.{HostEvent}
+use Rattle.net_host.specs.declared.host.HostEvent.TheVariants as all_news
 use Rattle.net_host.specs.Floor.{Begins, Floor, Puts, Rounds, Tells, Turns, begins, ends, goes_on, rests, sweeps, turns, wakes, wakes_none, wakes_short}
-use Rattle.net_host.specs.Guests.{Served}
+use Rattle.net_host.specs.HostedConnections.{Served}
 use Rattle.net_host.specs.Once.{IsUnfailed, NoneFailed, StaysUnfailed}
 use Rattle.net_host.specs.Waking.{key_of}
 use Rattle.net_host.proofs.Serving.{works_failure}
@@ -23,18 +23,18 @@ module _ {H : Type 0} where
   unfailed_same : (old new : ℕ → Option (Served H)) → new ≡ old → ((k : ℕ) → IsUnfailed (old k)) → (k : ℕ) → IsUnfailed (new k)
   unfailed_same old new same before k = subst (λ (f : ℕ → Option (Served H)). IsUnfailed (f k)) (sym same) (before k)
 
-  told : (old new : Floor H) (news : Option News) → Tells old news new → NoneFailed old → NoneFailed new
+  told : (old new : Floor H) (news : Option HostEvent) → Tells old news new → NoneFailed old → NoneFailed new
   told old new None h none = unfailed_same old.served new.served (ap (λ (f : Floor H). f.served) h) none
-  told old new (Some (all_news.Came n peer)) h none = unfailed_same old.served new.served (ap (λ (f : Floor H). f.served) h) none
+  told old new (Some (all_news.Connected n peer)) h none = unfailed_same old.served new.served (ap (λ (f : Floor H). f.served) h) none
   told old new (Some (all_news.Refused peer)) h none = unfailed_same old.served new.served (ap (λ (f : Floor H). f.served) h) none
   told old new (Some all_news.Woken) h none = unfailed_same old.served new.served (ap (λ (f : Floor H). f.served) h) none
   told old new (Some (all_news.Ended n peer end)) h none = unfailed_same old.served new.served h.0 none
 
-module _ {H : Type 0} {hall : HallKind H} where
-  pub begins_unfailed : (old new : Floor H) (one : Served H) → Begins hall old one new → one.failure ≡ None → NoneFailed old → NoneFailed new
+module _ {H : Type 0} {table : ObjectTableKind H} where
+  pub begins_unfailed : (old new : Floor H) (one : Served H) → Begins table old one new → one.failure ≡ None → NoneFailed old → NoneFailed new
   begins_unfailed old new one h unfailed none = unfailed_puts old.served new.served h.key (Some one) h.puts none unfailed
 
-  turned : (old new : Floor H) → Turns hall old new → NoneFailed old → NoneFailed new
+  turned : (old new : Floor H) → Turns table old new → NoneFailed old → NoneFailed new
   turned old new (rests r) none = λ k. subst (λ (s : Option (Served H)). IsUnfailed s) (sym (r.same k)) (none k)
   turned old new (goes_on key now one next woken was stays puts ended note added awaits) none =
       let had : one.failure ≡ None = subst (λ (s : Option (Served H)). IsUnfailed s) was (none key) in
@@ -48,9 +48,9 @@ module _ {H : Type 0} {hall : HallKind H} where
       unfailed_puts old.served new.served (key_of waker.session) None puts none tt
   turned old new (sweeps same ended budget waits first) none = λ k. subst (λ (s : Option (Served H)). IsUnfailed s) (sym (same k)) (none k)
 
-  in_rounds : (old new : Floor H) → Rounds hall old new → NoneFailed old → NoneFailed new
+  in_rounds : (old new : Floor H) → Rounds table old new → NoneFailed old → NoneFailed new
   in_rounds old new begins none = none
   in_rounds old new (turns {mid = mid} before turn) none = turned mid new turn (in_rounds old mid before none)
 
-  pub stays_unfailed : StaysUnfailed hall
+  pub stays_unfailed : StaysUnfailed table
   stays_unfailed old new news h none = told h.0 new news h.2 (in_rounds old h.0 h.1 none)

@@ -3,8 +3,8 @@ use Rattle.std.specs.Prelude.{◌≡◌, ◌≢◌, ◌%◌, ◌^◌, Contains, 
 use Rattle.std.specs.FinMap as map
 use Rattle.slab.specs.Slab.{Slab, get}
 use Rattle.cp_refs.specs.Memory.{counted}
-use Rattle.cp_makers.specs.declared.waker.Waker.{Waker}
-use Rattle.cp_makers.specs.Hall.{HallKind}
+use Rattle.cp_objects.specs.declared.waker.Waker.{Waker}
+use Rattle.cp_objects.specs.ObjectTable.{ObjectTableKind}
 use Rattle.cp_session.specs.Budget.{IsWithin, Keeping, allowed}
 use Rattle.cp_session.specs.declared.options.SessionOptions.{SessionOptions}
 use Rattle.cp_session.specs.Doing.{due_of}
@@ -14,16 +14,16 @@ use Rattle.net_sockets.specs.Reading.{failure_of}
 use Rattle.net_host.specs.declared.end.End.{End}
 use Rattle.net_host.specs.declared.end.Ended.{Ended}
 use Rattle.net_host.specs.declared.event_loop.EventLoop.{EventLoop}
-use Rattle.net_host.specs.declared.guest.Guest.{Guest}
+use Rattle.net_host.specs.declared.hosted_connection.HostedConnection.{HostedConnection}
 use Rattle.net_host.specs.declared.host.SessionHost.{SessionHost}
-use Rattle.net_host.specs.declared.host.News.{News}
-use Rattle.net_host.specs.declared.host.News.TheVariants as all_news
+use Rattle.net_host.specs.declared.host.HostEvent.{HostEvent}
+use Rattle.net_host.specs.declared.host.HostEvent.TheVariants as all_news
 use Rattle.net_host.specs.declared.host.Look.{Look}
 use Rattle.net_host.specs.declared.host.Look.TheVariants as looks
 use Rattle.net_host.specs.declared.limits.HostLimits.{HostLimits}
 use Rattle.net_host.specs.declared.pending.PendingConnection.{PendingConnection}
-use Rattle.net_host.specs.declared.plan.HostPlan.{HostPlan}
-use Rattle.net_host.specs.Guests.{Served, kept_by, served_of, new_served, forgetting, noting, EndsBy, IsOverdue, IsShort, Rouses, Stays}
+use Rattle.net_host.specs.declared.config.HostConfig.{HostConfig}
+use Rattle.net_host.specs.HostedConnections.{Served, kept_by, served_of, new_served, forgetting, noting, EndsBy, IsOverdue, IsShort, Rouses, Stays}
 use Rattle.net_host.specs.Limits.{pool_of, share_of}
 use Rattle.net_host.specs.Timing.{ComesBy}
 use Rattle.net_host.specs.Waking.{key_of, session_of}
@@ -38,7 +38,7 @@ pub record Floor (H : Type 0) : Type 0 where
   pub due : Option ℕ
 
 -- the connections that a slab has, by their keys
-abbrev pub seen : {S H : Type 0} → (S → State H) → Slab (Guest S) → ℕ → Option (Served H)
+abbrev pub seen : {S H : Type 0} → (S → State H) → Slab (HostedConnection S) → ℕ → Option (Served H)
 seen state guests key = option_map (served_of state) (get guests key)
 
 -- the connections of an event loop
@@ -50,8 +50,8 @@ abbrev pub connections_of : {S H : Type 0} → (S → State H) → SessionHost S
 connections_of state host = floor_of state host.event_loop
 
 -- the key of each connection that meets a limit of time by now is among these
-abbrev pub HasOverdue : {S H : Type 0} → HallKind H → (S → State H) → Slab (Guest S) → ℕ → List ℕ → Type 0
-HasOverdue {S = S} hall state guests now keys = (key : ℕ) (guest : Guest S) → get guests key ≡ Some guest → IsOverdue hall (state guest.session) now → Contains keys key
+abbrev pub HasOverdue : {S H : Type 0} → ObjectTableKind H → (S → State H) → Slab (HostedConnection S) → ℕ → List ℕ → Type 0
+HasOverdue {S = S} table state guests now keys = (key : ℕ) (hosted : HostedConnection S) → get guests key ≡ Some hosted → IsOverdue table (state hosted.session) now → Contains keys key
 
 -- the stream of the connection that waits for its objects, if one does, didn't fail
 abbrev pub IsFresh : Option PendingConnection → Type 0
@@ -67,7 +67,7 @@ abbrev pub number_of : ℕ → ℕ
 number_of key = key % 2 ^ 32
 
 -- how the session of a connection goes: the peer's Bootstrap gets object 0, the objects may call, and nobody else holds imports
-abbrev pub options_of : HostPlan → SessionOptions
+abbrev pub options_of : HostConfig → SessionOptions
 options_of plan = record {
   mode = plan.mode;
   messages = plan.messages;
@@ -116,20 +116,20 @@ module _ {H : Type 0} where
   QueuesEnd old one end new = new.ended ≡ old.ended ++ record { number = one.number; peer = one.peer; end = end } ∷ []
 
   -- News of an end is that of the first connection of whose end there was none: its number, its peer, and how it ended.
-  abbrev pub Tells : Floor H → Option News → Floor H → Type 0
+  abbrev pub Tells : Floor H → Option HostEvent → Floor H → Type 0
   Tells old (Some (all_news.Ended number peer end)) new =
       (new.served ≡ old.served) × (old.ended ≡ record { number = number; peer = peer; end = end } ∷ new.ended) × (new.budget ≡ old.budget) × (new.wakes ≡ old.wakes) × (new.due ≡ old.due)
   Tells old other new = new ≡ old
 
-module _ {H : Type 0} (hall : HallKind H) where
+module _ {H : Type 0} (table : ObjectTableKind H) where
   -- A connection's deadline: when it meets a limit of time, if no byte moves before, or an object of it is to be woken. This is no later than any of theirs.
   abbrev pub AwaitsEach : Option ℕ → (ℕ → Option (Served H)) → Type 0
-  AwaitsEach due served = (key deadline : ℕ) (one : Served H) → served key ≡ Some one → due_of hall one.session ≡ Some deadline → ComesBy deadline due
+  AwaitsEach due served = (key deadline : ℕ) (one : Served H) → served key ≡ Some one → due_of table one.session ≡ Some deadline → ComesBy deadline due
 
   -- this is the first of their deadlines, if there is one
   pub record IsFirst (due : Option ℕ) (served : ℕ → Option (Served H)) : Type 0 where
     pub each : AwaitsEach due served
-    pub is_one : (first : ℕ) → due ≡ Some first → (key : ℕ) × (one : Served H) × (served key ≡ Some one) × (due_of hall one.session ≡ Some first)
+    pub is_one : (first : ℕ) → due ≡ Some first → (key : ℕ) × (one : Served H) × (served key ≡ Some one) × (due_of table one.session ≡ Some first)
 
   -- a connection more is served, and nothing was done with any other
   pub record Begins (old : Floor H) (one : Served H) (new : Floor H) : Type 0 where
@@ -139,18 +139,18 @@ module _ {H : Type 0} (hall : HallKind H) where
     pub ended : new.ended ≡ old.ended
     pub budget : new.budget ≡ old.budget
     pub wakes : new.wakes ≡ old.wakes
-    pub due : new.due ≡ earlier old.due (due_of hall one.session)
+    pub due : new.due ≡ earlier old.due (due_of table one.session)
 
   -- The connection that waited for its objects, if one did, is served with them from now on. They know the number of their session.
-  abbrev pub Seats : HostPlan → Option PendingConnection → H → Floor H → Floor H → Type 0
+  abbrev pub Seats : HostConfig → Option PendingConnection → H → Floor H → Floor H → Type 0
   Seats plan None objects old new = new ≡ old
   Seats plan (Some pending) objects old new =
       (now : ℕ) × (seated : H) × (seat : Begins old (new_served pending (new_state (options_of plan) seated now)) new)
-      × hall.is_in (session_of pending.number seat.key) objects seated
+      × table.is_in (session_of pending.number seat.key) objects seated
 
   -- limits of time are looked at by the deadline of this connection
   abbrev pub Awaits : Floor H → Served H → Floor H → Type 0
-  Awaits old next new = new.due ≡ earlier old.due (due_of hall next.session)
+  Awaits old next new = new.due ≡ earlier old.due (due_of table next.session)
 
   -- One connection has a turn. It goes on; or it ended, is served no more, and news of that is to come, with its number and peer. Whom its objects want to be woken
   -- is to be, in order. Or the first object that is to be woken is woken, in the session that its waker names; or that isn't served any more, and nothing was done;
@@ -158,13 +158,13 @@ module _ {H : Type 0} (hall : HallKind H) where
   -- looked at, and are when the first is met.
   pub data Turns (old new : Floor H) : Type 0 where
     rests : Rests old new → Turns old new
-    goes_on : (key now : ℕ) (one next : Served H) (woken : List Waker) → old.served key ≡ Some one → Stays hall (most_for old key) now one woken next
-        → Puts old.served key (Some next) new.served → new.ended ≡ old.ended → Notes old key (kept_by hall next) new → new.wakes ≡ old.wakes ++ woken
+    goes_on : (key now : ℕ) (one next : Served H) (woken : List Waker) → old.served key ≡ Some one → Stays table (most_for old key) now one woken next
+        → Puts old.served key (Some next) new.served → new.ended ≡ old.ended → Notes old key (kept_by table next) new → new.wakes ≡ old.wakes ++ woken
         → Awaits old next new → Turns old new
-    ends : (key now : ℕ) (one : Served H) (woken : List Waker) (end : End) → old.served key ≡ Some one → EndsBy hall (most_for old key) now one woken end
+    ends : (key now : ℕ) (one : Served H) (woken : List Waker) (end : End) → old.served key ≡ Some one → EndsBy table (most_for old key) now one woken end
         → Puts old.served key None new.served → QueuesEnd old one end new → Forgets old key new → new.wakes ≡ old.wakes ++ woken
         → new.due ≡ old.due → Turns old new
-    wakes : (waker : Waker) (one next : Served H) → old.wakes ≡ waker ∷ new.wakes → IsServed old waker one → Rouses hall waker.object one next
+    wakes : (waker : Waker) (one next : Served H) → old.wakes ≡ waker ∷ new.wakes → IsServed old waker one → Rouses table waker.object one next
         → Puts old.served (key_of waker.session) (Some next) new.served → new.ended ≡ old.ended → new.budget ≡ old.budget → Awaits old next new → Turns old new
     wakes_none : (waker : Waker) → old.wakes ≡ waker ∷ new.wakes → ((one : Served H) → IsServed old waker one → ⊥)
         → ((key : ℕ) → new.served key ≡ old.served key) → new.ended ≡ old.ended → new.budget ≡ old.budget → new.due ≡ old.due → Turns old new
@@ -180,18 +180,18 @@ module _ {H : Type 0} (hall : HallKind H) where
     turns : {mid new : Floor H} → Rounds first mid → Turns mid new → Rounds first new
 
   -- turns, and then news
-  abbrev pub Reports : Floor H → Option News → Floor H → Type 0
+  abbrev pub Reports : Floor H → Option HostEvent → Floor H → Type 0
   Reports old news new = (mid : Floor H) × Rounds old mid × Tells mid news new
 
   -- what is so once a host looked for news
   abbrev pub LooksOn : Floor H → Look → Floor H → Type 0
   LooksOn old looks.Nothing new = Rounds old new
-  LooksOn old (looks.News news) new = Reports old (Some news) new
+  LooksOn old (looks.HostEvent news) new = Reports old (Some news) new
   LooksOn old looks.Over new = Reports old None new
 
   -- Whatever turns and news there are: where no more is kept for all than their shares and the pool, it stays so.
   abbrev pub ReportsWithin : Type 0
-  ReportsWithin = (old new : Floor H) (news : Option News) → Reports old news new → IsWithin old.budget → IsWithin new.budget
+  ReportsWithin = (old new : Floor H) (news : Option HostEvent) → Reports old news new → IsWithin old.budget → IsWithin new.budget
 
   -- limits of time are looked at by the deadline of each connection
   abbrev pub AwaitsAll : Floor H → Type 0
@@ -199,7 +199,7 @@ module _ {H : Type 0} (hall : HallKind H) where
 
   -- Whatever turns and news there are, and whatever connections begin: it stays so that limits of time are looked at by the deadline of each.
   abbrev pub ReportsAwaited : Type 0
-  ReportsAwaited = (old new : Floor H) (news : Option News) → Reports old news new → AwaitsAll old → AwaitsAll new
+  ReportsAwaited = (old new : Floor H) (news : Option HostEvent) → Reports old news new → AwaitsAll old → AwaitsAll new
 
   abbrev pub BeginsAwaited : Type 0
   BeginsAwaited = (old new : Floor H) (one : Served H) → Begins old one new → AwaitsAll old → AwaitsAll new

@@ -4,6 +4,6 @@ pub mod RosterOf
 pub mod Timing
 pub mod Feeding
 pub mod Waking
-pub mod Guests
+pub mod HostedConnections
 pub mod Floor
 pub mod Once

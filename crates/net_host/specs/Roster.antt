@@ -3,17 +3,17 @@ use Rattle.std.specs.Prelude.{◌≡◌, ◌⊎◌, ℕ, ◌+◌, ◌≤◌, Opt
 use Rattle.net_host.specs.Limits.{HasRoom}
 use Rattle.net_host.specs.Timing.{ComesBy}
 use Rattle.net_sockets.specs.Incoming.{most}
-use Rattle.net_host.specs.declared.host.News.{News}
-use Rattle.net_host.specs.declared.host.News.TheVariants as all_news
+use Rattle.net_host.specs.declared.host.HostEvent.{HostEvent}
+use Rattle.net_host.specs.declared.host.HostEvent.TheVariants as all_news
 use Rattle.net_host.specs.declared.host.Look.{Look}
 use Rattle.net_host.specs.declared.host.Look.TheVariants as looks
-use Rattle.net_host.specs.declared.limits.Crowd.TheVariants as crowds
-use Rattle.net_host.specs.declared.plan.HostPlan.{HostPlan}
+use Rattle.net_host.specs.declared.limits.WhenFull.TheVariants as crowds
+use Rattle.net_host.specs.declared.config.HostConfig.{HostConfig}
 
 -- The plan, how many are to come, how many came, how many are served, and the number of the one that waits for its objects. Then the time that the program named,
 -- if it is still to be told of it.
 pub record Roster : Type 0 where
-  pub plan : HostPlan
+  pub plan : HostConfig
   pub count : ℕ
   pub came : ℕ
   pub served : ℕ
@@ -21,7 +21,7 @@ pub record Roster : Type 0 where
   pub alarm : Option ℕ
 
 -- no connection came
-abbrev pub begun : HostPlan → Roster
+abbrev pub begun : HostConfig → Roster
 begun plan = record { plan = plan; count = most plan.count; came = 0; served = 0; awaits = None; alarm = None }
 
 -- None came, and none waits for its objects. No more are served.
@@ -43,26 +43,26 @@ IsCrowded r = HasRoom r.plan.limits r.served → ⊥
 
 -- one more may be served, or is to be refused
 abbrev pub IsOpen : Roster → Type 0
-IsOpen r = HasRoom r.plan.limits r.served ⊎ (r.plan.limits.crowd ≡ crowds.Refuse)
+IsOpen r = HasRoom r.plan.limits r.served ⊎ (r.plan.limits.when_full ≡ crowds.Refuse)
 
 -- no more may be served, and one more is to be refused
 abbrev pub Refuses : Roster → Type 0
-Refuses r = IsCrowded r × (r.plan.limits.crowd ≡ crowds.Refuse)
+Refuses r = IsCrowded r × (r.plan.limits.when_full ≡ crowds.Refuse)
 
 -- all that were to come have come and ended
 abbrev pub IsOver : Roster → Type 0
 IsOver r = (r.served ≡ 0) × (r.count ≤ r.came)
 
 -- what is so once a host gave this news, or none
-abbrev pub Hears : Roster → Option News → Roster → Type 0
-Hears old (Some (all_news.Came number peer)) new = Comes old number new
+abbrev pub Hears : Roster → Option HostEvent → Roster → Type 0
+Hears old (Some (all_news.Connected number peer)) new = Comes old number new
 Hears old (Some (all_news.Refused peer)) new = GoesOn old new × Refuses new
 Hears old (Some (all_news.Ended number peer end)) new = GoesOn old new
 Hears old (Some all_news.Woken) new = GoesOn (record old { alarm = None }) new
 Hears old None new = GoesOn old new × IsOver new
 
 -- News that the time has come that the program named is given once it has, by now. Where it had come by the time at first, no other is given but of an end.
-abbrev pub IsOnTime : Option ℕ → ℕ → ℕ → Option News → Type 0
+abbrev pub IsOnTime : Option ℕ → ℕ → ℕ → Option HostEvent → Type 0
 IsOnTime alarm first now (Some all_news.Woken) = ComesBy now alarm
 IsOnTime alarm first now (Some (all_news.Ended number peer end)) = Unit {0}
 IsOnTime alarm first now other = ComesBy first alarm → ⊥
@@ -77,9 +77,9 @@ abbrev pub Admits : Roster → Roster → Type 0
 Admits old new = new ≡ record old { served = with_awaited old.awaits old.served; awaits = None }
 
 -- what is so once the listener was asked for the next connection
-abbrev pub Accepts : Roster → Option News → Roster → Type 0
+abbrev pub Accepts : Roster → Option HostEvent → Roster → Type 0
 Accepts old None new = new ≡ old
-Accepts old (Some (all_news.Came number peer)) new =
+Accepts old (Some (all_news.Connected number peer)) new =
     (number ≡ old.came + 1) × (new ≡ record old { came = number; awaits = Some number }) × HasRoom old.plan.limits old.served
 Accepts old (Some (all_news.Refused peer)) new = (new ≡ old) × Refuses old
 Accepts old (Some (all_news.Ended number peer end)) new = ⊥
@@ -92,10 +92,10 @@ Rounds old new = (new ≡ record old { served = new.served }) × (new.served ≤
 -- what is so once a host looked for news
 abbrev pub Looks : Roster → Look → Roster → Type 0
 Looks old looks.Nothing new = GoesOn old new
-Looks old (looks.News news) new = Hears old (Some news) new
+Looks old (looks.HostEvent news) new = Hears old (Some news) new
 Looks old looks.Over new = Hears old None new
 
 abbrev pub LooksOnTime : Option ℕ → ℕ → ℕ → Look → Type 0
 LooksOnTime alarm first now looks.Nothing = ComesBy first alarm → ⊥
-LooksOnTime alarm first now (looks.News news) = IsOnTime alarm first now (Some news)
+LooksOnTime alarm first now (looks.HostEvent news) = IsOnTime alarm first now (Some news)
 LooksOnTime alarm first now looks.Over = IsOnTime alarm first now None

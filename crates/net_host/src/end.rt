@@ -1,7 +1,7 @@
 //! How a connection ended.
 
 ghost use Rattle.std.specs.Prelude.{◌≡◌};
-ghost use Rattle.net_host.specs.Guests.{end_of};
+ghost use Rattle.net_host.specs.HostedConnections.{end_of};
 
 use cp_connection::ConnectionFault;
 use cp_session::{Limit, SessionEvent};

@@ -10,14 +10,14 @@ ghost use Rattle.net_host.specs.Timing.{IsDue, until};
 ghost use Rattle.net_host.specs.Floor.{HasOverdue, IsFirst, Rests, Rounds, Seats, Turns, floor_of, nobody, number_of, seen, waking};
 
 use crate::allowance::Allowance;
+use crate::config::HostConfig;
 use crate::end::Ended;
-use crate::guest::{Guest, Turn, session_number};
+use crate::hosted_connection::{HostedConnection, Turn, session_number};
 use crate::hosted_session::HostedSession;
 use crate::limits::HostLimits;
 use crate::pending::PendingConnection;
-use crate::plan::HostPlan;
 use crate::time::{Time, earlier};
-use cp_makers::Waker;
+use cp_objects::Waker;
 use cp_session::Budget;
 use mio::event::Event;
 use mio::{Events, Poll, Token};
@@ -48,7 +48,7 @@ pub(crate) struct EventLoop<S> {
     alloc: Global,
     poll: Poll,
     events: Events,
-    guests: Slab<Guest<S>>,
+    guests: Slab<HostedConnection<S>>,
     /// What is kept for each, by the numbers of their keys.
     budget: Budget,
     /// The keys of those that can go on at once.
@@ -151,13 +151,13 @@ impl<S: HostedSession> EventLoop<S> {
     /// Serves a connection with these objects.
     pub(crate) fn admit(
         &mut self,
-        plan: &HostPlan,
+        plan: &HostConfig,
         mut pending: PendingConnection,
         objects: S::Objects,
     ) -> io::Result<()>
         ensures served { OnOk result (slab_len self.new.guests ≡ slab_len self.old.guests + 1) }
         ensures lost { OnErr result (slab_len self.new.guests ≡ slab_len self.old.guests) }
-        ensures seats { OnOk result (Seats S.hall plan.now (Some pending) objects (floor_of S.state self.old) (floor_of S.state self.new)) }
+        ensures seats { OnOk result (Seats S.table plan.now (Some pending) objects (floor_of S.state self.old) (floor_of S.state self.new)) }
         ensures unseated { OnErr result (Rests (floor_of S.state self.old) (floor_of S.state self.new)) }
     {
         match self.make_room(&mut pending.stream) {
@@ -165,9 +165,9 @@ impl<S: HostedSession> EventLoop<S> {
                 let number = session_number(pending.number, key);
                 let now = self.time.now();
                 let session = S::begin(self.alloc, &plan.session(), number, objects, now);
-                let guest = Guest::new(self.alloc, pending, session);
-                self.time.expect(guest.deadline());
-                let _ = self.guests.insert_reserved(guest);
+                let hosted = HostedConnection::new(self.alloc, pending, session);
+                self.time.expect(hosted.deadline());
+                let _ = self.guests.insert_reserved(hosted);
                 Ok(())
             }
             Err(error) => {
@@ -178,7 +178,7 @@ impl<S: HostedSession> EventLoop<S> {
         }
     }
 
-    /// Has a stream reported, makes room for its connection, and says under which key. After this nothing fails, so a guest that is
+    /// Has a stream reported, makes room for its connection, and says under which key. After this nothing fails, so a connection that is
     /// made is served.
     fn make_room(&mut self, stream: &mut NonblockingStream) -> io::Result<usize>
         ensures room { OnOk result (HasRoomFor self.new.guests 1) }
@@ -218,7 +218,7 @@ impl<S: HostedSession> EventLoop<S> {
     /// Gives each connection that can go on a turn.
     pub(crate) fn round(&mut self, limits: &HostLimits) -> io::Result<()>
         ensures len { slab_len self.new.guests ≤ slab_len self.old.guests }
-        ensures turns { Rounds S.hall (floor_of S.state self.old) (floor_of S.state self.new) }
+        ensures turns { Rounds S.table (floor_of S.state self.old) (floor_of S.state self.new) }
     {
         // One piece or one round of polls each, so that a fast peer delays the others by a piece.
         for _ in 0..self.queue.len() {
@@ -231,14 +231,14 @@ impl<S: HostedSession> EventLoop<S> {
     /// Gives the first connection in the queue a turn. Where this fails, none had one.
     fn turn(&mut self, limits: &HostLimits) -> io::Result<()>
         ensures len { slab_len self.new.guests ≤ slab_len self.old.guests }
-        ensures turns { Turns S.hall (floor_of S.state self.old) (floor_of S.state self.new) }
+        ensures turns { Turns S.table (floor_of S.state self.old) (floor_of S.state self.new) }
     {
         // Nothing fails once a connection had its turn: so its end is reported.
         self.ended.reserve(1)?;
         let Some(key) = self.queue.pop_front() else {
             return Ok(());
         };
-        let Some(guest) = self.guests.get_mut(key) else {
+        let Some(hosted) = self.guests.get_mut(key) else {
             return Ok(());
         };
         let account = number_of(key);
@@ -248,18 +248,18 @@ impl<S: HostedSession> EventLoop<S> {
             account,
             now: self.time.now(),
         };
-        match guest.turn(&mut self.piece, &mut self.budget, &mut self.wakes, allowed) {
+        match hosted.turn(&mut self.piece, &mut self.budget, &mut self.wakes, allowed) {
             Turn::More => {
-                self.time.expect(guest.deadline());
+                self.time.expect(hosted.deadline());
                 self.queue.push_back_reserved(key);
                 Ok(())
             }
             Turn::Waits => {
-                self.time.expect(guest.deadline());
+                self.time.expect(hosted.deadline());
                 Ok(())
             }
             Turn::Over(end) => {
-                let ended = guest.ended(end);
+                let ended = hosted.ended(end);
                 self.close(key, ended);
                 Ok(())
             }
@@ -269,7 +269,7 @@ impl<S: HostedSession> EventLoop<S> {
     /// Wakes the objects that are to be.
     fn wake_each(&mut self) -> io::Result<()>
         ensures len { slab_len self.new.guests ≤ slab_len self.old.guests }
-        ensures turns { Rounds S.hall (floor_of S.state self.old) (floor_of S.state self.new) }
+        ensures turns { Rounds S.table (floor_of S.state self.old) (floor_of S.state self.new) }
     {
         for _ in 0..self.wakes.len() {
             self.wake_next()?;
@@ -280,7 +280,7 @@ impl<S: HostedSession> EventLoop<S> {
     /// Wakes the first object that is to be, so that its connection has a turn. Where that isn't served any more, nothing is done.
     fn wake_next(&mut self) -> io::Result<()>
         ensures len { slab_len self.new.guests ≤ slab_len self.old.guests }
-        ensures turns { Turns S.hall (floor_of S.state self.old) (floor_of S.state self.new) }
+        ensures turns { Turns S.table (floor_of S.state self.old) (floor_of S.state self.new) }
     {
         // Nothing fails once the first was taken out: so none is lost.
         self.ended.reserve(1)?;
@@ -294,28 +294,28 @@ impl<S: HostedSession> EventLoop<S> {
         requires ends { deque_len self.old.ended < deque_capacity self.old.ended }
         requires enters { deque_len self.old.queue < deque_capacity self.old.queue }
         ensures len { slab_len self.new.guests ≤ slab_len self.old.guests }
-        ensures turns { Turns S.hall (floor_of S.state self.old) (floor_of S.state self.new) }
+        ensures turns { Turns S.table (floor_of S.state self.old) (floor_of S.state self.new) }
     {
         let Some(waker) = self.wakes.pop_front() else {
             return;
         };
         let key = key_of(waker.session);
-        let Some(guest) = self.guests.get_mut(key) else {
+        let Some(hosted) = self.guests.get_mut(key) else {
             return;
         };
-        if guest.session(key) != waker.session {
+        if hosted.session(key) != waker.session {
             return;
         }
-        match guest.wake(waker.object) {
+        match hosted.wake(waker.object) {
             Ok(enters) => {
-                self.time.expect(guest.deadline());
+                self.time.expect(hosted.deadline());
                 if enters {
                     self.queue.push_back_reserved(key);
                 }
             }
             Err(_) => {
-                let end = guest.run_out();
-                let ended = guest.ended(end);
+                let end = hosted.run_out();
+                let ended = hosted.ended(end);
                 self.budget.forget(number_of(key));
                 self.close(key, ended);
             }
@@ -340,8 +340,8 @@ impl<S: HostedSession> EventLoop<S> {
     /// Gives those that meet a limit of time a turn, which closes them, and those whose objects are to be woken.
     fn sweep(&mut self) -> io::Result<()>
         ensures guests { self.new.guests ≡ self.old.guests }
-        ensures turns { Turns S.hall (floor_of S.state self.old) (floor_of S.state self.new) }
-        ensures swept { OnOk result (IsDue self.old.time → HasOverdue S.hall S.state self.new.guests self.old.time.at self.new.queue.items) }
+        ensures turns { Turns S.table (floor_of S.state self.old) (floor_of S.state self.new) }
+        ensures swept { OnOk result (IsDue self.old.time → HasOverdue S.table S.state self.new.guests self.old.time.at self.new.queue.items) }
     {
         if !self.time.is_due() {
             return Ok(());
@@ -354,18 +354,18 @@ impl<S: HostedSession> EventLoop<S> {
 
 /// Puts those into the queue that meet a limit of time, and says when the first one is met.
 fn queue_overdue<S: HostedSession>(
-    guests: &Slab<Guest<S>>,
+    guests: &Slab<HostedConnection<S>>,
     now: u64,
     queue: &mut VecDeque<usize>,
 ) -> io::Result<Option<u64>>
-    ensures queued { OnOk result (HasOverdue S.hall S.state guests.now now queue.new.items) }
-    ensures first { IfOk result (λ first. IsFirst S.hall first (seen S.state guests.now)) }
+    ensures queued { OnOk result (HasOverdue S.table S.state guests.now now queue.new.items) }
+    ensures first { IfOk result (λ first. IsFirst S.table first (seen S.state guests.now)) }
 {
     let mut first = None;
     for entry in guests {
-        let (key, guest) = entry;
-        first = earlier(first, guest.deadline());
-        if guest.is_overdue(now) {
+        let (key, hosted) = entry;
+        first = earlier(first, hosted.deadline());
+        if hosted.is_overdue(now) {
             queue.push_back(key)?;
         }
     }
@@ -390,7 +390,7 @@ fn key_of(session: u64) -> usize
 /// Notes what events say of connections, and puts those into the queue that weren't in it. Says whether the listener had an event.
 fn note_events<S: HostedSession>(
     events: &Events,
-    guests: &mut Slab<Guest<S>>,
+    guests: &mut Slab<HostedConnection<S>>,
     queue: &mut VecDeque<usize>,
 ) -> io::Result<bool>
     ensures len { slab_len guests.new ≡ slab_len guests.old }
@@ -407,7 +407,7 @@ fn note_events<S: HostedSession>(
 /// Notes what an event says. Says whether it is one of the listener.
 fn note_event<S: HostedSession>(
     event: &Event,
-    guests: &mut Slab<Guest<S>>,
+    guests: &mut Slab<HostedConnection<S>>,
     queue: &mut VecDeque<usize>,
 ) -> io::Result<bool>
     ensures len { slab_len guests.new ≡ slab_len guests.old }
@@ -417,10 +417,10 @@ fn note_event<S: HostedSession>(
     if token == LISTENER {
         return Ok(true);
     }
-    let Some(guest) = guests.get_mut(token.0) else {
+    let Some(hosted) = guests.get_mut(token.0) else {
         return Ok(false);
     };
-    let enters = guest.mark(event);
+    let enters = hosted.mark(event);
     if enters {
         queue.push_back(token.0)?;
     }

@@ -1,7 +1,7 @@
 //! A host.
 
 ghost use Rattle.std.specs.Prelude.{◌≡◌, ◌<◌, ◌↔◌, Some, None, IsTrue, IfOk, OnOk, OnErr};
-ghost use Rattle.cp_makers.specs.Here.{time_after};
+ghost use Rattle.cp_objects.specs.Context.{time_after};
 ghost use Rattle.net_sockets.specs.Incoming.{came_of, count_of};
 ghost use Rattle.net_host.specs.Floor as floor;
 ghost use Rattle.net_host.specs.Floor.{IsFresh, LooksOn, Reports, Rests, Seats, connections_of, nobody, waking};
@@ -9,16 +9,16 @@ ghost use Rattle.net_host.specs.Limits.{HasRoom};
 ghost use Rattle.net_host.specs.Roster.{begun, Accepts, Admits, GoesOn, Hears, IsOnTime, IsOpen, IsOver, Looks, LooksOnTime, Rounds};
 ghost use Rattle.net_host.specs.RosterOf.{now_of, roster};
 ghost use Rattle.net_host.specs.Timing.{IsNoLonger, until};
-ghost use Rattle.net_host.specs.declared.host.News.TheVariants as all_news;
+ghost use Rattle.net_host.specs.declared.host.HostEvent.TheVariants as all_news;
 
+use crate::config::HostConfig;
 use crate::end::{End, Ended};
 use crate::event_loop::EventLoop;
 use crate::hosted_session::HostedSession;
-use crate::limits::Crowd;
+use crate::limits::WhenFull;
 use crate::pending::PendingConnection;
-use crate::plan::HostPlan;
 use crate::time::{earlier, has_come};
-use cp_makers::Waker;
+use cp_objects::Waker;
 use cp_session::Session;
 use net_sockets::{Incoming, Listener, Peer};
 use std::alloc::AllocGlobal;
@@ -31,10 +31,10 @@ const AGAIN: u64 = 100;
 
 /// What a host tells its program.
 #[derive(Drop)]
-pub enum News {
+pub enum HostEvent {
     /// One came: give it its objects by `admit`, or it is closed. Numbers go up from 1.
     /// The application makes them, so it can look at the peer first.
-    Came { number: u64, peer: Peer },
+    Connected { number: u64, peer: Peer },
     /// One came and was closed, as there were as many as the host allows.
     Refused { peer: Peer },
     /// One ended, and its objects were dropped.
@@ -48,7 +48,7 @@ pub enum News {
 enum Look {
     /// There is none yet.
     Nothing,
-    News(News),
+    HostEvent(HostEvent),
     /// All that were to come have come and ended.
     Over,
 }
@@ -59,21 +59,21 @@ enum Look {
 ///
 /// 1. `new` takes a listener.
 /// 2. Call `next` until it gives none. It serves the connections until there is news, and gives that.
-/// 3. At `Came` make the connection's objects, and give them to `admit`: the one at place 0 is what a Bootstrap gets.
+/// 3. At `Connected` make the connection's objects, and give them to `admit`: the one at place 0 is what a Bootstrap gets.
 /// 4. Meanwhile have objects woken by `wake`, and name by `wake_after` when `next` is to give `Woken`.
 /// 5. Drop it: the connections that are left are closed, and the listener.
 ///
 /// # State of objects
 ///
-/// `H` is a list of objects that make none, of one type such as an enum; or a `Family` of objects that may make others. Those of one
+/// `H` is a list of objects that make none, of one type such as an enum; or `Objects` of objects that may make others. Those of one
 /// connection are called by that one alone. What all share is a value that they hold together, as by an `Rc`: all calls are made in one
 /// thread, one after another. An object that is to know its connection is made with its number.
 /// Nothing is lent to a call beside its params, since boxed objects can hold no borrow.
 ///
-/// An object of a `Family`, or the program (`wake`), may have one of another connection woken, of which it has a `Waker` by what they
+/// An object of `Objects`, or the program (`wake`), may have one of another connection woken, of which it has a `Waker` by what they
 /// share. Then that one is polled, and its connection has a turn, so that it can call its peer. If that connection ended, nothing is done.
 ///
-/// They may call what they were given (`Servant::ask`), and are told what that came to. Nobody else uses a connection's imports: each is released once no
+/// They may call what they were given (`Servant::next_call`), and are told what that came to. Nobody else uses a connection's imports: each is released once no
 /// object holds it, nor anything of the vat, also one that came with a call which reached no object.
 ///
 /// # What each connection gets
@@ -98,7 +98,7 @@ pub type Host<H> = SessionHost<Session<H>>;
 
 /// A `Host` whose connections are sessions of this type.
 pub struct SessionHost<S> {
-    plan: HostPlan,
+    plan: HostConfig,
     incoming: Incoming,
     pending: Option<PendingConnection>,
     event_loop: EventLoop<S>,
@@ -122,7 +122,7 @@ impl<S: HostedSession> SessionHost<S> {
     /// A host to which no connection has come.
     pub fn new<N: Net + Clock + AllocGlobal>(
         rt: &N,
-        plan: HostPlan,
+        plan: HostConfig,
         listener: Listener,
     ) -> io::Result<SessionHost<S>>
         ensures begun { IfOk result (λ host. roster host ≡ begun plan) }
@@ -142,20 +142,20 @@ impl<S: HostedSession> SessionHost<S> {
     /// Serves the connections until there is news. `None`: all that were to come have come and ended, whether or not a time was named.
     ///
     /// A connection that came last, and got no objects, is closed.
-    pub fn next<N: Net + Clock>(&mut self, rt: &N) -> io::Result<Option<News>>
+    pub fn next<N: Net + Clock>(&mut self, rt: &N) -> io::Result<Option<HostEvent>>
         ensures hears { IfOk result (λ news. Hears (roster self.old) news (roster self.new)) }
         ensures on_time { IfOk result (λ news. IsOnTime (roster self.old).alarm (now_of self.old) (now_of self.new) news) }
         ensures fresh { OnOk result (IsFresh self.new.pending) }
         ensures unheard { OnErr result (GoesOn (roster self.old) (roster self.new)) }
-        ensures reports { IfOk result (λ news. Reports S.hall (connections_of S.state self.old) news (connections_of S.state self.new)) }
-        ensures unreported { OnErr result (floor.Rounds S.hall (connections_of S.state self.old) (connections_of S.state self.new)) }
+        ensures reports { IfOk result (λ news. Reports S.table (connections_of S.state self.old) news (connections_of S.state self.new)) }
+        ensures unreported { OnErr result (floor.Rounds S.table (connections_of S.state self.old) (connections_of S.state self.new)) }
     {
         // A connection that got no objects is closed by this.
         self.pending = None;
         for _ in 0..u64::MAX {
             match self.look(rt)? {
                 Look::Nothing => (),
-                Look::News(news) => return Ok(Some(news)),
+                Look::HostEvent(news) => return Ok(Some(news)),
                 Look::Over => return Ok(None),
             }
         }
@@ -166,7 +166,7 @@ impl<S: HostedSession> SessionHost<S> {
     pub fn admit(&mut self, objects: S::Objects) -> io::Result<()>
         ensures admits { OnOk result (Admits (roster self.old) (roster self.new)) }
         ensures lost { OnErr result (roster self.new ≡ record (roster self.old) { awaits = None }) }
-        ensures seats { OnOk result (Seats S.hall self.old.plan self.old.pending objects (connections_of S.state self.old) (connections_of S.state self.new)) }
+        ensures seats { OnOk result (Seats S.table self.old.plan self.old.pending objects (connections_of S.state self.old) (connections_of S.state self.new)) }
         ensures unseated { OnErr result (Rests (connections_of S.state self.old) (connections_of S.state self.new)) }
     {
         match self.pending.take() {
@@ -175,7 +175,7 @@ impl<S: HostedSession> SessionHost<S> {
         }
     }
 
-    /// Has an object woken, as another object would (`Here::wake`): it is polled, and its connection has a turn. Nothing is done where the
+    /// Has an object woken, as another object would (`Context::wake`): it is polled, and its connection has a turn. Nothing is done where the
     /// object is gone, or its connection.
     pub fn wake(&mut self, waker: Waker) -> io::Result<()>
         ensures woken { OnOk result (connections_of S.state self.new ≡ waking (connections_of S.state self.old) waker) }
@@ -186,7 +186,7 @@ impl<S: HostedSession> SessionHost<S> {
         self.event_loop.wake(waker)
     }
 
-    /// Has `next` give `News::Woken` after this many milliseconds, in place of any time that was named before. With 0 it is given before
+    /// Has `next` give `HostEvent::Woken` after this many milliseconds, in place of any time that was named before. With 0 it is given before
     /// connections have turns.
     pub fn wake_after<N: Clock>(&mut self, rt: &N, milliseconds: u64) -> io::Result<()>
         ensures named { OnOk result (roster self.new ≡ record (roster self.old) { alarm = Some (time_after (now_of self.new) milliseconds) }) }
@@ -207,19 +207,19 @@ impl<S: HostedSession> SessionHost<S> {
         ensures on_time { IfOk result (λ it. LooksOnTime (roster self.old).alarm (now_of self.old) (now_of self.new) it) }
         ensures fresh { OnOk result (IsFresh self.new.pending) }
         ensures unheard { OnErr result (GoesOn (roster self.old) (roster self.new)) }
-        ensures reports { IfOk result (λ it. LooksOn S.hall (connections_of S.state self.old) it (connections_of S.state self.new)) }
-        ensures unreported { OnErr result (floor.Rounds S.hall (connections_of S.state self.old) (connections_of S.state self.new)) }
+        ensures reports { IfOk result (λ it. LooksOn S.table (connections_of S.state self.old) it (connections_of S.state self.new)) }
+        ensures unreported { OnErr result (floor.Rounds S.table (connections_of S.state self.old) (connections_of S.state self.new)) }
     {
         if let Some(ended) = self.event_loop.next_end() {
-            return Ok(Look::News(News::ended(ended)));
+            return Ok(Look::HostEvent(HostEvent::ended(ended)));
         }
         if has_come(self.alarm, self.event_loop.now()) {
             self.alarm = None;
-            return Ok(Look::News(News::Woken));
+            return Ok(Look::HostEvent(HostEvent::Woken));
         }
         if self.can_accept() {
             return match self.accept() {
-                Some(news) => Ok(Look::News(news)),
+                Some(news) => Ok(Look::HostEvent(news)),
                 None => Ok(Look::Nothing),
             };
         }
@@ -235,7 +235,8 @@ impl<S: HostedSession> SessionHost<S> {
         ensures wanted { IsTrue result → came_of self.now.incoming < count_of self.now.incoming }
         ensures open { IsTrue result → IsOpen (roster self.now) }
     {
-        self.incoming.may_accept() && (self.has_room() || self.plan.limits.crowd == Crowd::Refuse)
+        self.incoming.may_accept()
+            && (self.has_room() || self.plan.limits.when_full == WhenFull::Refuse)
     }
 
     /// Whether one more connection may be served.
@@ -253,7 +254,7 @@ impl<S: HostedSession> SessionHost<S> {
     }
 
     /// Takes the next connection that waits, if one does, or closes it where there are as many as are allowed.
-    fn accept(&mut self) -> Option<News>
+    fn accept(&mut self) -> Option<HostEvent>
         requires wanted { came_of self.old.incoming < count_of self.old.incoming }
         requires open { IsOpen (roster self.old) }
         ensures accepts { Accepts (roster self.old) result (roster self.new) }
@@ -264,7 +265,7 @@ impl<S: HostedSession> SessionHost<S> {
         if !self.has_room() {
             // This closes it.
             drop(stream);
-            return Some(News::Refused { peer });
+            return Some(HostEvent::Refused { peer });
         }
         let number = self.incoming.admit();
         self.pending = Some(PendingConnection {
@@ -272,13 +273,13 @@ impl<S: HostedSession> SessionHost<S> {
             peer,
             stream,
         });
-        Some(News::Came { number, peer })
+        Some(HostEvent::Connected { number, peer })
     }
 
     /// Waits for events, and gives each connection that can go on a turn.
     fn round<N: Net + Clock>(&mut self, rt: &N) -> io::Result<()>
         ensures rounds { Rounds (roster self.old) (roster self.new) }
-        ensures turns { floor.Rounds S.hall (connections_of S.state self.old) (connections_of S.state self.new) }
+        ensures turns { floor.Rounds S.table (connections_of S.state self.old) (connections_of S.state self.new) }
     {
         let wait = self.wait();
         let has_event = self.event_loop.wait(rt, wait.map(Duration::from_millis))?;
@@ -303,12 +304,12 @@ impl<S: HostedSession> SessionHost<S> {
     }
 }
 
-impl News {
+impl HostEvent {
     /// The news of a connection that ended.
-    fn ended(ended: Ended) -> News
+    fn ended(ended: Ended) -> HostEvent
         ensures { result ≡ all_news.Ended ended.number ended.peer ended.end }
     {
-        News::Ended {
+        HostEvent::Ended {
             number: ended.number,
             peer: ended.peer,
             end: ended.end,

@@ -1,7 +1,7 @@
 //! A session, as a host drives it.
 
 ghost use Rattle.std.specs.Prelude.{◌≡◌, ◌↔◌, ◌≤◌, ◌⊎◌, true, false, IsTrue, IfOk, IfErr, OnOk, OnErr, length};
-ghost use Rattle.cp_makers.specs.Hall.{HallKind};
+ghost use Rattle.cp_objects.specs.ObjectTable.{ObjectTableKind};
 ghost use Rattle.cp_session.specs.Doing.{EndsBytes, EndsCut, HandsOn, HasMore, HasNone, IsRefused, IsUntaken, KeepsRest, MayTake, PollsOn, Receives, RunsOut, Tells, Ticks, Wakes, Writes, due_of};
 ghost use Rattle.cp_session.specs.Kept.{kept_of};
 ghost use Rattle.cp_session.specs.Progress.{IsDraining};
@@ -9,7 +9,7 @@ ghost use Rattle.cp_session.specs.State.{State, link_of, new_state, state_of};
 ghost use Rattle.cp_session.specs.declared.progress.Phase.TheVariants as phases;
 
 use cp_connection::ConnectionFault;
-use cp_makers::{Hall, Waker};
+use cp_objects::{ObjectTable, Waker};
 use cp_session::{Session, SessionEvent, SessionOptions};
 use std::alloc::{AllocError, Global};
 
@@ -20,7 +20,7 @@ pub trait HostedSession: Drop {
     type Objects: Drop;
 
     /// What its calls do to its objects.
-    ghost hall: { HallKind Self.Objects };
+    ghost table: { ObjectTableKind Self.Objects };
 
     /// What its contracts say of it.
     ghost state: { Self → State Self.Objects };
@@ -33,39 +33,39 @@ pub trait HostedSession: Drop {
         objects: Self::Objects,
         now: u64,
     ) -> Self
-        ensures { (seated : Self.Objects) × hall.is_in number objects seated × (state result ≡ new_state options.now seated now) };
+        ensures { (seated : Self.Objects) × table.is_in number objects seated × (state result ≡ new_state options.now seated now) };
 
     /// As `Session::receive`.
     fn receive(&mut self, piece: &[u8], now: u64) -> Result<usize, ConnectionFault>
-        ensures receives { IfOk result (λ count. Receives hall (state self.old) piece.now now count (state self.new)) }
+        ensures receives { IfOk result (λ count. Receives table (state self.old) piece.now now count (state self.new)) }
         ensures few { IfOk result (λ count. count ≤ length piece.now) }
-        ensures untaken { IfErr result (λ fault. IsUntaken hall (state self.old) piece.now now fault (state self.new)) };
+        ensures untaken { IfErr result (λ fault. IsUntaken table (state self.old) piece.now now fault (state self.new)) };
 
     /// As `Session::end`.
     fn end(&mut self, now: u64) -> Result<(), ConnectionFault>
-        ensures ends { OnOk result (EndsBytes hall (state self.old) now (state self.new)) }
-        ensures cut { IfErr result (λ fault. EndsCut hall (state self.old) now fault (state self.new)) };
+        ensures ends { OnOk result (EndsBytes table (state self.old) now (state self.new)) }
+        ensures cut { IfErr result (λ fault. EndsCut table (state self.old) now fault (state self.new)) };
 
     /// As `Session::poll`.
     fn poll(&mut self, now: u64) -> Result<(), AllocError>
-        ensures polls { OnOk result (PollsOn hall (state self.old) now (state self.new)) }
-        ensures runs_out { OnErr result (RunsOut hall (state self.old) now (state self.new)) };
+        ensures polls { OnOk result (PollsOn table (state self.old) now (state self.new)) }
+        ensures runs_out { OnErr result (RunsOut table (state self.old) now (state self.new)) };
 
     /// As `Session::tick`.
     fn tick(&mut self, now: u64)
-        ensures { Ticks hall (state self.old) now (state self.new) };
+        ensures { Ticks table (state self.old) now (state self.new) };
 
     /// As `Session::refuse`.
     fn refuse(&mut self, now: u64)
-        ensures { IsRefused hall (state self.old) now (state self.new) };
+        ensures { IsRefused table (state self.old) now (state self.new) };
 
     /// As `Session::kept`.
     fn kept(&self) -> u64
-        ensures { let it = state self.now in result ≡ kept_of it.service.work (hall.guests it.objects) };
+        ensures { let it = state self.now in result ≡ kept_of it.service.work (table.guests it.objects) };
 
     /// As `Session::deadline`.
     fn deadline(&self) -> Option<u64>
-        ensures { result ≡ due_of hall (state self.now) };
+        ensures { result ≡ due_of table (state self.now) };
 
     /// As `Session::outgoing`.
     fn outgoing(&self) -> &[u8]
@@ -73,7 +73,7 @@ pub trait HostedSession: Drop {
 
     /// As `Session::wrote`.
     fn wrote(&mut self, count: usize, now: u64)
-        ensures { Writes hall (state self.old) count now (state self.new) };
+        ensures { Writes table (state self.old) count now (state self.new) };
 
     /// As `Session::poll_event`.
     fn poll_event(&mut self) -> Option<SessionEvent>
@@ -85,8 +85,8 @@ pub trait HostedSession: Drop {
 
     /// As `Session::has_more`.
     fn has_more(&self) -> bool
-        ensures more { result ≡ true → HasMore hall (state self.now) }
-        ensures none { result ≡ false → HasNone hall (state self.now) };
+        ensures more { result ≡ true → HasMore table (state self.now) }
+        ensures none { result ≡ false → HasNone table (state self.now) };
 
     /// As `Session::is_draining`.
     fn is_draining(&self) -> bool
@@ -98,18 +98,18 @@ pub trait HostedSession: Drop {
 
     /// As `Session::wake`.
     fn wake(&mut self, object: u32) -> Result<(), AllocError>
-        ensures wakes { OnOk result (Wakes hall object (state self.old) (state self.new)) }
+        ensures wakes { OnOk result (Wakes table object (state self.old) (state self.new)) }
         ensures unwoken { OnErr result (KeepsRest (state self.old) (state self.new)) };
 
     /// As `Session::next_wake`.
     fn next_wake(&mut self) -> Option<Waker>
-        ensures { HandsOn hall result (state self.old) (state self.new) };
+        ensures { HandsOn table result (state self.old) (state self.new) };
 }
 
-impl<H: Hall> HostedSession for Session<H> {
+impl<H: ObjectTable> HostedSession for Session<H> {
     type Objects = H;
 
-    ghost hall = { H.hall };
+    ghost table = { H.table };
 
     ghost state = { λ it. state_of it };
 

@@ -4,26 +4,26 @@ ghost use Rattle.net_host.specs.Floor.{BeginsAwaited, ReportsAwaited, ReportsWit
 ghost use Rattle.net_host.specs.Waking.{NamesOne};
 ghost use Rattle.net_host.specs.Once.{BeginsOnce, BeginsUnfailed, ReportsOnce, StaysUnfailed};
 
-use cp_makers::Hall;
+use cp_objects::ObjectTable;
 
 /// The end of each connection is reported once, with the number that it had when it began. (No number is given twice: `Host::next`
 /// gives the next one to each connection that comes.)
-pub fn reported_once<H: Hall>()
-    ensures reports { ReportsOnce H.hall }
-    ensures begins { BeginsOnce H.hall }
+pub fn reported_once<H: ObjectTable>()
+    ensures reports { ReportsOnce H.table }
+    ensures begins { BeginsOnce H.table }
 {}
 
 /// What is kept for all connections stays within the host's budget, whatever turns and news there are: for all together no more than
 /// a share each and the pool (`cp_session::keep_no_more`).
-pub fn keeps_within<H: Hall>()
-    ensures { ReportsWithin H.hall }
+pub fn keeps_within<H: ObjectTable>()
+    ensures { ReportsWithin H.table }
 {}
 
 /// Limits of time are looked at by the deadline of each connection that is served, whatever turns and news there are: the host sleeps
 /// past none.
-pub fn sleeps_past_none<H: Hall>()
-    ensures reports { ReportsAwaited H.hall }
-    ensures begins { BeginsAwaited H.hall }
+pub fn sleeps_past_none<H: ObjectTable>()
+    ensures reports { ReportsAwaited H.table }
+    ensures begins { BeginsAwaited H.table }
 {}
 
 /// No two connections have sessions of one number, as long as fewer than 2^32 came. So an object that is woken is one of the session
@@ -33,7 +33,7 @@ pub fn wakes_its_own()
 {}
 
 /// No connection is served whose stream failed, whatever turns and news there are. So the error that one ended by came in its last turn.
-pub fn fails_once<H: Hall>()
-    ensures stays { StaysUnfailed H.hall }
-    ensures begins { BeginsUnfailed H.hall }
+pub fn fails_once<H: ObjectTable>()
+    ensures stays { StaysUnfailed H.table }
+    ensures begins { BeginsUnfailed H.table }
 {}

@@ -7,7 +7,7 @@ use cp_session::SessionLimits;
 
 /// What becomes of a connection that comes when there are as many as a host allows.
 #[derive(Clone, Copy)]
-pub enum Crowd {
+pub enum WhenFull {
     /// It is closed.
     Refuse,
     /// It waits, among those that the system keeps, until another one ends.
@@ -20,7 +20,7 @@ pub struct HostLimits {
     /// The most connections at once.
     pub connections: usize,
     /// What becomes of one more.
-    pub crowd: Crowd,
+    pub when_full: WhenFull,
     /// The most messages of a connection that one turn takes.
     pub messages: u32,
     /// The most bytes that are kept for all connections together, as the limit of each counts them, one message aside. Half of them
@@ -38,7 +38,7 @@ impl HostLimits {
     {
         HostLimits {
             connections: 1_000,
-            crowd: Crowd::Refuse,
+            when_full: WhenFull::Refuse,
             messages: 64,
             memory: 4_294_967_296,
             session: SessionLimits::standard(),

@@ -2,7 +2,7 @@
 
 use crate::read_buffer::PIECE;
 use crate::watch::Watch;
-use cp_relay::{Breach, Filter, FilterFault, Guard, Relay, RelayFault, Rules, Why};
+use cp_relay::{Breach, Filter, FilterFault, Guard, Relay, RelayCause, RelayFault, Rules};
 use cp_stream::Refusal;
 use std::alloc::Global;
 use std::io::Write;
@@ -98,7 +98,7 @@ impl<'r> PairGuard<'r> {
     fn fault(&self, fault: FilterFault) -> GateFault {
         match fault {
             FilterFault::Stopped(fault) => match (fault.why, self.guard.breach()) {
-                (Why::Forbidden, Some(breach)) => GateFault::Closed(fault.at, breach),
+                (RelayCause::Forbidden, Some(breach)) => GateFault::Closed(fault.at, breach),
                 _ => GateFault::Refused(fault),
             },
             FilterFault::Closed(breach) => GateFault::Closed(0, breach),

@@ -6,7 +6,7 @@ use crate::plan::RelayPlan;
 use crate::watch::{RelayedFrom, Watch};
 use cp_commands::{ACCEPTED, BROKEN, REFUSED};
 use cp_frame::FrameFault;
-use cp_relay::Why;
+use cp_relay::RelayCause;
 use cp_stream::Refusal;
 use mio::event::Event;
 use mio::{Registry, Token};
@@ -40,7 +40,7 @@ impl PairEnd {
         match self.end {
             DirectionEnd::Well | DirectionEnd::Reset => !other.is_unheard(),
             DirectionEnd::Refused(fault) => {
-                fault.why == Why::Refused(Refusal::Frame(FrameFault::Truncated))
+                fault.why == RelayCause::Refused(Refusal::Frame(FrameFault::Truncated))
                     && matches!(other.end, DirectionEnd::Unwritten(_))
             }
             // What the peer had sent was its last, so what it didn't read is nobody's loss.

@@ -1,8 +1,8 @@
 -- What calls of `notebook` of notebook.capnp lead to.
 use Rattle.std.specs.Prelude.{◌≡◌, ◌≤◌, ◌∷◌, []}
+use Rattle.cp_interfaces.specs.Dispatch.{Anything, IsElsewhere, Method, Passes, Refuses}
+use Rattle.cp_interfaces.specs.declared.call.MethodCall.{MethodCall}
 use Rattle.cp_servants.specs.declared.servant.Reply.{Reply}
-use Rattle.cp_stubs.specs.Dispatch.{Anything, IsElsewhere, Method, Passes, Refuses}
-use Rattle.cp_stubs.specs.declared.call.MethodCall.{MethodCall}
 
 -- What a call of each method leads to.
 pub record NotebookKind (S : Type 0) : Type 1 where

@@ -6,20 +6,21 @@ mod page;
 mod watcher;
 
 pub use notebook::{
-    NotebookAddCall, NotebookAddParamsReader, NotebookAddResultsBuilder, NotebookAddResultsPromise,
-    NotebookAddResultsReader, NotebookClient, NotebookNextCall, NotebookNextParamsReader,
-    NotebookNextResultsBuilder, NotebookNextResultsPromise, NotebookNextResultsReader,
-    NotebookOpenCall, NotebookOpenParamsReader, NotebookOpenResultsBuilder,
-    NotebookOpenResultsPromise, NotebookOpenResultsReader, NotebookResolver, NotebookServant,
-    NotebookServer, NotebookWatchCall, NotebookWatchParamsReader, NotebookWatchResultsBuilder,
-    NotebookWatchResultsPromise, NotebookWatchResultsReader,
+    NotebookAddCall, NotebookAddParamsReader, NotebookAddResultsBuilder,
+    NotebookAddResultsPipeline, NotebookAddResultsReader, NotebookClient, NotebookDispatch,
+    NotebookNextCall, NotebookNextParamsReader, NotebookNextResultsBuilder,
+    NotebookNextResultsPipeline, NotebookNextResultsReader, NotebookOpenCall,
+    NotebookOpenParamsReader, NotebookOpenResultsBuilder, NotebookOpenResultsPipeline,
+    NotebookOpenResultsReader, NotebookResolver, NotebookServer, NotebookWatchCall,
+    NotebookWatchParamsReader, NotebookWatchResultsBuilder, NotebookWatchResultsPipeline,
+    NotebookWatchResultsReader,
 };
 pub use page::{
-    PageClient, PageReadCall, PageReadParamsReader, PageReadResultsBuilder, PageReadResultsPromise,
-    PageReadResultsReader, PageResolver, PageServant, PageServer,
+    PageClient, PageDispatch, PageReadCall, PageReadParamsReader, PageReadResultsBuilder,
+    PageReadResultsPipeline, PageReadResultsReader, PageResolver, PageServer,
 };
 pub use watcher::{
     WatcherAddedCall, WatcherAddedParamsReader, WatcherAddedResultsBuilder,
-    WatcherAddedResultsPromise, WatcherAddedResultsReader, WatcherClient, WatcherResolver,
-    WatcherServant, WatcherServer,
+    WatcherAddedResultsPipeline, WatcherAddedResultsReader, WatcherClient, WatcherDispatch,
+    WatcherResolver, WatcherServer,
 };

@@ -4,30 +4,31 @@ ghost use Rattle.std.specs.Prelude.{◌≡◌, IfOk, OnOk, OnErr, Err, ◌↔◌
 ghost use Rattle.cp_tree.specs.Seen.{pointee_of};
 ghost use Rattle.cp_fields.specs.Numbers.{plain};
 ghost use Rattle.cp_fields.specs.Pointers.{Reads, cap_field, struct_field, text_field};
-ghost use Rattle.cp_builder.specs.declared.fault.DraftFault.TheVariants.{TooLong};
+ghost use Rattle.cp_builder.specs.declared.fault.BuildError.TheVariants.{TooLong};
 ghost use Rattle.cp_builder.specs.Drafts.{blank, text_tree, with_pointer, with_uint};
 ghost use Rattle.cp_servants.specs.Naming.{pointer_naming, with_named};
-ghost use Rattle.cp_stubs.specs.Calls.{ask_of, request_of};
-ghost use Rattle.cp_stubs.specs.Promises.{Finds, promised_cap};
-ghost use Rattle.cp_services.specs.Calls.{Answers};
-ghost use Rattle.cp_services.specs.Calls.{MakesOf};
-ghost use Rattle.cp_services.specs.Services.{At, at};
+ghost use Rattle.cp_interfaces.specs.Calls.{outgoing_call_of, request_of};
+ghost use Rattle.cp_interfaces.specs.Promises.{Finds, promised_cap};
+ghost use Rattle.cp_interface_objects.specs.Calls.{Answers};
+ghost use Rattle.cp_interface_objects.specs.Calls.{MakesOf};
+ghost use Rattle.cp_interface_objects.specs.Services.{At, at};
 ghost use Rattle.notebook.specs.Notebook.{NotebookKind, NotebookTakes, any_notebook};
 
 use crate::page::PageClient;
 use crate::watcher::WatcherClient;
-use cp_builder::{DraftFault, StructDraft};
-use cp_fields::{StructView, TextView, WrongKind};
-use cp_makers::Here;
+use cp_builder::{BuildError, StructBuilder};
+use cp_fields::{StructReader, TextReader, WrongKind};
+use cp_interface_objects::{
+    Dispatch, MethodResult, ObjectDispatch, ServiceCall, ServiceObject, TypedResolver,
+};
+use cp_interfaces::{
+    CallTarget, Caller, CapFault, CapTableBuilder, Lends, MethodCall, MethodFault, NoFieldsBuilder,
+    NoFieldsPipeline, NoFieldsReader, Pipeline, ResultPayload, Results, TypedClient, TypedPipeline,
+    refuse,
+};
+use cp_objects::Context;
 use cp_refs::{Cap, Caps, Request};
-use cp_servants::{Ask, Reply};
-use cp_services::{
-    Dispatch, MethodResult, ServedObject, ServiceCall, ServiceObject, TypedResolver,
-};
-use cp_stubs::{
-    CallTarget, Caller, CapFault, Lends, MethodCall, MethodFault, NoFieldsBuilder, NoFieldsPromise,
-    NoFieldsReader, Promise, Promised, ResultPayload, Results, Table, TypedClient, refuse,
-};
+use cp_servants::{OutgoingCall, Reply};
 use cp_tree::Whole;
 use std::alloc::{AllocError, Global};
 
@@ -52,10 +53,10 @@ impl NotebookClient {
     }
 
     /// A call of `add @0`.
-    pub fn add_request(&self, text: &str) -> Result<Request, DraftFault>
+    pub fn add_request(&self, text: &str) -> Result<Request, BuildError>
         ensures { IfOk result (λ r. r ≡ request_of 0x845bdbd96c36d051 0 (with_pointer (blank 0 1) 0 (text_tree text.now)) []) }
     {
-        let mut params: StructDraft<0, 1> = StructDraft::new(self.target.alloc())?;
+        let mut params: StructBuilder<0, 1> = StructBuilder::new(self.target.alloc())?;
         params.set_pointer(0, cp_builder::text_of(self.target.alloc(), text)?);
         let content = params.into_whole();
         Ok(self.target.request(0x845bdbd96c36d051, 0, content))
@@ -66,25 +67,25 @@ impl NotebookClient {
         &self,
         caller: &mut C,
         text: &str,
-    ) -> Result<NotebookAddResultsPromise, C::Fault>
-        ensures { MakesOf (λ p. p.at) C.asks caller.old self.now.target 0x845bdbd96c36d051 0 (with_pointer (blank 0 1) 0 (text_tree text.now)) [] result caller.new }
+    ) -> Result<NotebookAddResultsPipeline, C::Fault>
+        ensures { MakesOf (λ p. p.at) C.sends caller.old self.now.target 0x845bdbd96c36d051 0 (with_pointer (blank 0 1) 0 (text_tree text.now)) [] result caller.new }
     {
         let request = self.add_request(text)?;
-        Ok(NotebookAddResultsPromise::of(self.target.call(caller, request)?))
+        Ok(NotebookAddResultsPipeline::of(self.target.call(caller, request)?))
     }
 
     /// A call of `add` that an object makes. With the mark the object is told what it came to.
-    pub fn add_ask(&self, text: &str, mark: u64) -> Result<Ask, DraftFault>
-        ensures { IfOk result (λ ask. ask ≡ ask_of self.now.target (request_of 0x845bdbd96c36d051 0 (with_pointer (blank 0 1) 0 (text_tree text.now)) []) mark) }
+    pub fn add_call(&self, text: &str, call_id: u64) -> Result<OutgoingCall, BuildError>
+        ensures { IfOk result (λ call. call ≡ outgoing_call_of self.now.target (request_of 0x845bdbd96c36d051 0 (with_pointer (blank 0 1) 0 (text_tree text.now)) []) call_id) }
     {
-        Ok(self.target.ask(self.add_request(text)?, mark)?)
+        Ok(self.target.outgoing(self.add_request(text)?, call_id)?)
     }
 
     /// A call of `open @1`.
-    pub fn open_request(&self, id: u32) -> Result<Request, DraftFault>
+    pub fn open_request(&self, id: u32) -> Result<Request, BuildError>
         ensures { IfOk result (λ r. r ≡ request_of 0x845bdbd96c36d051 1 (with_uint (blank 1 0) 32 0 id) []) }
     {
-        let mut params: StructDraft<1, 0> = StructDraft::new(self.target.alloc())?;
+        let mut params: StructBuilder<1, 0> = StructBuilder::new(self.target.alloc())?;
         params.set_u32(0, id);
         let content = params.into_whole();
         Ok(self.target.request(0x845bdbd96c36d051, 1, content))
@@ -95,26 +96,26 @@ impl NotebookClient {
         &self,
         caller: &mut C,
         id: u32,
-    ) -> Result<NotebookOpenResultsPromise, C::Fault>
-        ensures { MakesOf (λ p. p.at) C.asks caller.old self.now.target 0x845bdbd96c36d051 1 (with_uint (blank 1 0) 32 0 id) [] result caller.new }
+    ) -> Result<NotebookOpenResultsPipeline, C::Fault>
+        ensures { MakesOf (λ p. p.at) C.sends caller.old self.now.target 0x845bdbd96c36d051 1 (with_uint (blank 1 0) 32 0 id) [] result caller.new }
     {
         let request = self.open_request(id)?;
-        Ok(NotebookOpenResultsPromise::of(self.target.call(caller, request)?))
+        Ok(NotebookOpenResultsPipeline::of(self.target.call(caller, request)?))
     }
 
     /// A call of `open` that an object makes. With the mark the object is told what it came to.
-    pub fn open_ask(&self, id: u32, mark: u64) -> Result<Ask, DraftFault>
-        ensures { IfOk result (λ ask. ask ≡ ask_of self.now.target (request_of 0x845bdbd96c36d051 1 (with_uint (blank 1 0) 32 0 id) []) mark) }
+    pub fn open_call(&self, id: u32, call_id: u64) -> Result<OutgoingCall, BuildError>
+        ensures { IfOk result (λ call. call ≡ outgoing_call_of self.now.target (request_of 0x845bdbd96c36d051 1 (with_uint (blank 1 0) 32 0 id) []) call_id) }
     {
-        Ok(self.target.ask(self.open_request(id)?, mark)?)
+        Ok(self.target.outgoing(self.open_request(id)?, call_id)?)
     }
 
     /// A call of `watch @2`.
-    pub fn watch_request(&self, watcher: WatcherClient) -> Result<Request, DraftFault>
+    pub fn watch_request(&self, watcher: WatcherClient) -> Result<Request, BuildError>
         ensures { IfOk result (λ r. r ≡ request_of 0x845bdbd96c36d051 2 (with_pointer (blank 0 1) 0 (pointer_naming [] watcher.target)) (with_named [] watcher.target)) }
     {
-        let mut params: StructDraft<0, 1> = StructDraft::new(self.target.alloc())?;
-        let mut table = Table::new(self.target.alloc());
+        let mut params: StructBuilder<0, 1> = StructBuilder::new(self.target.alloc())?;
+        let mut table = CapTableBuilder::new(self.target.alloc());
         params.set_pointer(0, table.add(watcher.target.into_cap())?);
         let content = params.into_whole();
         Ok(
@@ -128,42 +129,46 @@ impl NotebookClient {
         &self,
         caller: &mut C,
         watcher: WatcherClient,
-    ) -> Result<NotebookWatchResultsPromise, C::Fault>
-        ensures { MakesOf (λ p. p.at) C.asks caller.old self.now.target 0x845bdbd96c36d051 2 (with_pointer (blank 0 1) 0 (pointer_naming [] watcher.target)) (with_named [] watcher.target) result caller.new }
+    ) -> Result<NotebookWatchResultsPipeline, C::Fault>
+        ensures { MakesOf (λ p. p.at) C.sends caller.old self.now.target 0x845bdbd96c36d051 2 (with_pointer (blank 0 1) 0 (pointer_naming [] watcher.target)) (with_named [] watcher.target) result caller.new }
     {
         let request = self.watch_request(watcher)?;
-        Ok(NotebookWatchResultsPromise::of(self.target.call(caller, request)?))
+        Ok(NotebookWatchResultsPipeline::of(self.target.call(caller, request)?))
     }
 
     /// A call of `watch` that an object makes. With the mark the object is told what it came to.
-    pub fn watch_ask(&self, watcher: WatcherClient, mark: u64) -> Result<Ask, DraftFault>
-        ensures { IfOk result (λ ask. ask ≡ ask_of self.now.target (request_of 0x845bdbd96c36d051 2 (with_pointer (blank 0 1) 0 (pointer_naming [] watcher.target)) (with_named [] watcher.target)) mark) }
+    pub fn watch_call(
+        &self,
+        watcher: WatcherClient,
+        call_id: u64,
+    ) -> Result<OutgoingCall, BuildError>
+        ensures { IfOk result (λ call. call ≡ outgoing_call_of self.now.target (request_of 0x845bdbd96c36d051 2 (with_pointer (blank 0 1) 0 (pointer_naming [] watcher.target)) (with_named [] watcher.target)) call_id) }
     {
-        Ok(self.target.ask(self.watch_request(watcher)?, mark)?)
+        Ok(self.target.outgoing(self.watch_request(watcher)?, call_id)?)
     }
 
     /// A call of `next @3`.
-    pub fn next_request(&self) -> Result<Request, DraftFault>
+    pub fn next_request(&self) -> Result<Request, BuildError>
         ensures { IfOk result (λ r. r ≡ request_of 0x845bdbd96c36d051 3 (blank 0 0) []) }
     {
-        let params: StructDraft<0, 0> = StructDraft::new(self.target.alloc())?;
+        let params: StructBuilder<0, 0> = StructBuilder::new(self.target.alloc())?;
         let content = params.into_whole();
         Ok(self.target.request(0x845bdbd96c36d051, 3, content))
     }
 
     /// The page of the note that is added next. Calls of it wait for that note.
-    pub fn next<C: Caller>(&self, caller: &mut C) -> Result<NotebookNextResultsPromise, C::Fault>
-        ensures { MakesOf (λ p. p.at) C.asks caller.old self.now.target 0x845bdbd96c36d051 3 (blank 0 0) [] result caller.new }
+    pub fn next<C: Caller>(&self, caller: &mut C) -> Result<NotebookNextResultsPipeline, C::Fault>
+        ensures { MakesOf (λ p. p.at) C.sends caller.old self.now.target 0x845bdbd96c36d051 3 (blank 0 0) [] result caller.new }
     {
         let request = self.next_request()?;
-        Ok(NotebookNextResultsPromise::of(self.target.call(caller, request)?))
+        Ok(NotebookNextResultsPipeline::of(self.target.call(caller, request)?))
     }
 
     /// A call of `next` that an object makes. With the mark the object is told what it came to.
-    pub fn next_ask(&self, mark: u64) -> Result<Ask, DraftFault>
-        ensures { IfOk result (λ ask. ask ≡ ask_of self.now.target (request_of 0x845bdbd96c36d051 3 (blank 0 0) []) mark) }
+    pub fn next_call(&self, call_id: u64) -> Result<OutgoingCall, BuildError>
+        ensures { IfOk result (λ call. call ≡ outgoing_call_of self.now.target (request_of 0x845bdbd96c36d051 3 (blank 0 0) []) call_id) }
     {
-        Ok(self.target.ask(self.next_request()?, mark)?)
+        Ok(self.target.outgoing(self.next_request()?, call_id)?)
     }
 }
 
@@ -213,36 +218,40 @@ pub trait NotebookServer: ServiceObject {
     ghost notebook_kind: { NotebookKind (At Self Self.Makes) } = { any_notebook };
 
     /// Adds a note, and tells all watchers of it.
-    fn add(&mut self, call: &mut NotebookAddCall<'_>, here: &mut Here<Self::Makes>) -> MethodResult
-        ensures { Answers (λ p. p.body) (λ d. d.body) (λ d. []) notebook_kind.on_add (at self.old here.old) call.old call.new result (at self.new here.new) };
+    fn add(
+        &mut self,
+        call: &mut NotebookAddCall<'_>,
+        context: &mut Context<Self::Makes>,
+    ) -> MethodResult
+        ensures { Answers (λ p. p.body) (λ d. d.body) (λ d. []) notebook_kind.on_add (at self.old context.old) call.old call.new result (at self.new context.new) };
 
     /// Makes an object for a note. It goes once its client drops it.
     fn open_(
         &mut self,
         call: &mut NotebookOpenCall<'_>,
-        here: &mut Here<Self::Makes>,
+        context: &mut Context<Self::Makes>,
     ) -> MethodResult
-        ensures { Answers (λ p. p.body) (λ d. d.body) (λ d. d.table) notebook_kind.on_open (at self.old here.old) call.old call.new result (at self.new here.new) };
+        ensures { Answers (λ p. p.body) (λ d. d.body) (λ d. d.table) notebook_kind.on_open (at self.old context.old) call.old call.new result (at self.new context.new) };
 
     /// Tells a watcher of each note that is added from now on.
     fn watch(
         &mut self,
         call: &mut NotebookWatchCall<'_>,
-        here: &mut Here<Self::Makes>,
+        context: &mut Context<Self::Makes>,
     ) -> MethodResult
-        ensures { Answers (λ p. p.body) (λ d. d.body) (λ d. []) notebook_kind.on_watch (at self.old here.old) call.old call.new result (at self.new here.new) };
+        ensures { Answers (λ p. p.body) (λ d. d.body) (λ d. []) notebook_kind.on_watch (at self.old context.old) call.old call.new result (at self.new context.new) };
 
     /// The page of the note that is added next. Calls of it wait for that note.
     fn next(
         &mut self,
         call: &mut NotebookNextCall<'_>,
-        here: &mut Here<Self::Makes>,
+        context: &mut Context<Self::Makes>,
     ) -> MethodResult
-        ensures { Answers (λ p. p.body) (λ d. d.body) (λ d. d.table) notebook_kind.on_next (at self.old here.old) call.old call.new result (at self.new here.new) };
+        ensures { Answers (λ p. p.body) (λ d. d.body) (λ d. d.table) notebook_kind.on_next (at self.old context.old) call.old call.new result (at self.new context.new) };
 }
 
 /// An object of `interface Notebook`, as a connection serves it.
-pub type NotebookServant<T> = ServedObject<T, NotebookClient>;
+pub type NotebookDispatch<T> = ObjectDispatch<T, NotebookClient>;
 
 /// Resolves a promise of an object of `interface Notebook`: one that is named before it is there.
 pub type NotebookResolver = TypedResolver<NotebookClient>;
@@ -253,41 +262,41 @@ impl<T: NotebookServer> Dispatch<T> for NotebookClient {
     fn dispatch(
         object: &mut T,
         call: &MethodCall,
-        here: &mut Here<T::Makes>,
+        context: &mut Context<T::Makes>,
     ) -> Result<Reply, AllocError> {
         match (call.request.interface, call.request.method, call.params()) {
             (0x845bdbd96c36d051, 0, Ok(body)) => {
-                let results = NotebookAddResultsBuilder::new(here.alloc())?;
+                let results = NotebookAddResultsBuilder::new(context.alloc())?;
                 let params = NotebookAddParamsReader { body };
-                let mut passed = ServiceCall::new(here.alloc(), call, params, results);
-                let done = NotebookServer::add(object, &mut passed, here);
+                let mut passed = ServiceCall::new(context.alloc(), call, params, results);
+                let done = NotebookServer::add(object, &mut passed, context);
                 passed.reply(call, done)
             }
             (0x845bdbd96c36d051, 1, Ok(body)) => {
-                let results = NotebookOpenResultsBuilder::new(here.alloc())?;
+                let results = NotebookOpenResultsBuilder::new(context.alloc())?;
                 let params = NotebookOpenParamsReader { body };
-                let mut passed = ServiceCall::new(here.alloc(), call, params, results);
-                let done = NotebookServer::open_(object, &mut passed, here);
+                let mut passed = ServiceCall::new(context.alloc(), call, params, results);
+                let done = NotebookServer::open_(object, &mut passed, context);
                 passed.reply(call, done)
             }
             (0x845bdbd96c36d051, 2, Ok(body)) => {
-                let results = NotebookWatchResultsBuilder::new(here.alloc())?;
+                let results = NotebookWatchResultsBuilder::new(context.alloc())?;
                 let params = NotebookWatchParamsReader { body };
-                let mut passed = ServiceCall::new(here.alloc(), call, params, results);
-                let done = NotebookServer::watch(object, &mut passed, here);
+                let mut passed = ServiceCall::new(context.alloc(), call, params, results);
+                let done = NotebookServer::watch(object, &mut passed, context);
                 passed.reply(call, done)
             }
             (0x845bdbd96c36d051, 3, Ok(body)) => {
-                let results = NotebookNextResultsBuilder::new(here.alloc())?;
+                let results = NotebookNextResultsBuilder::new(context.alloc())?;
                 let params = NotebookNextParamsReader { body };
-                let mut passed = ServiceCall::new(here.alloc(), call, params, results);
-                let done = NotebookServer::next(object, &mut passed, here);
+                let mut passed = ServiceCall::new(context.alloc(), call, params, results);
+                let done = NotebookServer::next(object, &mut passed, context);
                 passed.reply(call, done)
             }
             (0x845bdbd96c36d051, 0..=3, Err(fault)) => {
-                refuse(here.alloc(), call, MethodFault::WrongKind(fault))
+                refuse(context.alloc(), call, MethodFault::WrongKind(fault))
             }
-            _ => refuse(here.alloc(), call, MethodFault::Unimplemented),
+            _ => refuse(context.alloc(), call, MethodFault::Unimplemented),
         }
     }
 }
@@ -296,12 +305,12 @@ impl<T: NotebookServer> Dispatch<T> for NotebookClient {
 #[derive(Drop)]
 pub struct NotebookAddParamsReader<'a> {
     /// The struct, by the places of its fields.
-    pub body: StructView<'a>,
+    pub body: StructReader<'a>,
 }
 
 impl<'a> NotebookAddParamsReader<'a> {
     /// `text @0`.
-    pub fn text(&self) -> Result<TextView<'a>, WrongKind>
+    pub fn text(&self) -> Result<TextReader<'a>, WrongKind>
         ensures { result ≡ text_field [] (pointee_of self.now.body 0) }
     {
         self.body.text(0)
@@ -312,7 +321,7 @@ impl<'a> NotebookAddParamsReader<'a> {
 #[derive(Drop)]
 pub struct NotebookAddResultsReader<'a> {
     /// The struct, by the places of its fields.
-    pub body: StructView<'a>,
+    pub body: StructReader<'a>,
 }
 
 impl<'a> NotebookAddResultsReader<'a> {
@@ -328,7 +337,7 @@ impl<'a> NotebookAddResultsReader<'a> {
 #[derive(Drop)]
 pub struct NotebookAddResultsBuilder {
     /// The struct, by the places of its fields.
-    pub body: StructDraft<1, 0>,
+    pub body: StructBuilder<1, 0>,
 }
 
 impl NotebookAddResultsBuilder {
@@ -337,7 +346,7 @@ impl NotebookAddResultsBuilder {
         ensures { IfOk result (λ d. d.body ≡ blank 1 0) }
     {
         Ok(NotebookAddResultsBuilder {
-            body: StructDraft::new(alloc)?,
+            body: StructBuilder::new(alloc)?,
         })
     }
 
@@ -354,20 +363,20 @@ impl Results for NotebookAddResultsBuilder {
 
     ghost names = { λ d. [] };
 
-    fn into_parts(self, alloc: Global) -> (Whole, Table) {
-        (self.body.into_whole(), Table::new(alloc))
+    fn into_parts(self, alloc: Global) -> (Whole, CapTableBuilder) {
+        (self.body.into_whole(), CapTableBuilder::new(alloc))
     }
 }
 
 /// `struct Notebook.add$Results`, as a question will give it.
-pub type NotebookAddResultsPromise = Promise<NotebookAddResultsBuilder>;
+pub type NotebookAddResultsPipeline = TypedPipeline<NotebookAddResultsBuilder>;
 
 impl<'a> Lends<'a> for NotebookAddResultsBuilder {
     type Reader = NotebookAddResultsReader<'a>;
 
     ghost read = { λ x. x.body };
 
-    fn reader(body: StructView<'a>) -> NotebookAddResultsReader<'a> {
+    fn reader(body: StructReader<'a>) -> NotebookAddResultsReader<'a> {
         NotebookAddResultsReader { body }
     }
 }
@@ -376,7 +385,7 @@ impl<'a> Lends<'a> for NotebookAddResultsBuilder {
 #[derive(Drop)]
 pub struct NotebookOpenParamsReader<'a> {
     /// The struct, by the places of its fields.
-    pub body: StructView<'a>,
+    pub body: StructReader<'a>,
 }
 
 impl<'a> NotebookOpenParamsReader<'a> {
@@ -392,7 +401,7 @@ impl<'a> NotebookOpenParamsReader<'a> {
 #[derive(Drop)]
 pub struct NotebookOpenResultsReader<'a> {
     /// The struct, by the places of its fields.
-    pub body: StructView<'a>,
+    pub body: StructReader<'a>,
 }
 
 impl<'a> NotebookOpenResultsReader<'a> {
@@ -418,9 +427,9 @@ impl<'a> NotebookOpenResultsReader<'a> {
 #[derive(Drop)]
 pub struct NotebookOpenResultsBuilder {
     /// The struct, by the places of its fields.
-    pub body: StructDraft<0, 1>,
+    pub body: StructBuilder<0, 1>,
     /// The capabilities that it names.
-    pub table: Table,
+    pub table: CapTableBuilder,
 }
 
 impl NotebookOpenResultsBuilder {
@@ -430,13 +439,13 @@ impl NotebookOpenResultsBuilder {
         ensures names { IfOk result (λ d. d.table ≡ []) }
     {
         Ok(NotebookOpenResultsBuilder {
-            body: StructDraft::new(alloc)?,
-            table: Table::new(alloc),
+            body: StructBuilder::new(alloc)?,
+            table: CapTableBuilder::new(alloc),
         })
     }
 
     /// Sets `page`.
-    pub fn set_page(&mut self, value: PageClient) -> Result<(), DraftFault>
+    pub fn set_page(&mut self, value: PageClient) -> Result<(), BuildError>
         ensures set { OnOk result (self.new.body ≡ with_pointer self.old.body 0 (pointer_naming self.old.table value.target)) }
         ensures added { OnOk result (self.new.table ≡ with_named self.old.table value.target) }
         ensures left { OnErr result (self.new ≡ self.old) }
@@ -453,7 +462,7 @@ impl Results for NotebookOpenResultsBuilder {
 
     ghost names = { λ d. d.table };
 
-    fn into_parts(self, alloc: Global) -> (Whole, Table) {
+    fn into_parts(self, alloc: Global) -> (Whole, CapTableBuilder) {
         let _ = alloc;
         (self.body.into_whole(), self.table)
     }
@@ -461,17 +470,17 @@ impl Results for NotebookOpenResultsBuilder {
 
 /// `struct Notebook.open$Results`, as a question will give it.
 #[derive(Drop)]
-pub struct NotebookOpenResultsPromise {
+pub struct NotebookOpenResultsPipeline {
     /// The question, and the path to the struct.
-    pub at: Promised,
+    pub at: Pipeline,
 }
 
-impl NotebookOpenResultsPromise {
+impl NotebookOpenResultsPipeline {
     /// What is promised there.
-    pub fn of(at: Promised) -> NotebookOpenResultsPromise
+    pub fn of(at: Pipeline) -> NotebookOpenResultsPipeline
         ensures { result.at ≡ at }
     {
-        NotebookOpenResultsPromise { at }
+        NotebookOpenResultsPipeline { at }
     }
 
     /// The number of the question, whose outcome can be waited for.
@@ -507,7 +516,7 @@ impl NotebookOpenResultsPromise {
 #[derive(Drop)]
 pub struct NotebookWatchParamsReader<'a> {
     /// The struct, by the places of its fields.
-    pub body: StructView<'a>,
+    pub body: StructReader<'a>,
 }
 
 impl<'a> NotebookWatchParamsReader<'a> {
@@ -536,7 +545,7 @@ pub type NotebookWatchResultsReader<'a> = NoFieldsReader<'a>;
 pub type NotebookWatchResultsBuilder = NoFieldsBuilder;
 
 /// `struct Notebook.watch$Results`, as a question will give it.
-pub type NotebookWatchResultsPromise = NoFieldsPromise;
+pub type NotebookWatchResultsPipeline = NoFieldsPipeline;
 
 /// `struct Notebook.next$Params`.
 pub type NotebookNextParamsReader<'a> = NoFieldsReader<'a>;
@@ -545,7 +554,7 @@ pub type NotebookNextParamsReader<'a> = NoFieldsReader<'a>;
 #[derive(Drop)]
 pub struct NotebookNextResultsReader<'a> {
     /// The struct, by the places of its fields.
-    pub body: StructView<'a>,
+    pub body: StructReader<'a>,
 }
 
 impl<'a> NotebookNextResultsReader<'a> {
@@ -571,9 +580,9 @@ impl<'a> NotebookNextResultsReader<'a> {
 #[derive(Drop)]
 pub struct NotebookNextResultsBuilder {
     /// The struct, by the places of its fields.
-    pub body: StructDraft<0, 1>,
+    pub body: StructBuilder<0, 1>,
     /// The capabilities that it names.
-    pub table: Table,
+    pub table: CapTableBuilder,
 }
 
 impl NotebookNextResultsBuilder {
@@ -583,13 +592,13 @@ impl NotebookNextResultsBuilder {
         ensures names { IfOk result (λ d. d.table ≡ []) }
     {
         Ok(NotebookNextResultsBuilder {
-            body: StructDraft::new(alloc)?,
-            table: Table::new(alloc),
+            body: StructBuilder::new(alloc)?,
+            table: CapTableBuilder::new(alloc),
         })
     }
 
     /// Sets `page`.
-    pub fn set_page(&mut self, value: PageClient) -> Result<(), DraftFault>
+    pub fn set_page(&mut self, value: PageClient) -> Result<(), BuildError>
         ensures set { OnOk result (self.new.body ≡ with_pointer self.old.body 0 (pointer_naming self.old.table value.target)) }
         ensures added { OnOk result (self.new.table ≡ with_named self.old.table value.target) }
         ensures left { OnErr result (self.new ≡ self.old) }
@@ -606,7 +615,7 @@ impl Results for NotebookNextResultsBuilder {
 
     ghost names = { λ d. d.table };
 
-    fn into_parts(self, alloc: Global) -> (Whole, Table) {
+    fn into_parts(self, alloc: Global) -> (Whole, CapTableBuilder) {
         let _ = alloc;
         (self.body.into_whole(), self.table)
     }
@@ -614,17 +623,17 @@ impl Results for NotebookNextResultsBuilder {
 
 /// `struct Notebook.next$Results`, as a question will give it.
 #[derive(Drop)]
-pub struct NotebookNextResultsPromise {
+pub struct NotebookNextResultsPipeline {
     /// The question, and the path to the struct.
-    pub at: Promised,
+    pub at: Pipeline,
 }
 
-impl NotebookNextResultsPromise {
+impl NotebookNextResultsPipeline {
     /// What is promised there.
-    pub fn of(at: Promised) -> NotebookNextResultsPromise
+    pub fn of(at: Pipeline) -> NotebookNextResultsPipeline
         ensures { result.at ≡ at }
     {
-        NotebookNextResultsPromise { at }
+        NotebookNextResultsPipeline { at }
     }
 
     /// The number of the question, whose outcome can be waited for.

@@ -3,26 +3,26 @@
 ghost use Rattle.std.specs.Prelude.{◌≡◌, IfOk, OnOk, OnErr, Err, ◌≤◌, ◌^◌, length, ◌+◌, []};
 ghost use Rattle.cp_tree.specs.Seen.{pointee_of};
 ghost use Rattle.cp_fields.specs.Pointers.{text_field};
-ghost use Rattle.cp_builder.specs.declared.fault.DraftFault.TheVariants.{TooLong};
+ghost use Rattle.cp_builder.specs.declared.fault.BuildError.TheVariants.{TooLong};
 ghost use Rattle.cp_builder.specs.Drafts.{blank, text_tree, with_pointer};
-ghost use Rattle.cp_stubs.specs.Calls.{ask_of, request_of};
-ghost use Rattle.cp_services.specs.Calls.{Answers};
-ghost use Rattle.cp_services.specs.Calls.{MakesOf};
-ghost use Rattle.cp_services.specs.Services.{At, at};
+ghost use Rattle.cp_interfaces.specs.Calls.{outgoing_call_of, request_of};
+ghost use Rattle.cp_interface_objects.specs.Calls.{Answers};
+ghost use Rattle.cp_interface_objects.specs.Calls.{MakesOf};
+ghost use Rattle.cp_interface_objects.specs.Services.{At, at};
 ghost use Rattle.notebook.specs.Page.{PageKind, PageTakes, any_page};
 
-use cp_builder::{DraftFault, StructDraft};
-use cp_fields::{StructView, TextView, WrongKind};
-use cp_makers::Here;
+use cp_builder::{BuildError, StructBuilder};
+use cp_fields::{StructReader, TextReader, WrongKind};
+use cp_interface_objects::{
+    Dispatch, MethodResult, ObjectDispatch, ServiceCall, ServiceObject, TypedResolver,
+};
+use cp_interfaces::{
+    CallTarget, Caller, CapTableBuilder, Lends, MethodCall, MethodFault, NoFieldsReader, Results,
+    TypedClient, TypedPipeline, refuse,
+};
+use cp_objects::Context;
 use cp_refs::{Cap, Request};
-use cp_servants::{Ask, Reply};
-use cp_services::{
-    Dispatch, MethodResult, ServedObject, ServiceCall, ServiceObject, TypedResolver,
-};
-use cp_stubs::{
-    CallTarget, Caller, Lends, MethodCall, MethodFault, NoFieldsReader, Promise, Results, Table,
-    TypedClient, refuse,
-};
+use cp_servants::{OutgoingCall, Reply};
 use cp_tree::Whole;
 use std::alloc::{AllocError, Global};
 
@@ -47,27 +47,27 @@ impl PageClient {
     }
 
     /// A call of `read @0`.
-    pub fn read_request(&self) -> Result<Request, DraftFault>
+    pub fn read_request(&self) -> Result<Request, BuildError>
         ensures { IfOk result (λ r. r ≡ request_of 0xd22af05f2861ac0c 0 (blank 0 0) []) }
     {
-        let params: StructDraft<0, 0> = StructDraft::new(self.target.alloc())?;
+        let params: StructBuilder<0, 0> = StructBuilder::new(self.target.alloc())?;
         let content = params.into_whole();
         Ok(self.target.request(0xd22af05f2861ac0c, 0, content))
     }
 
     /// The text of the note.
-    pub fn read<C: Caller>(&self, caller: &mut C) -> Result<PageReadResultsPromise, C::Fault>
-        ensures { MakesOf (λ p. p.at) C.asks caller.old self.now.target 0xd22af05f2861ac0c 0 (blank 0 0) [] result caller.new }
+    pub fn read<C: Caller>(&self, caller: &mut C) -> Result<PageReadResultsPipeline, C::Fault>
+        ensures { MakesOf (λ p. p.at) C.sends caller.old self.now.target 0xd22af05f2861ac0c 0 (blank 0 0) [] result caller.new }
     {
         let request = self.read_request()?;
-        Ok(PageReadResultsPromise::of(self.target.call(caller, request)?))
+        Ok(PageReadResultsPipeline::of(self.target.call(caller, request)?))
     }
 
     /// A call of `read` that an object makes. With the mark the object is told what it came to.
-    pub fn read_ask(&self, mark: u64) -> Result<Ask, DraftFault>
-        ensures { IfOk result (λ ask. ask ≡ ask_of self.now.target (request_of 0xd22af05f2861ac0c 0 (blank 0 0) []) mark) }
+    pub fn read_call(&self, call_id: u64) -> Result<OutgoingCall, BuildError>
+        ensures { IfOk result (λ call. call ≡ outgoing_call_of self.now.target (request_of 0xd22af05f2861ac0c 0 (blank 0 0) []) call_id) }
     {
-        Ok(self.target.ask(self.read_request()?, mark)?)
+        Ok(self.target.outgoing(self.read_request()?, call_id)?)
     }
 }
 
@@ -92,12 +92,16 @@ pub trait PageServer: ServiceObject {
     ghost page_kind: { PageKind (At Self Self.Makes) } = { any_page };
 
     /// The text of the note.
-    fn read(&mut self, call: &mut PageReadCall<'_>, here: &mut Here<Self::Makes>) -> MethodResult
-        ensures { Answers (λ p. p.body) (λ d. d.body) (λ d. []) page_kind.on_read (at self.old here.old) call.old call.new result (at self.new here.new) };
+    fn read(
+        &mut self,
+        call: &mut PageReadCall<'_>,
+        context: &mut Context<Self::Makes>,
+    ) -> MethodResult
+        ensures { Answers (λ p. p.body) (λ d. d.body) (λ d. []) page_kind.on_read (at self.old context.old) call.old call.new result (at self.new context.new) };
 }
 
 /// An object of `interface Page`, as a connection serves it.
-pub type PageServant<T> = ServedObject<T, PageClient>;
+pub type PageDispatch<T> = ObjectDispatch<T, PageClient>;
 
 /// Resolves a promise of an object of `interface Page`: one that is named before it is there.
 pub type PageResolver = TypedResolver<PageClient>;
@@ -108,20 +112,20 @@ impl<T: PageServer> Dispatch<T> for PageClient {
     fn dispatch(
         object: &mut T,
         call: &MethodCall,
-        here: &mut Here<T::Makes>,
+        context: &mut Context<T::Makes>,
     ) -> Result<Reply, AllocError> {
         match (call.request.interface, call.request.method, call.params()) {
             (0xd22af05f2861ac0c, 0, Ok(body)) => {
-                let results = PageReadResultsBuilder::new(here.alloc())?;
+                let results = PageReadResultsBuilder::new(context.alloc())?;
                 let params = PageReadParamsReader { body };
-                let mut passed = ServiceCall::new(here.alloc(), call, params, results);
-                let done = PageServer::read(object, &mut passed, here);
+                let mut passed = ServiceCall::new(context.alloc(), call, params, results);
+                let done = PageServer::read(object, &mut passed, context);
                 passed.reply(call, done)
             }
             (0xd22af05f2861ac0c, 0, Err(fault)) => {
-                refuse(here.alloc(), call, MethodFault::WrongKind(fault))
+                refuse(context.alloc(), call, MethodFault::WrongKind(fault))
             }
-            _ => refuse(here.alloc(), call, MethodFault::Unimplemented),
+            _ => refuse(context.alloc(), call, MethodFault::Unimplemented),
         }
     }
 }
@@ -133,12 +137,12 @@ pub type PageReadParamsReader<'a> = NoFieldsReader<'a>;
 #[derive(Drop)]
 pub struct PageReadResultsReader<'a> {
     /// The struct, by the places of its fields.
-    pub body: StructView<'a>,
+    pub body: StructReader<'a>,
 }
 
 impl<'a> PageReadResultsReader<'a> {
     /// `text @0`.
-    pub fn text(&self) -> Result<TextView<'a>, WrongKind>
+    pub fn text(&self) -> Result<TextReader<'a>, WrongKind>
         ensures { result ≡ text_field [] (pointee_of self.now.body 0) }
     {
         self.body.text(0)
@@ -149,7 +153,7 @@ impl<'a> PageReadResultsReader<'a> {
 #[derive(Drop)]
 pub struct PageReadResultsBuilder {
     /// The struct, by the places of its fields.
-    pub body: StructDraft<0, 1>,
+    pub body: StructBuilder<0, 1>,
 }
 
 impl PageReadResultsBuilder {
@@ -158,12 +162,12 @@ impl PageReadResultsBuilder {
         ensures { IfOk result (λ d. d.body ≡ blank 0 1) }
     {
         Ok(PageReadResultsBuilder {
-            body: StructDraft::new(alloc)?,
+            body: StructBuilder::new(alloc)?,
         })
     }
 
     /// Sets `text`.
-    pub fn set_text(&mut self, alloc: Global, value: &str) -> Result<(), DraftFault>
+    pub fn set_text(&mut self, alloc: Global, value: &str) -> Result<(), BuildError>
         ensures set { OnOk result (self.new.body ≡ with_pointer self.old.body 0 (text_tree value.now)) }
         ensures left { OnErr result (self.new ≡ self.old) }
         ensures long { result ≡ Err TooLong → 2 ^ 29 ≤ length value.now + 1 }
@@ -178,20 +182,20 @@ impl Results for PageReadResultsBuilder {
 
     ghost names = { λ d. [] };
 
-    fn into_parts(self, alloc: Global) -> (Whole, Table) {
-        (self.body.into_whole(), Table::new(alloc))
+    fn into_parts(self, alloc: Global) -> (Whole, CapTableBuilder) {
+        (self.body.into_whole(), CapTableBuilder::new(alloc))
     }
 }
 
 /// `struct Page.read$Results`, as a question will give it.
-pub type PageReadResultsPromise = Promise<PageReadResultsBuilder>;
+pub type PageReadResultsPipeline = TypedPipeline<PageReadResultsBuilder>;
 
 impl<'a> Lends<'a> for PageReadResultsBuilder {
     type Reader = PageReadResultsReader<'a>;
 
     ghost read = { λ x. x.body };
 
-    fn reader(body: StructView<'a>) -> PageReadResultsReader<'a> {
+    fn reader(body: StructReader<'a>) -> PageReadResultsReader<'a> {
         PageReadResultsReader { body }
     }
 }

@@ -4,24 +4,24 @@ ghost use Rattle.std.specs.Prelude.{◌≡◌, IfOk, []};
 ghost use Rattle.cp_tree.specs.Seen.{pointee_of};
 ghost use Rattle.cp_fields.specs.Pointers.{text_field};
 ghost use Rattle.cp_builder.specs.Drafts.{blank, text_tree, with_pointer};
-ghost use Rattle.cp_stubs.specs.Calls.{ask_of, request_of};
-ghost use Rattle.cp_services.specs.Calls.{Answers};
-ghost use Rattle.cp_services.specs.Calls.{MakesOf};
-ghost use Rattle.cp_services.specs.Services.{At, at};
+ghost use Rattle.cp_interfaces.specs.Calls.{outgoing_call_of, request_of};
+ghost use Rattle.cp_interface_objects.specs.Calls.{Answers};
+ghost use Rattle.cp_interface_objects.specs.Calls.{MakesOf};
+ghost use Rattle.cp_interface_objects.specs.Services.{At, at};
 ghost use Rattle.notebook.specs.Watcher.{WatcherKind, WatcherTakes, any_watcher};
 
-use cp_builder::{DraftFault, StructDraft};
-use cp_fields::{StructView, TextView, WrongKind};
-use cp_makers::Here;
-use cp_refs::{Cap, Request};
-use cp_servants::{Ask, Reply};
-use cp_services::{
-    Dispatch, MethodResult, ServedObject, ServiceCall, ServiceObject, TypedResolver,
+use cp_builder::{BuildError, StructBuilder};
+use cp_fields::{StructReader, TextReader, WrongKind};
+use cp_interface_objects::{
+    Dispatch, MethodResult, ObjectDispatch, ServiceCall, ServiceObject, TypedResolver,
 };
-use cp_stubs::{
-    CallTarget, Caller, MethodCall, MethodFault, NoFieldsBuilder, NoFieldsPromise, NoFieldsReader,
+use cp_interfaces::{
+    CallTarget, Caller, MethodCall, MethodFault, NoFieldsBuilder, NoFieldsPipeline, NoFieldsReader,
     TypedClient, refuse,
 };
+use cp_objects::Context;
+use cp_refs::{Cap, Request};
+use cp_servants::{OutgoingCall, Reply};
 use std::alloc::{AllocError, Global};
 
 /// `interface Watcher`.
@@ -45,10 +45,10 @@ impl WatcherClient {
     }
 
     /// A call of `added @0`.
-    pub fn added_request(&self, text: &str) -> Result<Request, DraftFault>
+    pub fn added_request(&self, text: &str) -> Result<Request, BuildError>
         ensures { IfOk result (λ r. r ≡ request_of 0x80a0c5d36bb2c9a2 0 (with_pointer (blank 0 1) 0 (text_tree text.now)) []) }
     {
-        let mut params: StructDraft<0, 1> = StructDraft::new(self.target.alloc())?;
+        let mut params: StructBuilder<0, 1> = StructBuilder::new(self.target.alloc())?;
         params.set_pointer(0, cp_builder::text_of(self.target.alloc(), text)?);
         let content = params.into_whole();
         Ok(self.target.request(0x80a0c5d36bb2c9a2, 0, content))
@@ -59,18 +59,18 @@ impl WatcherClient {
         &self,
         caller: &mut C,
         text: &str,
-    ) -> Result<WatcherAddedResultsPromise, C::Fault>
-        ensures { MakesOf (λ p. p.at) C.asks caller.old self.now.target 0x80a0c5d36bb2c9a2 0 (with_pointer (blank 0 1) 0 (text_tree text.now)) [] result caller.new }
+    ) -> Result<WatcherAddedResultsPipeline, C::Fault>
+        ensures { MakesOf (λ p. p.at) C.sends caller.old self.now.target 0x80a0c5d36bb2c9a2 0 (with_pointer (blank 0 1) 0 (text_tree text.now)) [] result caller.new }
     {
         let request = self.added_request(text)?;
-        Ok(WatcherAddedResultsPromise::of(self.target.call(caller, request)?))
+        Ok(WatcherAddedResultsPipeline::of(self.target.call(caller, request)?))
     }
 
     /// A call of `added` that an object makes. With the mark the object is told what it came to.
-    pub fn added_ask(&self, text: &str, mark: u64) -> Result<Ask, DraftFault>
-        ensures { IfOk result (λ ask. ask ≡ ask_of self.now.target (request_of 0x80a0c5d36bb2c9a2 0 (with_pointer (blank 0 1) 0 (text_tree text.now)) []) mark) }
+    pub fn added_call(&self, text: &str, call_id: u64) -> Result<OutgoingCall, BuildError>
+        ensures { IfOk result (λ call. call ≡ outgoing_call_of self.now.target (request_of 0x80a0c5d36bb2c9a2 0 (with_pointer (blank 0 1) 0 (text_tree text.now)) []) call_id) }
     {
-        Ok(self.target.ask(self.added_request(text)?, mark)?)
+        Ok(self.target.outgoing(self.added_request(text)?, call_id)?)
     }
 }
 
@@ -102,13 +102,13 @@ pub trait WatcherServer: ServiceObject {
     fn added(
         &mut self,
         call: &mut WatcherAddedCall<'_>,
-        here: &mut Here<Self::Makes>,
+        context: &mut Context<Self::Makes>,
     ) -> MethodResult
-        ensures { Answers (λ p. p.body) (λ d. d.body) (λ d. []) watcher_kind.on_added (at self.old here.old) call.old call.new result (at self.new here.new) };
+        ensures { Answers (λ p. p.body) (λ d. d.body) (λ d. []) watcher_kind.on_added (at self.old context.old) call.old call.new result (at self.new context.new) };
 }
 
 /// An object of `interface Watcher`, as a connection serves it.
-pub type WatcherServant<T> = ServedObject<T, WatcherClient>;
+pub type WatcherDispatch<T> = ObjectDispatch<T, WatcherClient>;
 
 /// Resolves a promise of an object of `interface Watcher`: one that is named before it is there.
 pub type WatcherResolver = TypedResolver<WatcherClient>;
@@ -119,20 +119,20 @@ impl<T: WatcherServer> Dispatch<T> for WatcherClient {
     fn dispatch(
         object: &mut T,
         call: &MethodCall,
-        here: &mut Here<T::Makes>,
+        context: &mut Context<T::Makes>,
     ) -> Result<Reply, AllocError> {
         match (call.request.interface, call.request.method, call.params()) {
             (0x80a0c5d36bb2c9a2, 0, Ok(body)) => {
-                let results = WatcherAddedResultsBuilder::new(here.alloc())?;
+                let results = WatcherAddedResultsBuilder::new(context.alloc())?;
                 let params = WatcherAddedParamsReader { body };
-                let mut passed = ServiceCall::new(here.alloc(), call, params, results);
-                let done = WatcherServer::added(object, &mut passed, here);
+                let mut passed = ServiceCall::new(context.alloc(), call, params, results);
+                let done = WatcherServer::added(object, &mut passed, context);
                 passed.reply(call, done)
             }
             (0x80a0c5d36bb2c9a2, 0, Err(fault)) => {
-                refuse(here.alloc(), call, MethodFault::WrongKind(fault))
+                refuse(context.alloc(), call, MethodFault::WrongKind(fault))
             }
-            _ => refuse(here.alloc(), call, MethodFault::Unimplemented),
+            _ => refuse(context.alloc(), call, MethodFault::Unimplemented),
         }
     }
 }
@@ -141,12 +141,12 @@ impl<T: WatcherServer> Dispatch<T> for WatcherClient {
 #[derive(Drop)]
 pub struct WatcherAddedParamsReader<'a> {
     /// The struct, by the places of its fields.
-    pub body: StructView<'a>,
+    pub body: StructReader<'a>,
 }
 
 impl<'a> WatcherAddedParamsReader<'a> {
     /// `text @0`.
-    pub fn text(&self) -> Result<TextView<'a>, WrongKind>
+    pub fn text(&self) -> Result<TextReader<'a>, WrongKind>
         ensures { result ≡ text_field [] (pointee_of self.now.body 0) }
     {
         self.body.text(0)
@@ -160,4 +160,4 @@ pub type WatcherAddedResultsReader<'a> = NoFieldsReader<'a>;
 pub type WatcherAddedResultsBuilder = NoFieldsBuilder;
 
 /// `struct Watcher.added$Results`, as a question will give it.
-pub type WatcherAddedResultsPromise = NoFieldsPromise;
+pub type WatcherAddedResultsPipeline = NoFieldsPipeline;

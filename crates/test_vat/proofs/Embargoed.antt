@@ -35,7 +35,7 @@ use Rattle.cp_vat_machine.specs.Capacity.{Fresh}
 use Rattle.cp_vat_machine.specs.Writing.{WritesDescriptors, promised}
 use Rattle.cp_vat_machine.specs.Receiving.{ReceivesCap, ReceivesCaps, taken_export}
 use Rattle.cp_vat_machine.specs.Give.{GiveOwn, GiveOwnBy, question_settled}
-use Rattle.cp_vat_machine.specs.Go.{Underway, Go, GoTo, GoOut, call_of, sent}
+use Rattle.cp_vat_machine.specs.Go.{PendingCall, Go, GoTo, GoOut, call_of, sent}
 use Rattle.cp_vat_machine.specs.Asking.{ReceivesReturned, Settles, ReturnBy, ReturnOf, OnReturn}
 use Rattle.cp_vat_machine.specs.Calling.{OwnDone, Standing, on_wire, came_to, reference_of, asked, called, own_call, mark_of, with_mark, marked, disembargo_of, FirstEmbargoed, GoBack, GoFrom, Opens, call_refusals, DoCall}
 use Rattle.cp_vat_machine.specs.Step.{Step}
@@ -222,7 +222,7 @@ only_c s new none is_kept step =
     new_is ∙ ap (λ t. with_over t none_over) mid_is
 
 -- the next call is embargoed
-embargoed : (s : State) (call : Underway) (done : Done) (mark : Option (Option ℕ)) → mark ≡ Some None → GoBack s call bootstrap_cap (caps.Object 3) mark (Ok done)
+embargoed : (s : State) (call : PendingCall) (done : Done) (mark : Option (Option ℕ)) → mark ≡ Some None → GoBack s call bootstrap_cap (caps.Object 3) mark (Ok done)
     → (n : ℕ) × (done.0 ≡ disembargo_of n bootstrap_cap ∷ [])
 embargoed s call done mark is goes =
     let (n, fresh, done_is) = then_ok (Fresh s.marks.embargoes) _ done (by_mark is goes) in (n, ap {A = Done} (λ d. d.0) (ok_inj done_is))

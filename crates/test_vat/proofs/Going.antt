@@ -24,7 +24,7 @@ use Rattle.cp_refs.specs.declared.route.Route.TheVariants as routes
 use Rattle.cp_vat_machine.specs.State.{gave}
 use Rattle.cp_vat_machine.specs.Writing.{promised}
 use Rattle.cp_vat_machine.specs.Writing.{mentions_of}
-use Rattle.cp_vat_machine.specs.Go.{Underway, delivered, call_of, forwarding, sent, finish_after, GoOut, Go, GoTo, NoneOver, IsNext, without_call, underway, Leave, stays, leaves, finds_table_full}
+use Rattle.cp_vat_machine.specs.Go.{PendingCall, delivered, call_of, forwarding, sent, finish_after, GoOut, Go, GoTo, NoneOver, IsNext, without_call, underway, Leave, stays, leaves, finds_table_full}
 use Rattle.cp_vat_machine.specs.declared.effect.Effect.{Effect}
 use Rattle.cp_vat_machine.specs.declared.effect.Effect.TheVariants as effects
 use Rattle.cp_vat_machine.specs.declared.entry.QuestionEntry.{QuestionEntry}
@@ -35,7 +35,7 @@ use Rattle.test_vat.proofs.Finding.{find_fresh, find_all_said, routing}
 use Rattle.test_vat.proofs.Taking.{changed, changed_is}
 use Rattle.test_vat.proofs.Giving.{find_given}
 
-abbrev pub held_known : Known → Underway → Gate → Known
+abbrev pub held_known : Known → PendingCall → Gate → Known
 held_known k call gate = record k { calls = (call.ticket, record { ticket = call.ticket; origin = call.origin; request = call.request; gate = gate }) ∷ k.calls }
 
 abbrev pub delivered_known : Known → Origin → Known
@@ -61,7 +61,7 @@ sent_known k q table = record k { asked = changed k.asked q (sent_entry table) }
 pub sent_is : (k : Known) (q : ℕ) (table : List Descriptor) → sent (state k) q table ≡ state (sent_known k q table)
 sent_is k q table = λ i. record (state k) { entries = record (state k).entries { questions = changed_is k.asked q (sent_entry table) i } }
 
-abbrev pub find_out : (k : Known) (call : Underway) (target : Target) (origin : Origin) → Finds beside (GoOut (state k) call target origin)
+abbrev pub find_out : (k : Known) (call : PendingCall) (target : Target) (origin : Origin) → Finds beside (GoOut (state k) call target origin)
 find_out k call target (origins.Answer a) =
     follow _ (find_fresh k.asked) (λ q.
     follow _ (find_all_said k call.request.caps) (λ said.
@@ -74,7 +74,7 @@ find_out k call target (origins.Own q) =
     let first : List Effect = call_of q target call.request said.0 ∷ finish_after q entry.stage in
     found (Ok (first, sent_known said.1 q said.0)) (ap (λ s. Ok (first, s)) (sym (sent_is said.1 q said.0)))))
 
-abbrev pub find_gone : (k : Known) (call : Underway) (route : Route) → Finds beside (Go (state k) call route)
+abbrev pub find_gone : (k : Known) (call : PendingCall) (route : Route) → Finds beside (Go (state k) call route)
 find_gone k call (routes.Deliver n) =
     let first : List Effect = effects.Deliver n call.origin call.ticket call.request ∷ [] in
     found (Ok (first, delivered_known k call.origin)) (ap (λ s. Ok (first, s)) (sym (delivered_is k call.origin)))
@@ -83,7 +83,7 @@ find_gone k call (routes.Pipe q path) = find_out k call (targets.PromisedAnswer 
 find_gone k call (routes.Wait gate) = found (Ok ([], held_known k call gate)) refl
 find_gone k call (routes.Fail x) = find_given k call.origin (outcomes.Failed x)
 
-abbrev pub find_gone_to : (k : Known) (call : Underway) (c : Cap) → Finds beside (GoTo (state k) call c)
+abbrev pub find_gone_to : (k : Known) (call : PendingCall) (c : Cap) → Finds beside (GoTo (state k) call c)
 find_gone_to k call c = routing k c (Go (state k) call) (find_gone k call)
 
 -- what a gate gave

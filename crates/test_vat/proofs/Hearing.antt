@@ -13,8 +13,8 @@ use Rattle.cp_messages.specs.declared.resolve.Resolution.TheVariants as resoluti
 use Rattle.cp_messages.specs.declared.resolve.Resolve.{Resolve}
 use Rattle.cp_messages.specs.declared.target.Target.{Target}
 use Rattle.cp_messages.specs.declared.target.Target.TheVariants as targets
-use Rattle.cp_messages.specs.declared.disembargo.Context.{Context}
-use Rattle.cp_messages.specs.declared.disembargo.Context.TheVariants as contexts
+use Rattle.cp_messages.specs.declared.disembargo.DisembargoContext.{DisembargoContext}
+use Rattle.cp_messages.specs.declared.disembargo.DisembargoContext.TheVariants as contexts
 use Rattle.cp_messages.specs.declared.message.Message.{Message}
 use Rattle.cp_messages.specs.declared.message.Message.TheVariants as messages
 use Rattle.cp_refs.specs.At.{cap_at}
@@ -111,7 +111,7 @@ abbrev pub find_ended : (k : Known) (n : ℕ) (o : Option Cap) → Finds beside 
 find_ended k n None = found (Err faults.UnknownEmbargo) refl
 find_ended k n (Some c) = found (Ok ([], ended_known k n c)) (ap (λ s. Ok ([], s)) (sym (ended_is k n c)))
 
-abbrev pub find_disembargo : (k : Known) (context : Context) (target : Target) → Finds beside (OnDisembargo (state k) context target)
+abbrev pub find_disembargo : (k : Known) (context : DisembargoContext) (target : Target) → Finds beside (OnDisembargo (state k) context target)
 find_disembargo k (contexts.SenderLoopback n) target = unless _ (known_target_faults k target) (target_faults_are k target) (find_target_echo k n target)
 find_disembargo k (contexts.ReceiverLoopback n) target = moved (λ o out. out ≡ ended_by (state k) n o) (get_is k.embargoes n) (find_ended k n (at k.embargoes n))
 find_disembargo k contexts.Accept target = lacks

@@ -26,7 +26,7 @@ use Rattle.cp_vat_machine.specs.State.{State, new_state, with_over, none_over}
 use Rattle.cp_vat_machine.specs.Trace.{Turn, own_part, goes, rests}
 use Rattle.cp_vat_machine.specs.Ports.{Port, answer_path, capability, absences, calls_of, PortRoute}
 use Rattle.cp_vat_machine.specs.Exits.{exits_of}
-use Rattle.cp_vat_machine.specs.Telling.{TellsItsGift}
+use Rattle.cp_vat_machine.specs.Telling.{TellsItsFulfillment}
 use Rattle.cp_vat_machine.specs.InOrder.{EachPair, EachTurn, ExitsByPorts, AtRest, InOrder, RunsInOrder}
 use Rattle.test_vat.specs.Rows.{bootstrap_answered, pipelined_waits, small_call, on_answer, small_request}
 use Rattle.test_vat.specs.OrderRows.{one_in_order}
@@ -34,7 +34,7 @@ use Rattle.test_vat.proofs.OneWaits.{given_0, returned_0, bootstrap_is, bootstra
 use Rattle.test_vat.proofs.OneWaits.{s_1, s_2, s_2', s_3, s_3', s_5, g_3, held_2, outcome_1, returned_1, export_0, kept_1_now, step_1, step_2, step_3, delivers_2, waits_is, pipelined_is}
 
 -- nothing is given where the vat rests
-pub rest_told : (s : State) → TellsItsGift (record { cause = rests; before = s; effects = []; after = with_over s none_over })
+pub rest_told : (s : State) → TellsItsFulfillment (record { cause = rests; before = s; effects = []; after = with_over s none_over })
 rest_told s = (None, refl, refl)
 
 abbrev pub bootstrap_turn : Turn
@@ -47,7 +47,7 @@ bootstrap_turn =
     }
 
 -- the bootstrap's answer names its export
-pub bootstrap_told : TellsItsGift bootstrap_turn
+pub bootstrap_told : TellsItsFulfillment bootstrap_turn
 bootstrap_told = (
   Some (record { origin = origins.Answer 0; outcome = bootstrap_outcome (Some 0) }),
   refl,
@@ -142,16 +142,16 @@ pub none_kept_2 : EachTurn (λ past turn. AtRest past turn turn.cause) past_2
 none_kept_2 = (rests_2, (tt, none_kept_1))
 
 -- and nothing is given
-call_told : TellsItsGift call_turn
+call_told : TellsItsFulfillment call_turn
 call_told = (None, rw (export_0) refl, refl)
 
-wait_told : TellsItsGift wait_turn
+wait_told : TellsItsFulfillment wait_turn
 wait_told = (None, rw (get-empty {X = Outcome} nat_cmp 2) refl, refl)
 
-told_1 : AllByRecursion TellsItsGift past_1
+told_1 : AllByRecursion TellsItsFulfillment past_1
 told_1 = (rest_told s_2, (call_told, (rest_told given_0, (bootstrap_told, tt))))
 
-pub told_2 : AllByRecursion TellsItsGift past_2
+pub told_2 : AllByRecursion TellsItsFulfillment past_2
 told_2 = (rest_told s_3, (wait_told, told_1))
 
 order_2 : InOrder past_2
@@ -193,14 +193,14 @@ rests_3 = all_of _ _ _ calls_2 (rw (get-empty {X = Outcome} nat_cmp 2) (inl refl
 exported_5 : get g_3.counts.exports 1 ≡ Some (record { count = 1; kept = caps.Object 5 })
 exported_5 = simp (get-insert {X = Counted Cap} nat_cmp_total) refl
 
-answer_told : TellsItsGift answer_turn
+answer_told : TellsItsFulfillment answer_turn
 answer_told = (
   Some (record { origin = origins.Answer 1; outcome = outcome_1 }),
   refl,
   rw (kept_1_now) (returned_1, refl, (descriptors.SenderHosted 1 ∷ [], refl, ((5, (1, exported_5), (0, refl)), tt))),
 )
 
-leave_told : TellsItsGift leave_turn
+leave_told : TellsItsFulfillment leave_turn
 leave_told = (None, refl, refl)
 
 order_3 : InOrder past_3

@@ -12,7 +12,7 @@ use Rattle.cp_refs.specs.declared.values.QuestionKind.{QuestionKind}
 use Rattle.cp_refs.specs.declared.values.QuestionKind.TheVariants as kinds
 use Rattle.cp_vat_machine.specs.Then.{fault_if, OrFull}
 use Rattle.cp_vat_machine.specs.Capacity.{has_ticket, cap_fits, request_fits}
-use Rattle.cp_vat_machine.specs.Go.{Underway, held_at}
+use Rattle.cp_vat_machine.specs.Go.{PendingCall, held_at}
 use Rattle.cp_vat_machine.specs.Calling.{Standing, plain, on_wire, came_to, import_reference, question_reference, reference_of, own_call, mark_of, with_mark, marked, has_mark_capacity, disembargo_of, FirstEmbargoed, GoBack, GoByValue, GoFrom, OwnDone, Opens, not_all, call_refusals, DoCall}
 use Rattle.cp_vat_machine.specs.declared.effect.Effect.{Effect}
 use Rattle.cp_vat_machine.specs.declared.event.Value.{Value}
@@ -119,10 +119,10 @@ asked_known k q kind ticket is_sent =
 abbrev pub called_known : Known → ℕ → QuestionKind → Known
 called_known k q kind = record (asked_known k q kind (Some k.next_ticket) false) { next_ticket = k.next_ticket + 1 }
 
-abbrev pub embargoed_known : Known → Underway → Cap → Cap → ℕ → Known
+abbrev pub embargoed_known : Known → PendingCall → Cap → Cap → ℕ → Known
 embargoed_known k call c value n = held_known (marked_known (record k { embargoes = (n, value) ∷ k.embargoes }) c (Some n)) call (gates.Embargo n)
 
-abbrev pub find_embargoed : (k : Known) (call : Underway) (c value : Cap) → Finds beside (FirstEmbargoed (state k) call c value)
+abbrev pub find_embargoed : (k : Known) (call : PendingCall) (c value : Cap) → Finds beside (FirstEmbargoed (state k) call c value)
 find_embargoed k call c value =
     follow
     _
@@ -134,7 +134,7 @@ find_embargoed k call c value =
     (λ s. Ok (disembargo_of n c ∷ [], held_at s call (gates.Embargo n)))
     (sym (marked_is (record k { embargoes = (n, value) ∷ k.embargoes }) c (Some n)))))
 
-abbrev pub find_back : (k : Known) (call : Underway) (c value : Cap) (o : Option (Option ℕ)) → Finds beside (GoBack (state k) call c value o)
+abbrev pub find_back : (k : Known) (call : PendingCall) (c value : Cap) (o : Option (Option ℕ)) → Finds beside (GoBack (state k) call c value o)
 find_back k call c value None = find_gone_to k call value
 find_back k call c value (Some None) = find_embargoed k call c value
 find_back k call c value (Some (Some n)) = find_gone k call (routes.Wait (gates.Embargo n))

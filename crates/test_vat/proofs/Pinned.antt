@@ -30,7 +30,7 @@ use Rattle.cp_vat_machine.specs.Capacity.{has_capacity}
 use Rattle.cp_vat_machine.specs.Writing.{Raise, counted, counted_out, opened, has_no_capacity, ResolvesTo, WritesEnd, WritesDescriptors}
 use Rattle.cp_vat_machine.specs.Doing.{DoAnswer, Quietly, answer_refusals}
 use Rattle.cp_vat_machine.specs.Give.{Give, SettleTied, given, GiveAnswer, GiveBy, return_of, returned_mentions}
-use Rattle.cp_vat_machine.specs.Go.{Underway, underway, without_call, Leave, NoneOver, Go, GoTo, held_at, delivered}
+use Rattle.cp_vat_machine.specs.Go.{PendingCall, underway, without_call, Leave, NoneOver, Go, GoTo, held_at, delivered}
 use Rattle.cp_vat_machine.specs.Answering.{with_answer, GoToAnswer, GoToTarget, peer_call, entered, call_faults, OnCall}
 use Rattle.test_vat.specs.OrderRows.{delivered_to}
 use Rattle.cp_messages.specs.declared.call.Call.{Call}
@@ -268,7 +268,7 @@ call_goes old q target done does =
     goes_by old q target done taken (ok_inj none) goes
 
 -- a call on an object is delivered to it
-pub delivers : (old : State) (call : Underway) (k : ℕ) (done : Done) → GoTo old call (caps.Object k) (Ok done)
+pub delivers : (old : State) (call : PendingCall) (k : ℕ) (done : Done) → GoTo old call (caps.Object k) (Ok done)
     → done ≡ (effects.Deliver k call.origin call.ticket call.request ∷ [], delivered old call.origin)
 delivers old call k done (route, is_route, goes) = ok_inj (by_route route (object_route old.values k route is_route) goes)
   where

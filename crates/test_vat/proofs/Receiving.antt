@@ -24,7 +24,7 @@ use Rattle.cp_vat_machine.specs.Then.{Then, fault_if, after}
 use Rattle.cp_vat_machine.specs.Capacity.{has_ticket}
 use Rattle.cp_vat_machine.specs.Receiving.{path_of}
 use Rattle.cp_vat_machine.specs.Give.{GiveAnswer}
-use Rattle.cp_vat_machine.specs.Go.{Underway, finish_of}
+use Rattle.cp_vat_machine.specs.Go.{PendingCall, finish_of}
 use Rattle.cp_vat_machine.specs.Answering.{bootstrap_outcome, OnBootstrap, target_faults, GoToExport, GoToAnswer, GoToTarget, peer_call, OnCall, without_answer, AtStage, FinishedBy, OnFinish}
 use Rattle.cp_vat_machine.specs.Asking.{ReceivesReturned, Settles, ReturnBy, is_asked, ReturnOf, OnReturn}
 use Rattle.cp_vat_machine.specs.declared.entry.AnswerEntry.{AnswerEntry}
@@ -64,16 +64,16 @@ target_faults_are k (targets.ImportedCap e) = λ i. fault_if (is_none (get_is k.
 target_faults_are k (targets.PromisedAnswer answer) = λ i. fault_if (is_none (answer_is k answer.question_id i)) faults.UnknownAnswer
 target_faults_are k (targets.Unknown n) = refl
 
-abbrev pub find_to_export : (k : Known) (call : Underway) (o : Option (Counted Cap)) → Finds beside (GoToExport (state k) call o)
+abbrev pub find_to_export : (k : Known) (call : PendingCall) (o : Option (Counted Cap)) → Finds beside (GoToExport (state k) call o)
 find_to_export k call None = lacks
 find_to_export k call (Some entry) = find_gone_to k call entry.kept
 
-abbrev pub find_to_answer : (k : Known) (call : Underway) (a : ℕ) (path : List ℕ) (o : Option (Option Outcome)) → Finds beside (GoToAnswer (state k) call a path o)
+abbrev pub find_to_answer : (k : Known) (call : PendingCall) (a : ℕ) (path : List ℕ) (o : Option (Option Outcome)) → Finds beside (GoToAnswer (state k) call a path o)
 find_to_answer k call a path None = lacks
 find_to_answer k call a path (Some None) = find_gone k call (routes.Wait (gates.Answer a path))
 find_to_answer k call a path (Some (Some outcome)) = find_gone_to k call (cap_at outcome path)
 
-abbrev pub find_to_target : (k : Known) (call : Underway) (target : Target) → Finds beside (GoToTarget (state k) call target)
+abbrev pub find_to_target : (k : Known) (call : PendingCall) (target : Target) → Finds beside (GoToTarget (state k) call target)
 find_to_target k call (targets.ImportedCap e) = moved (GoToExport (state k) call) (get_is k.exports e) (find_to_export k call (at k.exports e))
 find_to_target k call (targets.PromisedAnswer answer) =
     moved

@@ -18,7 +18,7 @@ use Rattle.cp_vat_machine.specs.Give.{return_of}
 use Rattle.cp_vat_machine.specs.Trace.{Turn, own_part, goes, rests}
 use Rattle.cp_vat_machine.specs.Ports.{answer_path, absences, calls_of, port_of, PortRoute}
 use Rattle.cp_vat_machine.specs.Exits.{exits_of}
-use Rattle.cp_vat_machine.specs.Telling.{TellsItsGift}
+use Rattle.cp_vat_machine.specs.Telling.{TellsItsFulfillment}
 use Rattle.cp_vat_machine.specs.InOrder.{Rises, has_left, ExitsByPorts, AtRest, InOrder, RunsInOrder}
 use Rattle.test_vat.specs.Rows.{small_call, on_answer}
 use Rattle.test_vat.specs.OrderRows.{IsOrderedUnless, other_way, delivered_to, two_in_order}
@@ -90,23 +90,23 @@ rests_4 =
     all_of _ _ _ calls_3 (inl (ap (λ exits. has_left exits 2) exits_4), (inl (ap (λ exits. has_left exits 1) exits_4), (inl (ap (λ exits. has_left exits 0) exits_4), tt)))
 
 -- the answer alone is told
-also_told : TellsItsGift also_turn
+also_told : TellsItsFulfillment also_turn
 also_told = (None, rw (get-empty {X = Outcome} nat_cmp 3) refl, refl)
 
 exported_5 : get g_4.counts.exports 1 ≡ Some (record { count = 1; kept = caps.Object 5 })
 exported_5 = simp (get-insert {X = Counted Cap} nat_cmp_total) refl
 
-answer_told : TellsItsGift answer_turn
+answer_told : TellsItsFulfillment answer_turn
 answer_told = (
   Some (record { origin = origins.Answer 1; outcome = outcome_1 }),
   refl,
   rw (kept_1_last) (returned_1, refl, (descriptors.SenderHosted 1 ∷ [], refl, ((5, (1, exported_5), (0, refl)), tt))),
 )
 
-first_told : TellsItsGift first_turn
+first_told : TellsItsFulfillment first_turn
 first_told = (None, refl, refl)
 
-second_told : TellsItsGift second_turn
+second_told : TellsItsFulfillment second_turn
 second_told = (None, refl, refl)
 
 -- their tickets rise

@@ -13,7 +13,7 @@ use Rattle.cp_vat_machine.specs.declared.effect.Effect.TheVariants as effects
 use Rattle.cp_vat_machine.specs.Trace.{Turn}
 use Rattle.cp_vat_machine.specs.Ports.{Port, calls_of, port_of, PortRoute}
 use Rattle.cp_vat_machine.specs.Exits.{exits_of}
-use Rattle.cp_vat_machine.specs.Telling.{Gift, TellsItsGift, GiftTold, AnswerTold, was_finished}
+use Rattle.cp_vat_machine.specs.Telling.{Fulfillment, TellsItsFulfillment, FulfillmentTold, AnswerTold, was_finished}
 use Rattle.cp_vat_machine.specs.InOrder.{has_left, OtherTicket, GoesByItsPort, LeftOrWaits, InOrder}
 use Rattle.test_vat.specs.Rows.{small_request}
 use Rattle.test_vat.specs.OrderRows.{IsOrderedUnless, one_in_order, going_twice, going_elsewhere, never_going, telling_nothing}
@@ -90,11 +90,11 @@ silent : (finished : Bool) (told : List Effect) → told ≡ [] → AnswerTold m
 silent true told none is = absurd (omega (arith, ap length (sym none ∙ is)))
 silent false told none (returned, is, bears) = absurd (omega (arith, ap length (sym none ∙ is)))
 
-not_mute : TellsItsGift mute_turn → ⊥
-not_mute (gift, gives, told) = by_gift gift gives told
+not_mute : TellsItsFulfillment mute_turn → ⊥
+not_mute (fulfillment, gives, told) = by_gift fulfillment gives told
   where
-    by_gift : (gift : Option Gift) → gift ≡ Some (record { origin = origins.Answer 1; outcome = outcome_1 }) → GiftTold mute_turn gift [] → ⊥
-    by_gift gift is told = silent (was_finished (get mute_turn.before.entries.answers 1)) [] refl (rw (is) at told)
+    by_gift : (fulfillment : Option Fulfillment) → fulfillment ≡ Some (record { origin = origins.Answer 1; outcome = outcome_1 }) → FulfillmentTold mute_turn fulfillment [] → ⊥
+    by_gift fulfillment is told = silent (was_finished (get mute_turn.before.entries.answers 1)) [] refl (rw (is) at told)
 
 pub tells : IsOrderedUnless one_in_order telling_nothing
 unfolding bootstrap_step step_1 step_2 step_3 delivers_2 pipelined_is

@@ -2,7 +2,7 @@
 use Rattle.std.specs.Prelude.{◌≡◌, ℕ, false, List, [], ◌∷◌, ◌++◌, map, Some}
 use Rattle.cp_tree.specs.Node.{cap}
 use Rattle.cp_messages.specs.declared.descriptor.Descriptor.TheVariants as descriptors
-use Rattle.cp_messages.specs.declared.disembargo.Context.TheVariants as contexts
+use Rattle.cp_messages.specs.declared.disembargo.DisembargoContext.TheVariants as contexts
 use Rattle.cp_messages.specs.declared.message.Message.{Message}
 use Rattle.cp_messages.specs.declared.target.Target.{Target}
 use Rattle.cp_refs.specs.declared.cap.Cap.{Cap}

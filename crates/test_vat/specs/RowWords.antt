@@ -4,7 +4,7 @@ use Rattle.cp_tree.specs.Node.{Node, cap, struct, no_nodes, node}
 use Rattle.cp_messages.specs.declared.call.SendResultsTo.TheVariants as results_to
 use Rattle.cp_messages.specs.declared.descriptor.Descriptor.{Descriptor}
 use Rattle.cp_messages.specs.declared.descriptor.Descriptor.TheVariants as descriptors
-use Rattle.cp_messages.specs.declared.disembargo.Context.{Context}
+use Rattle.cp_messages.specs.declared.disembargo.DisembargoContext.{DisembargoContext}
 use Rattle.cp_messages.specs.declared.exception.Exception.{Exception}
 use Rattle.cp_messages.specs.declared.message.Message.{Message}
 use Rattle.cp_messages.specs.declared.message.Message.TheVariants as messages
@@ -74,7 +74,7 @@ resolve_message p resolution = messages.Resolve (record { promise_id = p; resolu
 abbrev pub release_message : ℕ → ℕ → Message
 release_message id count = messages.Release (record { id = id; reference_count = count })
 
-abbrev pub disembargo_message : Target → Context → Message
+abbrev pub disembargo_message : Target → DisembargoContext → Message
 disembargo_message target context = messages.Disembargo (record { context = context; target = target })
 
 abbrev pub sends : Message → Effect

@@ -3,7 +3,7 @@
 use crate::Served;
 use directory::{WatcherAddedCall, WatcherServer};
 use jamdrosek::interfaces::{MethodResult, ServiceObject};
-use jamdrosek::server::Here;
+use jamdrosek::server::Context;
 use std::cell::RefCell;
 use std::rc::Rc;
 
@@ -18,7 +18,7 @@ impl ServiceObject for Counter {
 }
 
 impl WatcherServer for Counter {
-    fn added(&mut self, call: &mut WatcherAddedCall<'_>, _here: &mut Here<Served>) -> MethodResult {
+    fn added(&mut self, call: &mut WatcherAddedCall<'_>, _context: &mut Context<Served>) -> MethodResult {
         let _person = call.params.person()?;
         let mut count = self.count.try_borrow_mut()?;
         *count = count.saturating_add(1);

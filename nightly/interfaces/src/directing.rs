@@ -3,12 +3,12 @@
 use crate::Served;
 use crate::peer::{Calling, came};
 use directory::{
-    DirectoryAddParamsBuilder, DirectoryClient, DirectoryFindResultsPromise, FriendClient,
+    DirectoryAddParamsBuilder, DirectoryClient, DirectoryFindResultsPipeline, FriendClient,
     FriendGreetCall, FriendServer, PersonBuilder, WatcherClient,
 };
 use jamdrosek::client::Cap;
 use jamdrosek::interfaces::{MethodResult, ServiceObject};
-use jamdrosek::server::Here;
+use jamdrosek::server::Context;
 use std::alloc::Global;
 use std::io::{Read, Write};
 
@@ -21,11 +21,11 @@ impl ServiceObject for Echo {
 }
 
 impl FriendServer for Echo {
-    fn greet(&mut self, call: &mut FriendGreetCall<'_>, here: &mut Here<Served>) -> MethodResult {
-        let greeting = call.params.greeting()?.text(here.alloc())?;
+    fn greet(&mut self, call: &mut FriendGreetCall<'_>, context: &mut Context<Served>) -> MethodResult {
+        let greeting = call.params.greeting()?.text(context.alloc())?;
         let said = greeting.as_str();
-        let answer = format!(in here.alloc(); "{said}, {said}")?;
-        Ok(call.results.set_answer(here.alloc(), answer.as_str())?)
+        let answer = format!(in context.alloc(); "{said}, {said}")?;
+        Ok(call.results.set_answer(context.alloc(), answer.as_str())?)
     }
 }
 
@@ -102,7 +102,7 @@ impl<'a, R: Read + Drop, W: Write + Drop> Directing<'a, R, W> {
     }
 
     /// Asks for a person.
-    fn find(&mut self, name: &str) -> anyhow::Result<DirectoryFindResultsPromise> {
+    fn find(&mut self, name: &str) -> anyhow::Result<DirectoryFindResultsPipeline> {
         Ok(self.directory.find(self.client, name)?)
     }
 

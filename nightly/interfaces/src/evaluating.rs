@@ -7,7 +7,7 @@ use calculator::{
     ReckonerOperatorParamsBuilder, ReckonerReckonParamsBuilder, ValueClient,
 };
 use jamdrosek::client::Cap;
-use jamdrosek::interfaces::Table;
+use jamdrosek::interfaces::CapTableBuilder;
 use std::alloc::Global;
 use std::io::{Read, Write};
 
@@ -15,12 +15,12 @@ use std::io::{Read, Write};
 #[derive(Drop)]
 struct Maker {
     alloc: Global,
-    table: Table,
+    table: CapTableBuilder,
 }
 
 impl Maker {
     fn new(alloc: Global) -> Maker {
-        let table = Table::new(alloc);
+        let table = CapTableBuilder::new(alloc);
         Maker { alloc, table }
     }
 

@@ -1,10 +1,10 @@
 //! Functions: the operators, and one that the calculator hasn't.
 
 use crate::Served;
-use calculator::{FunctionCallCall, FunctionServant, FunctionServer, Operator};
+use calculator::{FunctionCallCall, FunctionDispatch, FunctionServer, Operator};
 use jamdrosek::fields::List;
 use jamdrosek::interfaces::{MethodFault, MethodResult, ServiceObject};
-use jamdrosek::server::{Any2, Here};
+use jamdrosek::server::{Either, Context};
 
 /// A function of two numbers, by what it is called with.
 #[derive(Clone, Copy)]
@@ -23,8 +23,8 @@ pub struct Function {
 impl Function {
     /// The function, to be served.
     pub fn of(binary: Binary) -> Served {
-        let function = FunctionServant::new(Function { binary });
-        Any2::Second(Any2::Second(Any2::First(function)))
+        let function = FunctionDispatch::new(Function { binary });
+        Either::Right(Either::Right(Either::Left(function)))
     }
 }
 
@@ -33,7 +33,7 @@ impl ServiceObject for Function {
 }
 
 impl FunctionServer for Function {
-    fn call(&mut self, call: &mut FunctionCallCall<'_>, _here: &mut Here<Served>) -> MethodResult {
+    fn call(&mut self, call: &mut FunctionCallCall<'_>, _context: &mut Context<Served>) -> MethodResult {
         let Some((first, second)) = two_of(call.params.params()?) else {
             return Err(MethodFault::Unimplemented);
         };

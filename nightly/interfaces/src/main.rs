@@ -13,14 +13,14 @@ mod reckoner;
 mod shelf;
 
 use anyhow::anyhow;
-use calculator::{FunctionServant, ReckonerServant};
+use calculator::{FunctionDispatch, ReckonerDispatch};
 use counter::Counter;
 use directing::{Directing, Echo};
-use directory::{DirectoryServant, FriendServant, WatcherServant};
+use directory::{DirectoryDispatch, FriendDispatch, WatcherDispatch};
 use evaluating::Evaluating;
 use functions::{Binary, Function};
 use jamdrosek::client::Client;
-use jamdrosek::server::{Any2, Family};
+use jamdrosek::server::{Either, Objects};
 use jamdrosek::{Limits, Mode};
 use peer::Calling;
 use reckoner::{Reckoner, new_reckoner};
@@ -34,11 +34,11 @@ use std::rc::Rc;
 use std::{env, fmt};
 
 /// Objects that are served from one end.
-type Own = Any2<ReckonerServant<Reckoner>, DirectoryServant<Shelf>>;
+type Own = Either<ReckonerDispatch<Reckoner>, DirectoryDispatch<Shelf>>;
 
 /// The objects of this program.
 pub type Served =
-    Any2<WatcherServant<Counter>, Any2<FriendServant<Echo>, Any2<FunctionServant<Function>, Own>>>;
+    Either<WatcherDispatch<Counter>, Either<FriendDispatch<Echo>, Either<FunctionDispatch<Function>, Own>>>;
 
 /// Prints what a trial came to.
 fn print<T: Display + Drop>(
@@ -89,20 +89,20 @@ fn direct<R: Read + Drop, W: Write + Drop>(
 }
 
 /// The objects of a client: a watcher, a friend and a function.
-fn new_objects(alloc: Global) -> anyhow::Result<Family<Served>> {
+fn new_objects(alloc: Global) -> anyhow::Result<Objects<Served>> {
     let count = Rc::new(alloc, RefCell::new(0_u64))?;
-    let mut objects = Family::new(alloc);
-    objects.add(Any2::First(WatcherServant::new(Counter { count })))?;
-    objects.add(Any2::Second(Any2::First(FriendServant::new(Echo {}))))?;
+    let mut objects = Objects::new(alloc);
+    objects.add(Either::Left(WatcherDispatch::new(Counter { count })))?;
+    objects.add(Either::Right(Either::Left(FriendDispatch::new(Echo {}))))?;
     objects.add(Function::of(Binary::Power))?;
     Ok(objects)
 }
 
 /// A directory, as object 0.
-fn new_directory(alloc: Global) -> anyhow::Result<Family<Served>> {
-    let shelf = DirectoryServant::new(Shelf::new(alloc));
-    let mut objects = Family::new(alloc);
-    objects.add(Any2::Second(Any2::Second(Any2::Second(Own::Second(shelf)))))?;
+fn new_directory(alloc: Global) -> anyhow::Result<Objects<Served>> {
+    let shelf = DirectoryDispatch::new(Shelf::new(alloc));
+    let mut objects = Objects::new(alloc);
+    objects.add(Either::Right(Either::Right(Either::Right(Own::Right(shelf)))))?;
     Ok(objects)
 }
 
@@ -114,7 +114,7 @@ fn call(rt: &HostRuntime, trial: &str, port: u16) -> anyhow::Result<()> {
     stream.set_nodelay(true)?;
     let (mode, limits) = (Mode::Plain, Limits::standard());
     let objects = new_objects(alloc)?;
-    let mut client = Client::with_family(alloc, &stream, &stream, mode, limits, objects);
+    let mut client = Client::with_objects(alloc, &stream, &stream, mode, limits, objects);
     let came = match trial {
         "calculator" => evaluate(rt, &mut client),
         _ => direct(rt, &mut client),
@@ -134,7 +134,7 @@ fn serve(rt: &HostRuntime, trial: &str, port: u16) -> anyhow::Result<()> {
         "reckoner" => new_reckoner(alloc)?,
         _ => new_directory(alloc)?,
     };
-    let mut client = Client::with_family(alloc, &stream, &stream, mode, limits, objects);
+    let mut client = Client::with_objects(alloc, &stream, &stream, mode, limits, objects);
     let served = client.serve();
     let _ = client.into_devices();
     Ok(served?)

@@ -5,11 +5,11 @@ use crate::counter::Counter;
 use crate::peer::Calling;
 use crate::{Served, new_directory};
 use directory::{
-    DirectoryAddParamsBuilder, DirectoryClient, DirectoryFindResultsPromise, PersonBuilder,
-    WatcherClient, WatcherServant,
+    DirectoryAddParamsBuilder, DirectoryClient, DirectoryFindResultsPipeline, PersonBuilder,
+    WatcherClient, WatcherDispatch,
 };
 use jamdrosek::client::{Cap, Client};
-use jamdrosek::server::{Any2, Family};
+use jamdrosek::server::{Either, Objects};
 use jamdrosek::session::{Session, SessionLimits, SessionOptions};
 use jamdrosek::{Limits, Mode};
 use std::alloc::Global;
@@ -31,10 +31,10 @@ fn new_client<'b>(
     from: &'b [u8],
     count: Rc<RefCell<u64>>,
 ) -> anyhow::Result<Calling<&'b [u8], Vec<u8>>> {
-    let mut objects: Family<Served> = Family::new(alloc);
-    objects.add(Any2::First(WatcherServant::new(Counter { count })))?;
+    let mut objects: Objects<Served> = Objects::new(alloc);
+    objects.add(Either::Left(WatcherDispatch::new(Counter { count })))?;
     let (mode, limits) = (Mode::Plain, Limits::standard());
-    Ok(Client::with_family(alloc, from, Vec::new(alloc), mode, limits, objects))
+    Ok(Client::with_objects(alloc, from, Vec::new(alloc), mode, limits, objects))
 }
 
 /// Adds a person.
@@ -56,7 +56,7 @@ fn add<R: Read + Drop, W: Write + Drop>(
 fn ask<R: Read + Drop, W: Write + Drop>(
     alloc: Global,
     client: &mut Calling<R, W>,
-) -> anyhow::Result<DirectoryFindResultsPromise> {
+) -> anyhow::Result<DirectoryFindResultsPipeline> {
     let directory = DirectoryClient::new(alloc, client.bootstrap()?.cap(alloc));
     directory.watch(client, WatcherClient::new(alloc, Cap::Object(0)))?;
     add(alloc, client, &directory)?;

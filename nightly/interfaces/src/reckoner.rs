@@ -5,13 +5,13 @@ use crate::functions::{Binary, Function};
 use calculator::{
     ExpressionMember, ExpressionReader, FunctionCallParamsBuilder, FunctionCallResultsReader,
     FunctionClient, Operator, ReckonerOperatorCall, ReckonerReckonCall, ReckonerReckonResultsBuilder,
-    ReckonerServant, ReckonerServer,
+    ReckonerDispatch, ReckonerServer,
 };
 use jamdrosek::client::{Cap, Outcome};
 use jamdrosek::interfaces::{
     LaterCall, MethodFault, MethodResult, ResultPayload, ServiceObject, failed, payload_of,
 };
-use jamdrosek::server::{Any2, Caps, Family, Here, Settled};
+use jamdrosek::server::{Either, Caps, Objects, Context, Settled};
 use std::alloc::Global;
 use std::collections::VecDeque;
 
@@ -31,7 +31,7 @@ enum Step {
 struct Job {
     call: LaterCall,
     /// By which what its functions give is told.
-    mark: u64,
+    call_id: u64,
     /// What is still to be done, the next at the end.
     steps: Vec<Step>,
     numbers: Vec<f64>,
@@ -47,14 +47,14 @@ pub struct Reckoner {
 }
 
 /// A reckoner, as object 0, and its operators.
-pub fn new_reckoner(alloc: Global) -> anyhow::Result<Family<Served>> {
-    let reckoner = ReckonerServant::new(Reckoner {
+pub fn new_reckoner(alloc: Global) -> anyhow::Result<Objects<Served>> {
+    let reckoner = ReckonerDispatch::new(Reckoner {
         jobs: Vec::new(alloc),
         settled: VecDeque::new(alloc),
         last: 0,
     });
-    let mut objects = Family::new(alloc);
-    objects.add(Any2::Second(Any2::Second(Any2::Second(Any2::First(reckoner)))))?;
+    let mut objects = Objects::new(alloc);
+    objects.add(Either::Right(Either::Right(Either::Right(Either::Left(reckoner)))))?;
     for number in 0..4 {
         objects.add(Function::of(Binary::Operator(Operator::of(number))))?;
     }
@@ -63,15 +63,15 @@ pub fn new_reckoner(alloc: Global) -> anyhow::Result<Family<Served>> {
 
 impl Reckoner {
     /// Does what is to be done for an expression until a function is called, or the last number is there.
-    fn go_on(&mut self, mut job: Job, here: &mut Here<Served>) -> MethodResult {
+    fn go_on(&mut self, mut job: Job, context: &mut Context<Served>) -> MethodResult {
         for _ in 0..PARTS {
             match job.steps.pop() {
                 Some(Step::Number(number)) => job.numbers.push(number)?,
-                Some(Step::Call(function, count)) => return self.call(job, &function, count, here),
-                None => return self.end(job, here),
+                Some(Step::Call(function, count)) => return self.call(job, &function, count, context),
+                None => return self.end(job, context),
             }
         }
-        self.fail(job, "too many steps", here)
+        self.fail(job, "too many steps", context)
     }
 
     /// Calls a function with the last numbers. The job waits for it.
@@ -80,52 +80,52 @@ impl Reckoner {
         mut job: Job,
         function: &FunctionClient,
         count: usize,
-        here: &mut Here<Served>,
+        context: &mut Context<Served>,
     ) -> MethodResult {
-        let mut numbers = Vec::new(here.alloc());
+        let mut numbers = Vec::new(context.alloc());
         for _ in 0..count {
             numbers.push(job.numbers.pop().unwrap_or(0.0))?;
         }
         numbers.reverse();
-        let mut params = FunctionCallParamsBuilder::new(here.alloc())?;
-        if params.set_params(here.alloc(), &numbers).is_err() {
-            return self.fail(job, "too many params", here);
+        let mut params = FunctionCallParamsBuilder::new(context.alloc())?;
+        if params.set_params(context.alloc(), &numbers).is_err() {
+            return self.fail(job, "too many params", context);
         }
         let request = function.call_request(params);
-        here.tell(function.target.ask(request, job.mark)?)?;
+        context.send(function.target.outgoing(request, job.call_id)?)?;
         self.jobs.push(job)?;
         Ok(())
     }
 
     /// Goes on with what a function gave.
-    fn came(&mut self, mut job: Job, came: &ResultPayload, here: &mut Here<Served>) -> MethodResult {
+    fn came(&mut self, mut job: Job, came: &ResultPayload, context: &mut Context<Served>) -> MethodResult {
         let Ok(body) = came.results() else {
-            return self.fail(job, "no number came", here);
+            return self.fail(job, "no number came", context);
         };
         job.numbers.push(FunctionCallResultsReader { body }.number())?;
-        self.go_on(job, here)
+        self.go_on(job, context)
     }
 
     /// Answers with the last number.
-    fn end(&mut self, mut job: Job, here: &mut Here<Served>) -> MethodResult {
-        let mut results = ReckonerReckonResultsBuilder::new(here.alloc())?;
+    fn end(&mut self, mut job: Job, context: &mut Context<Served>) -> MethodResult {
+        let mut results = ReckonerReckonResultsBuilder::new(context.alloc())?;
         results.set_number(job.numbers.pop().unwrap_or(0.0));
         self.settled
-            .push_back(job.call.answer(here.alloc(), results))?;
+            .push_back(job.call.answer(context.alloc(), results))?;
         Ok(())
     }
 
     /// Answers with an exception.
-    fn fail(&mut self, job: Job, reason: &str, here: &mut Here<Served>) -> MethodResult {
-        let fault = MethodFault::Fails(failed(here.alloc(), reason)?);
-        self.settled.push_back(job.call.fail(here.alloc(), fault)?)?;
+    fn fail(&mut self, job: Job, reason: &str, context: &mut Context<Served>) -> MethodResult {
+        let fault = MethodFault::Fails(failed(context.alloc(), reason)?);
+        self.settled.push_back(job.call.fail(context.alloc(), fault)?)?;
         Ok(())
     }
 
     /// Takes the job of this mark.
-    fn take(&mut self, mark: u64) -> Option<Job> {
+    fn take(&mut self, call_id: u64) -> Option<Job> {
         for at in 0..self.jobs.len() {
-            if self.jobs.get(at).is_some_and(|job| job.mark == mark) {
+            if self.jobs.get(at).is_some_and(|job| job.call_id == call_id) {
                 return Some(self.jobs.swap_remove(at));
             }
         }
@@ -164,52 +164,52 @@ fn steps_of(
 impl ServiceObject for Reckoner {
     type Makes = Served;
 
-    fn poll(&mut self, _here: &mut Here<Served>) -> Result<Option<Settled>, MethodFault> {
+    fn poll(&mut self, _context: &mut Context<Served>) -> Result<Option<Settled>, MethodFault> {
         Ok(self.settled.pop_front())
     }
 
-    fn again(&self) -> bool {
+    fn has_more(&self) -> bool {
         !self.settled.is_empty()
     }
 
-    fn told(&mut self, mark: u64, outcome: Outcome, here: &mut Here<Served>) -> MethodResult {
-        let Some(job) = self.take(mark) else {
+    fn on_response(&mut self, call_id: u64, outcome: Outcome, context: &mut Context<Served>) -> MethodResult {
+        let Some(job) = self.take(call_id) else {
             return Ok(());
         };
         match outcome {
             Outcome::Failed(exception) => {
                 let fault = MethodFault::Fails(exception);
-                self.settled.push_back(job.call.fail(here.alloc(), fault)?)?;
+                self.settled.push_back(job.call.fail(context.alloc(), fault)?)?;
                 Ok(())
             }
             other => match payload_of(other) {
-                Ok(came) => self.came(job, &came, here),
-                Err(_) => self.fail(job, "canceled", here),
+                Ok(came) => self.came(job, &came, context),
+                Err(_) => self.fail(job, "canceled", context),
             },
         }
     }
 }
 
 impl ReckonerServer for Reckoner {
-    fn reckon(&mut self, call: &mut ReckonerReckonCall<'_>, here: &mut Here<Served>) -> MethodResult {
-        let steps = steps_of(here.alloc(), call.params.expression()?, call.caps())?;
+    fn reckon(&mut self, call: &mut ReckonerReckonCall<'_>, context: &mut Context<Served>) -> MethodResult {
+        let steps = steps_of(context.alloc(), call.params.expression()?, call.caps())?;
         self.last = self.last.saturating_add(1);
         let job = Job {
             call: call.later()?,
-            mark: self.last,
+            call_id: self.last,
             steps,
-            numbers: Vec::new(here.alloc()),
+            numbers: Vec::new(context.alloc()),
         };
-        self.go_on(job, here)
+        self.go_on(job, context)
     }
 
     fn operator(
         &mut self,
         call: &mut ReckonerOperatorCall<'_>,
-        here: &mut Here<Served>,
+        context: &mut Context<Served>,
     ) -> MethodResult {
         let place = Cap::Object(u32::from(call.params.operator().number()).saturating_add(1));
-        let function = FunctionClient::new(here.alloc(), place);
+        let function = FunctionClient::new(context.alloc(), place);
         Ok(call.results.set_function(function)?)
     }
 }

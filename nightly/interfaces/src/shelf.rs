@@ -6,7 +6,7 @@ use directory::{
     NamedNameCall, NamedServer, PersonBuilder, WatcherAddedParamsBuilder, WatcherClient,
 };
 use jamdrosek::interfaces::{MethodFault, MethodResult, ServiceObject};
-use jamdrosek::server::Here;
+use jamdrosek::server::Context;
 use std::alloc::Global;
 
 /// A person on the shelf.
@@ -35,12 +35,12 @@ impl Shelf {
     }
 
     /// Tells each watcher of a person.
-    fn tell(&mut self, name: &str, age: u8, here: &mut Here<Served>) -> MethodResult {
+    fn tell(&mut self, name: &str, age: u8, context: &mut Context<Served>) -> MethodResult {
         for watcher in &self.watchers {
-            let mut params = WatcherAddedParamsBuilder::new(here.alloc())?;
-            params.set_person(built(here.alloc(), name, age)?);
+            let mut params = WatcherAddedParamsBuilder::new(context.alloc())?;
+            params.set_person(built(context.alloc(), name, age)?);
             let request = watcher.added_request(params);
-            here.tell(watcher.target.ask(request, 0)?)?;
+            context.send(watcher.target.outgoing(request, 0)?)?;
         }
         Ok(())
     }
@@ -59,17 +59,17 @@ impl ServiceObject for Shelf {
 }
 
 impl NamedServer for Shelf {
-    fn name(&mut self, call: &mut NamedNameCall<'_>, here: &mut Here<Served>) -> MethodResult {
-        Ok(call.results.set_name(here.alloc(), "the shelf")?)
+    fn name(&mut self, call: &mut NamedNameCall<'_>, context: &mut Context<Served>) -> MethodResult {
+        Ok(call.results.set_name(context.alloc(), "the shelf")?)
     }
 }
 
 impl DirectoryServer for Shelf {
-    fn find(&mut self, call: &mut DirectoryFindCall<'_>, here: &mut Here<Served>) -> MethodResult {
-        let name = call.params.name()?.text(here.alloc())?;
+    fn find(&mut self, call: &mut DirectoryFindCall<'_>, context: &mut Context<Served>) -> MethodResult {
+        let name = call.params.name()?.text(context.alloc())?;
         for each in &self.people {
             if each.name.as_str() == name.as_str() {
-                let mut person = built(here.alloc(), each.name.as_str(), each.age)?;
+                let mut person = built(context.alloc(), each.name.as_str(), each.age)?;
                 let target = each.friend.target.copy()?;
                 person.set_friend(&mut call.results.table, FriendClient { target })?;
                 call.results.set_person(person);
@@ -78,20 +78,20 @@ impl DirectoryServer for Shelf {
         Ok(())
     }
 
-    fn add(&mut self, call: &mut DirectoryAddCall<'_>, here: &mut Here<Served>) -> MethodResult {
+    fn add(&mut self, call: &mut DirectoryAddCall<'_>, context: &mut Context<Served>) -> MethodResult {
         let person = call.params.person()?;
-        let (name, age) = (person.name()?.text(here.alloc())?, person.age());
-        let friend = person.friend_client(here.alloc(), call.caps())?;
-        self.tell(name.as_str(), age, here)?;
-        call.keep(&friend.target, here)?;
+        let (name, age) = (person.name()?.text(context.alloc())?, person.age());
+        let friend = person.friend_client(context.alloc(), call.caps())?;
+        self.tell(name.as_str(), age, context)?;
+        call.keep(&friend.target, context)?;
         self.people.push(Person { name, age, friend })?;
         call.results.set_count(u32::try_from(self.people.len())?);
         Ok(())
     }
 
-    fn watch(&mut self, call: &mut DirectoryWatchCall<'_>, here: &mut Here<Served>) -> MethodResult {
-        let watcher = call.params.watcher_client(here.alloc(), call.caps())?;
-        call.keep(&watcher.target, here)?;
+    fn watch(&mut self, call: &mut DirectoryWatchCall<'_>, context: &mut Context<Served>) -> MethodResult {
+        let watcher = call.params.watcher_client(context.alloc(), call.caps())?;
+        call.keep(&watcher.target, context)?;
         self.watchers.push(watcher)?;
         Ok(())
     }

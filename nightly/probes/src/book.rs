@@ -1,7 +1,7 @@
 //! Reading an address book by the names of its schema.
 
-use addressbook::{AddressBookView, PersonPhoneNumberType, PersonView};
-use cp_fields::{Pointee, WrongKind};
+use addressbook::{AddressBookReader, PersonPhoneNumberType, PersonReader};
+use cp_fields::{PointerReader, WrongKind};
 use cp_frame::FrameReader;
 use cp_reading::View;
 use cp_words::{Limits, Segments};
@@ -29,24 +29,24 @@ fn read_turns(segments: &Segments, turns: u32, anew: bool) -> Option<u64> {
         let view = if anew {
             View::root(segments, Limits::standard()).ok()?
         } else {
-            view.again()
+            view.reborrow()
         };
-        sum = sum.wrapping_add(all_people(Pointee::of_view(view)).ok()?);
+        sum = sum.wrapping_add(all_people(PointerReader::of_view(view)).ok()?);
     }
     Some(sum)
 }
 
 /// What is read of all people of a book.
-fn all_people(root: Pointee<'_>) -> Result<u64, WrongKind> {
+fn all_people(root: PointerReader<'_>) -> Result<u64, WrongKind> {
     let mut sum = 0_u64;
-    for person in AddressBookView::of(root)?.people()? {
+    for person in AddressBookReader::of(root)?.people()? {
         sum = sum.wrapping_add(of_person(&person)?);
     }
     Ok(sum)
 }
 
 /// What is read of a person.
-fn of_person(person: &PersonView<'_>) -> Result<u64, WrongKind> {
+fn of_person(person: &PersonReader<'_>) -> Result<u64, WrongKind> {
     let mut sum = person.name()?.len() as u64;
     sum = sum.wrapping_add(person.email()?.len() as u64);
     for phone in person.phones()? {

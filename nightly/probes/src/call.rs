@@ -164,7 +164,7 @@ impl<'a> MemoryClient<'a> {
 
     /// Adds what was taken and sent in all, and why the vat closed.
     fn tell_all(&mut self) {
-        let tally = self.client.tally();
+        let tally = self.client.stats();
         let (bytes, messages, sent) = (tally.bytes, tally.messages, tally.sent);
         let line = match self.client.closed() {
             Some(reason) => format!(in self.alloc;

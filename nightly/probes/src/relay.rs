@@ -3,7 +3,7 @@
 use crate::fill::{Told, fill};
 use crate::serve::mode_of;
 use cp_frame::Mode;
-use cp_relay::{Everything, Output, Relay, RelayFault};
+use cp_relay::{AllowAll, Output, Relay, RelayFault};
 use cp_words::Limits;
 use std::alloc::Global;
 
@@ -40,9 +40,9 @@ fn pass(
     out: &mut Vec<u8>,
 ) -> Result<(), RelayFault> {
     let (front, back) = bytes.split_at(bytes.len().min(first.max(1)));
-    relay.feed(&mut Everything, front, out)?;
+    relay.feed(&mut AllowAll, front, out)?;
     for piece in back.chunks(piece.max(1)) {
-        relay.feed(&mut Everything, piece, out)?;
+        relay.feed(&mut AllowAll, piece, out)?;
     }
     relay.finish()
 }

@@ -3,4 +3,4 @@
 set -eu
 here=$(cd "$(dirname "${BASH_SOURCE[0]}")" && pwd)
 . "$here/../../../tools/crates.sh"
-build_beside "$1" "$here" serving "cp_refs cp_rpc cp_servants cp_vat_machine cp_makers net_host net_sockets anyhow"
+build_beside "$1" "$here" serving "cp_refs cp_rpc cp_servants cp_vat_machine cp_objects net_host net_sockets anyhow"

@@ -3,30 +3,30 @@
 ghost use Rattle.std.specs.Prelude.{◌≡◌, IfOk, OnOk, OnErr, Err, ◌↔◌, ◌≤◌, ◌^◌, length, ◌+◌, []};
 ghost use Rattle.cp_tree.specs.Seen.{pointee_of};
 ghost use Rattle.cp_fields.specs.Pointers.{Reads, cap_field, struct_field, text_field};
-ghost use Rattle.cp_builder.specs.declared.fault.DraftFault.TheVariants.{TooLong};
+ghost use Rattle.cp_builder.specs.declared.fault.BuildError.TheVariants.{TooLong};
 ghost use Rattle.cp_builder.specs.Drafts.{blank, text_tree, with_pointer};
 ghost use Rattle.cp_servants.specs.Naming.{pointer_naming, with_named};
-ghost use Rattle.cp_stubs.specs.Calls.{ask_of, request_of};
-ghost use Rattle.cp_stubs.specs.Promises.{Finds, promised_cap};
-ghost use Rattle.cp_services.specs.Calls.{Answers};
-ghost use Rattle.cp_services.specs.Calls.{MakesOf};
-ghost use Rattle.cp_services.specs.Services.{At, at};
+ghost use Rattle.cp_interfaces.specs.Calls.{outgoing_call_of, request_of};
+ghost use Rattle.cp_interfaces.specs.Promises.{Finds, promised_cap};
+ghost use Rattle.cp_interface_objects.specs.Calls.{Answers};
+ghost use Rattle.cp_interface_objects.specs.Calls.{MakesOf};
+ghost use Rattle.cp_interface_objects.specs.Services.{At, at};
 ghost use Rattle.chat.specs.Chat.{ChatKind, ChatTakes, any_chat};
 
 use crate::listener::ListenerClient;
 use crate::member_::MemberClient;
-use cp_builder::{DraftFault, StructDraft};
-use cp_fields::{StructView, TextView, WrongKind};
-use cp_makers::Here;
+use cp_builder::{BuildError, StructBuilder};
+use cp_fields::{StructReader, TextReader, WrongKind};
+use cp_interface_objects::{
+    Dispatch, MethodResult, ObjectDispatch, ServiceCall, ServiceObject, TypedResolver,
+};
+use cp_interfaces::{
+    CallTarget, Caller, CapFault, CapTableBuilder, MethodCall, MethodFault, Pipeline,
+    ResultPayload, Results, TypedClient, refuse,
+};
+use cp_objects::Context;
 use cp_refs::{Cap, Caps, Request};
-use cp_servants::{Ask, Reply};
-use cp_services::{
-    Dispatch, MethodResult, ServedObject, ServiceCall, ServiceObject, TypedResolver,
-};
-use cp_stubs::{
-    CallTarget, Caller, CapFault, MethodCall, MethodFault, Promised, ResultPayload, Results, Table,
-    TypedClient, refuse,
-};
+use cp_servants::{OutgoingCall, Reply};
 use cp_tree::Whole;
 use std::alloc::{AllocError, Global};
 
@@ -51,11 +51,11 @@ impl ChatClient {
     }
 
     /// A call of `join @0`.
-    pub fn join_request(&self, name: &str, listener: ListenerClient) -> Result<Request, DraftFault>
+    pub fn join_request(&self, name: &str, listener: ListenerClient) -> Result<Request, BuildError>
         ensures { IfOk result (λ r. r ≡ request_of 0x9be749cc343d65aa 0 (with_pointer (with_pointer (blank 0 2) 0 (text_tree name.now)) 1 (pointer_naming [] listener.target)) (with_named [] listener.target)) }
     {
-        let mut params: StructDraft<0, 2> = StructDraft::new(self.target.alloc())?;
-        let mut table = Table::new(self.target.alloc());
+        let mut params: StructBuilder<0, 2> = StructBuilder::new(self.target.alloc())?;
+        let mut table = CapTableBuilder::new(self.target.alloc());
         params.set_pointer(0, cp_builder::text_of(self.target.alloc(), name)?);
         params.set_pointer(1, table.add(listener.target.into_cap())?);
         let content = params.into_whole();
@@ -71,23 +71,26 @@ impl ChatClient {
         caller: &mut C,
         name: &str,
         listener: ListenerClient,
-    ) -> Result<ChatJoinResultsPromise, C::Fault>
-        ensures { MakesOf (λ p. p.at) C.asks caller.old self.now.target 0x9be749cc343d65aa 0 (with_pointer (with_pointer (blank 0 2) 0 (text_tree name.now)) 1 (pointer_naming [] listener.target)) (with_named [] listener.target) result caller.new }
+    ) -> Result<ChatJoinResultsPipeline, C::Fault>
+        ensures { MakesOf (λ p. p.at) C.sends caller.old self.now.target 0x9be749cc343d65aa 0 (with_pointer (with_pointer (blank 0 2) 0 (text_tree name.now)) 1 (pointer_naming [] listener.target)) (with_named [] listener.target) result caller.new }
     {
         let request = self.join_request(name, listener)?;
-        Ok(ChatJoinResultsPromise::of(self.target.call(caller, request)?))
+        Ok(ChatJoinResultsPipeline::of(self.target.call(caller, request)?))
     }
 
     /// A call of `join` that an object makes. With the mark the object is told what it came to.
-    pub fn join_ask(
+    pub fn join_call(
         &self,
         name: &str,
         listener: ListenerClient,
-        mark: u64,
-    ) -> Result<Ask, DraftFault>
-        ensures { IfOk result (λ ask. ask ≡ ask_of self.now.target (request_of 0x9be749cc343d65aa 0 (with_pointer (with_pointer (blank 0 2) 0 (text_tree name.now)) 1 (pointer_naming [] listener.target)) (with_named [] listener.target)) mark) }
+        call_id: u64,
+    ) -> Result<OutgoingCall, BuildError>
+        ensures { IfOk result (λ call. call ≡ outgoing_call_of self.now.target (request_of 0x9be749cc343d65aa 0 (with_pointer (with_pointer (blank 0 2) 0 (text_tree name.now)) 1 (pointer_naming [] listener.target)) (with_named [] listener.target)) call_id) }
     {
-        Ok(self.target.ask(self.join_request(name, listener)?, mark)?)
+        Ok(
+            self.target
+                .outgoing(self.join_request(name, listener)?, call_id)?,
+        )
     }
 }
 
@@ -112,12 +115,16 @@ pub trait ChatServer: ServiceObject {
     ghost chat_kind: { ChatKind (At Self Self.Makes) } = { any_chat };
 
     /// Makes a member, whose listener hears all that is said from now on. Who drops it has left.
-    fn join(&mut self, call: &mut ChatJoinCall<'_>, here: &mut Here<Self::Makes>) -> MethodResult
-        ensures { Answers (λ p. p.body) (λ d. d.body) (λ d. d.table) chat_kind.on_join (at self.old here.old) call.old call.new result (at self.new here.new) };
+    fn join(
+        &mut self,
+        call: &mut ChatJoinCall<'_>,
+        context: &mut Context<Self::Makes>,
+    ) -> MethodResult
+        ensures { Answers (λ p. p.body) (λ d. d.body) (λ d. d.table) chat_kind.on_join (at self.old context.old) call.old call.new result (at self.new context.new) };
 }
 
 /// An object of `interface Chat`, as a connection serves it.
-pub type ChatServant<T> = ServedObject<T, ChatClient>;
+pub type ChatDispatch<T> = ObjectDispatch<T, ChatClient>;
 
 /// Resolves a promise of an object of `interface Chat`: one that is named before it is there.
 pub type ChatResolver = TypedResolver<ChatClient>;
@@ -128,20 +135,20 @@ impl<T: ChatServer> Dispatch<T> for ChatClient {
     fn dispatch(
         object: &mut T,
         call: &MethodCall,
-        here: &mut Here<T::Makes>,
+        context: &mut Context<T::Makes>,
     ) -> Result<Reply, AllocError> {
         match (call.request.interface, call.request.method, call.params()) {
             (0x9be749cc343d65aa, 0, Ok(body)) => {
-                let results = ChatJoinResultsBuilder::new(here.alloc())?;
+                let results = ChatJoinResultsBuilder::new(context.alloc())?;
                 let params = ChatJoinParamsReader { body };
-                let mut passed = ServiceCall::new(here.alloc(), call, params, results);
-                let done = ChatServer::join(object, &mut passed, here);
+                let mut passed = ServiceCall::new(context.alloc(), call, params, results);
+                let done = ChatServer::join(object, &mut passed, context);
                 passed.reply(call, done)
             }
             (0x9be749cc343d65aa, 0, Err(fault)) => {
-                refuse(here.alloc(), call, MethodFault::WrongKind(fault))
+                refuse(context.alloc(), call, MethodFault::WrongKind(fault))
             }
-            _ => refuse(here.alloc(), call, MethodFault::Unimplemented),
+            _ => refuse(context.alloc(), call, MethodFault::Unimplemented),
         }
     }
 }
@@ -150,12 +157,12 @@ impl<T: ChatServer> Dispatch<T> for ChatClient {
 #[derive(Drop)]
 pub struct ChatJoinParamsReader<'a> {
     /// The struct, by the places of its fields.
-    pub body: StructView<'a>,
+    pub body: StructReader<'a>,
 }
 
 impl<'a> ChatJoinParamsReader<'a> {
     /// `name @0`.
-    pub fn name(&self) -> Result<TextView<'a>, WrongKind>
+    pub fn name(&self) -> Result<TextReader<'a>, WrongKind>
         ensures { result ≡ text_field [] (pointee_of self.now.body 0) }
     {
         self.body.text(0)
@@ -183,7 +190,7 @@ impl<'a> ChatJoinParamsReader<'a> {
 #[derive(Drop)]
 pub struct ChatJoinResultsReader<'a> {
     /// The struct, by the places of its fields.
-    pub body: StructView<'a>,
+    pub body: StructReader<'a>,
 }
 
 impl<'a> ChatJoinResultsReader<'a> {
@@ -209,9 +216,9 @@ impl<'a> ChatJoinResultsReader<'a> {
 #[derive(Drop)]
 pub struct ChatJoinResultsBuilder {
     /// The struct, by the places of its fields.
-    pub body: StructDraft<0, 1>,
+    pub body: StructBuilder<0, 1>,
     /// The capabilities that it names.
-    pub table: Table,
+    pub table: CapTableBuilder,
 }
 
 impl ChatJoinResultsBuilder {
@@ -221,13 +228,13 @@ impl ChatJoinResultsBuilder {
         ensures names { IfOk result (λ d. d.table ≡ []) }
     {
         Ok(ChatJoinResultsBuilder {
-            body: StructDraft::new(alloc)?,
-            table: Table::new(alloc),
+            body: StructBuilder::new(alloc)?,
+            table: CapTableBuilder::new(alloc),
         })
     }
 
     /// Sets `member`.
-    pub fn set_member(&mut self, value: MemberClient) -> Result<(), DraftFault>
+    pub fn set_member(&mut self, value: MemberClient) -> Result<(), BuildError>
         ensures set { OnOk result (self.new.body ≡ with_pointer self.old.body 0 (pointer_naming self.old.table value.target)) }
         ensures added { OnOk result (self.new.table ≡ with_named self.old.table value.target) }
         ensures left { OnErr result (self.new ≡ self.old) }
@@ -244,7 +251,7 @@ impl Results for ChatJoinResultsBuilder {
 
     ghost names = { λ d. d.table };
 
-    fn into_parts(self, alloc: Global) -> (Whole, Table) {
+    fn into_parts(self, alloc: Global) -> (Whole, CapTableBuilder) {
         let _ = alloc;
         (self.body.into_whole(), self.table)
     }
@@ -252,17 +259,17 @@ impl Results for ChatJoinResultsBuilder {
 
 /// `struct Chat.join$Results`, as a question will give it.
 #[derive(Drop)]
-pub struct ChatJoinResultsPromise {
+pub struct ChatJoinResultsPipeline {
     /// The question, and the path to the struct.
-    pub at: Promised,
+    pub at: Pipeline,
 }
 
-impl ChatJoinResultsPromise {
+impl ChatJoinResultsPipeline {
     /// What is promised there.
-    pub fn of(at: Promised) -> ChatJoinResultsPromise
+    pub fn of(at: Pipeline) -> ChatJoinResultsPipeline
         ensures { result.at ≡ at }
     {
-        ChatJoinResultsPromise { at }
+        ChatJoinResultsPipeline { at }
     }
 
     /// The number of the question, whose outcome can be waited for.

@@ -6,15 +6,15 @@ mod listener;
 mod member_;
 
 pub use chat::{
-    ChatClient, ChatJoinCall, ChatJoinParamsReader, ChatJoinResultsBuilder, ChatJoinResultsPromise,
-    ChatJoinResultsReader, ChatResolver, ChatServant, ChatServer,
+    ChatClient, ChatDispatch, ChatJoinCall, ChatJoinParamsReader, ChatJoinResultsBuilder,
+    ChatJoinResultsPipeline, ChatJoinResultsReader, ChatResolver, ChatServer,
 };
 pub use listener::{
-    ListenerClient, ListenerHeardCall, ListenerHeardParamsReader, ListenerHeardResultsBuilder,
-    ListenerHeardResultsPromise, ListenerHeardResultsReader, ListenerResolver, ListenerServant,
-    ListenerServer,
+    ListenerClient, ListenerDispatch, ListenerHeardCall, ListenerHeardParamsReader,
+    ListenerHeardResultsBuilder, ListenerHeardResultsPipeline, ListenerHeardResultsReader,
+    ListenerResolver, ListenerServer,
 };
 pub use member_::{
-    MemberClient, MemberResolver, MemberSayCall, MemberSayParamsReader, MemberSayResultsBuilder,
-    MemberSayResultsPromise, MemberSayResultsReader, MemberServant, MemberServer,
+    MemberClient, MemberDispatch, MemberResolver, MemberSayCall, MemberSayParamsReader,
+    MemberSayResultsBuilder, MemberSayResultsPipeline, MemberSayResultsReader, MemberServer,
 };

@@ -4,24 +4,24 @@ ghost use Rattle.std.specs.Prelude.{◌≡◌, IfOk, []};
 ghost use Rattle.cp_tree.specs.Seen.{pointee_of};
 ghost use Rattle.cp_fields.specs.Pointers.{text_field};
 ghost use Rattle.cp_builder.specs.Drafts.{blank, text_tree, with_pointer};
-ghost use Rattle.cp_stubs.specs.Calls.{ask_of, request_of};
-ghost use Rattle.cp_services.specs.Calls.{Answers};
-ghost use Rattle.cp_services.specs.Calls.{MakesOf};
-ghost use Rattle.cp_services.specs.Services.{At, at};
+ghost use Rattle.cp_interfaces.specs.Calls.{outgoing_call_of, request_of};
+ghost use Rattle.cp_interface_objects.specs.Calls.{Answers};
+ghost use Rattle.cp_interface_objects.specs.Calls.{MakesOf};
+ghost use Rattle.cp_interface_objects.specs.Services.{At, at};
 ghost use Rattle.chat.specs.Listener.{ListenerKind, ListenerTakes, any_listener};
 
-use cp_builder::{DraftFault, StructDraft};
-use cp_fields::{StructView, TextView, WrongKind};
-use cp_makers::Here;
-use cp_refs::{Cap, Request};
-use cp_servants::{Ask, Reply};
-use cp_services::{
-    Dispatch, MethodResult, ServedObject, ServiceCall, ServiceObject, TypedResolver,
+use cp_builder::{BuildError, StructBuilder};
+use cp_fields::{StructReader, TextReader, WrongKind};
+use cp_interface_objects::{
+    Dispatch, MethodResult, ObjectDispatch, ServiceCall, ServiceObject, TypedResolver,
 };
-use cp_stubs::{
-    CallTarget, Caller, MethodCall, MethodFault, NoFieldsBuilder, NoFieldsPromise, NoFieldsReader,
+use cp_interfaces::{
+    CallTarget, Caller, MethodCall, MethodFault, NoFieldsBuilder, NoFieldsPipeline, NoFieldsReader,
     TypedClient, refuse,
 };
+use cp_objects::Context;
+use cp_refs::{Cap, Request};
+use cp_servants::{OutgoingCall, Reply};
 use std::alloc::{AllocError, Global};
 
 /// `interface Listener`.
@@ -45,10 +45,10 @@ impl ListenerClient {
     }
 
     /// A call of `heard @0`.
-    pub fn heard_request(&self, name: &str, text: &str) -> Result<Request, DraftFault>
+    pub fn heard_request(&self, name: &str, text: &str) -> Result<Request, BuildError>
         ensures { IfOk result (λ r. r ≡ request_of 0xba75a021af22dd5e 0 (with_pointer (with_pointer (blank 0 2) 0 (text_tree name.now)) 1 (text_tree text.now)) []) }
     {
-        let mut params: StructDraft<0, 2> = StructDraft::new(self.target.alloc())?;
+        let mut params: StructBuilder<0, 2> = StructBuilder::new(self.target.alloc())?;
         params.set_pointer(0, cp_builder::text_of(self.target.alloc(), name)?);
         params.set_pointer(1, cp_builder::text_of(self.target.alloc(), text)?);
         let content = params.into_whole();
@@ -61,18 +61,26 @@ impl ListenerClient {
         caller: &mut C,
         name: &str,
         text: &str,
-    ) -> Result<ListenerHeardResultsPromise, C::Fault>
-        ensures { MakesOf (λ p. p.at) C.asks caller.old self.now.target 0xba75a021af22dd5e 0 (with_pointer (with_pointer (blank 0 2) 0 (text_tree name.now)) 1 (text_tree text.now)) [] result caller.new }
+    ) -> Result<ListenerHeardResultsPipeline, C::Fault>
+        ensures { MakesOf (λ p. p.at) C.sends caller.old self.now.target 0xba75a021af22dd5e 0 (with_pointer (with_pointer (blank 0 2) 0 (text_tree name.now)) 1 (text_tree text.now)) [] result caller.new }
     {
         let request = self.heard_request(name, text)?;
-        Ok(ListenerHeardResultsPromise::of(self.target.call(caller, request)?))
+        Ok(ListenerHeardResultsPipeline::of(self.target.call(caller, request)?))
     }
 
     /// A call of `heard` that an object makes. With the mark the object is told what it came to.
-    pub fn heard_ask(&self, name: &str, text: &str, mark: u64) -> Result<Ask, DraftFault>
-        ensures { IfOk result (λ ask. ask ≡ ask_of self.now.target (request_of 0xba75a021af22dd5e 0 (with_pointer (with_pointer (blank 0 2) 0 (text_tree name.now)) 1 (text_tree text.now)) []) mark) }
+    pub fn heard_call(
+        &self,
+        name: &str,
+        text: &str,
+        call_id: u64,
+    ) -> Result<OutgoingCall, BuildError>
+        ensures { IfOk result (λ call. call ≡ outgoing_call_of self.now.target (request_of 0xba75a021af22dd5e 0 (with_pointer (with_pointer (blank 0 2) 0 (text_tree name.now)) 1 (text_tree text.now)) []) call_id) }
     {
-        Ok(self.target.ask(self.heard_request(name, text)?, mark)?)
+        Ok(
+            self.target
+                .outgoing(self.heard_request(name, text)?, call_id)?,
+        )
     }
 }
 
@@ -104,13 +112,13 @@ pub trait ListenerServer: ServiceObject {
     fn heard(
         &mut self,
         call: &mut ListenerHeardCall<'_>,
-        here: &mut Here<Self::Makes>,
+        context: &mut Context<Self::Makes>,
     ) -> MethodResult
-        ensures { Answers (λ p. p.body) (λ d. d.body) (λ d. []) listener_kind.on_heard (at self.old here.old) call.old call.new result (at self.new here.new) };
+        ensures { Answers (λ p. p.body) (λ d. d.body) (λ d. []) listener_kind.on_heard (at self.old context.old) call.old call.new result (at self.new context.new) };
 }
 
 /// An object of `interface Listener`, as a connection serves it.
-pub type ListenerServant<T> = ServedObject<T, ListenerClient>;
+pub type ListenerDispatch<T> = ObjectDispatch<T, ListenerClient>;
 
 /// Resolves a promise of an object of `interface Listener`: one that is named before it is there.
 pub type ListenerResolver = TypedResolver<ListenerClient>;
@@ -121,20 +129,20 @@ impl<T: ListenerServer> Dispatch<T> for ListenerClient {
     fn dispatch(
         object: &mut T,
         call: &MethodCall,
-        here: &mut Here<T::Makes>,
+        context: &mut Context<T::Makes>,
     ) -> Result<Reply, AllocError> {
         match (call.request.interface, call.request.method, call.params()) {
             (0xba75a021af22dd5e, 0, Ok(body)) => {
-                let results = ListenerHeardResultsBuilder::new(here.alloc())?;
+                let results = ListenerHeardResultsBuilder::new(context.alloc())?;
                 let params = ListenerHeardParamsReader { body };
-                let mut passed = ServiceCall::new(here.alloc(), call, params, results);
-                let done = ListenerServer::heard(object, &mut passed, here);
+                let mut passed = ServiceCall::new(context.alloc(), call, params, results);
+                let done = ListenerServer::heard(object, &mut passed, context);
                 passed.reply(call, done)
             }
             (0xba75a021af22dd5e, 0, Err(fault)) => {
-                refuse(here.alloc(), call, MethodFault::WrongKind(fault))
+                refuse(context.alloc(), call, MethodFault::WrongKind(fault))
             }
-            _ => refuse(here.alloc(), call, MethodFault::Unimplemented),
+            _ => refuse(context.alloc(), call, MethodFault::Unimplemented),
         }
     }
 }
@@ -143,19 +151,19 @@ impl<T: ListenerServer> Dispatch<T> for ListenerClient {
 #[derive(Drop)]
 pub struct ListenerHeardParamsReader<'a> {
     /// The struct, by the places of its fields.
-    pub body: StructView<'a>,
+    pub body: StructReader<'a>,
 }
 
 impl<'a> ListenerHeardParamsReader<'a> {
     /// `name @0`.
-    pub fn name(&self) -> Result<TextView<'a>, WrongKind>
+    pub fn name(&self) -> Result<TextReader<'a>, WrongKind>
         ensures { result ≡ text_field [] (pointee_of self.now.body 0) }
     {
         self.body.text(0)
     }
 
     /// `text @1`.
-    pub fn text(&self) -> Result<TextView<'a>, WrongKind>
+    pub fn text(&self) -> Result<TextReader<'a>, WrongKind>
         ensures { result ≡ text_field [] (pointee_of self.now.body 1) }
     {
         self.body.text(1)
@@ -169,4 +177,4 @@ pub type ListenerHeardResultsReader<'a> = NoFieldsReader<'a>;
 pub type ListenerHeardResultsBuilder = NoFieldsBuilder;
 
 /// `struct Listener.heard$Results`, as a question will give it.
-pub type ListenerHeardResultsPromise = NoFieldsPromise;
+pub type ListenerHeardResultsPipeline = NoFieldsPipeline;

@@ -4,24 +4,24 @@ ghost use Rattle.std.specs.Prelude.{◌≡◌, IfOk, []};
 ghost use Rattle.cp_tree.specs.Seen.{pointee_of};
 ghost use Rattle.cp_fields.specs.Pointers.{text_field};
 ghost use Rattle.cp_builder.specs.Drafts.{blank, text_tree, with_pointer};
-ghost use Rattle.cp_stubs.specs.Calls.{ask_of, request_of};
-ghost use Rattle.cp_services.specs.Calls.{Answers};
-ghost use Rattle.cp_services.specs.Calls.{MakesOf};
-ghost use Rattle.cp_services.specs.Services.{At, at};
+ghost use Rattle.cp_interfaces.specs.Calls.{outgoing_call_of, request_of};
+ghost use Rattle.cp_interface_objects.specs.Calls.{Answers};
+ghost use Rattle.cp_interface_objects.specs.Calls.{MakesOf};
+ghost use Rattle.cp_interface_objects.specs.Services.{At, at};
 ghost use Rattle.chat.specs.Member_.{MemberKind, MemberTakes, any_member};
 
-use cp_builder::{DraftFault, StructDraft};
-use cp_fields::{StructView, TextView, WrongKind};
-use cp_makers::Here;
-use cp_refs::{Cap, Request};
-use cp_servants::{Ask, Reply};
-use cp_services::{
-    Dispatch, MethodResult, ServedObject, ServiceCall, ServiceObject, TypedResolver,
+use cp_builder::{BuildError, StructBuilder};
+use cp_fields::{StructReader, TextReader, WrongKind};
+use cp_interface_objects::{
+    Dispatch, MethodResult, ObjectDispatch, ServiceCall, ServiceObject, TypedResolver,
 };
-use cp_stubs::{
-    CallTarget, Caller, MethodCall, MethodFault, NoFieldsBuilder, NoFieldsPromise, NoFieldsReader,
+use cp_interfaces::{
+    CallTarget, Caller, MethodCall, MethodFault, NoFieldsBuilder, NoFieldsPipeline, NoFieldsReader,
     TypedClient, refuse,
 };
+use cp_objects::Context;
+use cp_refs::{Cap, Request};
+use cp_servants::{OutgoingCall, Reply};
 use std::alloc::{AllocError, Global};
 
 /// `interface Member`.
@@ -45,10 +45,10 @@ impl MemberClient {
     }
 
     /// A call of `say @0`.
-    pub fn say_request(&self, text: &str) -> Result<Request, DraftFault>
+    pub fn say_request(&self, text: &str) -> Result<Request, BuildError>
         ensures { IfOk result (λ r. r ≡ request_of 0xe5edd802c7f5c6ea 0 (with_pointer (blank 0 1) 0 (text_tree text.now)) []) }
     {
-        let mut params: StructDraft<0, 1> = StructDraft::new(self.target.alloc())?;
+        let mut params: StructBuilder<0, 1> = StructBuilder::new(self.target.alloc())?;
         params.set_pointer(0, cp_builder::text_of(self.target.alloc(), text)?);
         let content = params.into_whole();
         Ok(self.target.request(0xe5edd802c7f5c6ea, 0, content))
@@ -59,18 +59,18 @@ impl MemberClient {
         &self,
         caller: &mut C,
         text: &str,
-    ) -> Result<MemberSayResultsPromise, C::Fault>
-        ensures { MakesOf (λ p. p.at) C.asks caller.old self.now.target 0xe5edd802c7f5c6ea 0 (with_pointer (blank 0 1) 0 (text_tree text.now)) [] result caller.new }
+    ) -> Result<MemberSayResultsPipeline, C::Fault>
+        ensures { MakesOf (λ p. p.at) C.sends caller.old self.now.target 0xe5edd802c7f5c6ea 0 (with_pointer (blank 0 1) 0 (text_tree text.now)) [] result caller.new }
     {
         let request = self.say_request(text)?;
-        Ok(MemberSayResultsPromise::of(self.target.call(caller, request)?))
+        Ok(MemberSayResultsPipeline::of(self.target.call(caller, request)?))
     }
 
     /// A call of `say` that an object makes. With the mark the object is told what it came to.
-    pub fn say_ask(&self, text: &str, mark: u64) -> Result<Ask, DraftFault>
-        ensures { IfOk result (λ ask. ask ≡ ask_of self.now.target (request_of 0xe5edd802c7f5c6ea 0 (with_pointer (blank 0 1) 0 (text_tree text.now)) []) mark) }
+    pub fn say_call(&self, text: &str, call_id: u64) -> Result<OutgoingCall, BuildError>
+        ensures { IfOk result (λ call. call ≡ outgoing_call_of self.now.target (request_of 0xe5edd802c7f5c6ea 0 (with_pointer (blank 0 1) 0 (text_tree text.now)) []) call_id) }
     {
-        Ok(self.target.ask(self.say_request(text)?, mark)?)
+        Ok(self.target.outgoing(self.say_request(text)?, call_id)?)
     }
 }
 
@@ -95,12 +95,16 @@ pub trait MemberServer: ServiceObject {
     ghost member_kind: { MemberKind (At Self Self.Makes) } = { any_member };
 
     /// Says this to all members.
-    fn say(&mut self, call: &mut MemberSayCall<'_>, here: &mut Here<Self::Makes>) -> MethodResult
-        ensures { Answers (λ p. p.body) (λ d. d.body) (λ d. []) member_kind.on_say (at self.old here.old) call.old call.new result (at self.new here.new) };
+    fn say(
+        &mut self,
+        call: &mut MemberSayCall<'_>,
+        context: &mut Context<Self::Makes>,
+    ) -> MethodResult
+        ensures { Answers (λ p. p.body) (λ d. d.body) (λ d. []) member_kind.on_say (at self.old context.old) call.old call.new result (at self.new context.new) };
 }
 
 /// An object of `interface Member`, as a connection serves it.
-pub type MemberServant<T> = ServedObject<T, MemberClient>;
+pub type MemberDispatch<T> = ObjectDispatch<T, MemberClient>;
 
 /// Resolves a promise of an object of `interface Member`: one that is named before it is there.
 pub type MemberResolver = TypedResolver<MemberClient>;
@@ -111,20 +115,20 @@ impl<T: MemberServer> Dispatch<T> for MemberClient {
     fn dispatch(
         object: &mut T,
         call: &MethodCall,
-        here: &mut Here<T::Makes>,
+        context: &mut Context<T::Makes>,
     ) -> Result<Reply, AllocError> {
         match (call.request.interface, call.request.method, call.params()) {
             (0xe5edd802c7f5c6ea, 0, Ok(body)) => {
-                let results = MemberSayResultsBuilder::new(here.alloc())?;
+                let results = MemberSayResultsBuilder::new(context.alloc())?;
                 let params = MemberSayParamsReader { body };
-                let mut passed = ServiceCall::new(here.alloc(), call, params, results);
-                let done = MemberServer::say(object, &mut passed, here);
+                let mut passed = ServiceCall::new(context.alloc(), call, params, results);
+                let done = MemberServer::say(object, &mut passed, context);
                 passed.reply(call, done)
             }
             (0xe5edd802c7f5c6ea, 0, Err(fault)) => {
-                refuse(here.alloc(), call, MethodFault::WrongKind(fault))
+                refuse(context.alloc(), call, MethodFault::WrongKind(fault))
             }
-            _ => refuse(here.alloc(), call, MethodFault::Unimplemented),
+            _ => refuse(context.alloc(), call, MethodFault::Unimplemented),
         }
     }
 }
@@ -133,12 +137,12 @@ impl<T: MemberServer> Dispatch<T> for MemberClient {
 #[derive(Drop)]
 pub struct MemberSayParamsReader<'a> {
     /// The struct, by the places of its fields.
-    pub body: StructView<'a>,
+    pub body: StructReader<'a>,
 }
 
 impl<'a> MemberSayParamsReader<'a> {
     /// `text @0`.
-    pub fn text(&self) -> Result<TextView<'a>, WrongKind>
+    pub fn text(&self) -> Result<TextReader<'a>, WrongKind>
         ensures { result ≡ text_field [] (pointee_of self.now.body 0) }
     {
         self.body.text(0)
@@ -152,4 +156,4 @@ pub type MemberSayResultsReader<'a> = NoFieldsReader<'a>;
 pub type MemberSayResultsBuilder = NoFieldsBuilder;
 
 /// `struct Member.say$Results`, as a question will give it.
-pub type MemberSayResultsPromise = NoFieldsPromise;
+pub type MemberSayResultsPipeline = NoFieldsPipeline;

@@ -1,12 +1,12 @@
 //! Serves a chat room to many clients at once, over TCP: all members hear what each one says.
 
 use chat::{
-    ChatJoinCall, ChatServant, ChatServer, ListenerClient, MemberClient, MemberSayCall,
-    MemberServant, MemberServer,
+    ChatJoinCall, ChatDispatch, ChatServer, ListenerClient, MemberClient, MemberSayCall,
+    MemberDispatch, MemberServer,
 };
-use jamdrosek::host::{Host, HostPlan, Listener, News};
+use jamdrosek::host::{Host, HostConfig, Listener, HostEvent};
 use jamdrosek::interfaces::{MethodFault, MethodResult, ServiceObject};
-use jamdrosek::server::{Any2, Family, Here, Settled, Waker};
+use jamdrosek::server::{Either, Objects, Context, Settled, Waker};
 use std::alloc::Global;
 use std::cell::RefCell;
 use std::collections::BTreeMap;
@@ -14,7 +14,7 @@ use std::net::{Ipv4Addr, SocketAddr};
 use std::rc::Rc;
 
 /// The objects of a connection: its chat, and the members that its client has.
-pub type Served = Any2<ChatServant<Chat>, MemberServant<Member>>;
+pub type Served = Either<ChatDispatch<Chat>, MemberDispatch<Member>>;
 
 /// What all clients share.
 #[derive(Drop)]
@@ -29,11 +29,11 @@ pub struct Room {
 
 pub fn run(rt: &HostRuntime) -> anyhow::Result<()> {
     let listener = Listener::bind(rt, SocketAddr::from((Ipv4Addr::LOCALHOST, 7002)))?;
-    let mut host = Host::new(rt, HostPlan::standard(), listener)?;
+    let mut host = Host::new(rt, HostConfig::standard(), listener)?;
     let room = new_room(rt.alloc())?;
     for _ in 0..u64::MAX {
         match host.next(rt)? {
-            Some(News::Came { .. }) => host.admit(new_objects(rt.alloc(), &room)?)?,
+            Some(HostEvent::Connected { .. }) => host.admit(new_objects(rt.alloc(), &room)?)?,
             Some(_) => {}
             None => break,
         }
@@ -52,10 +52,10 @@ pub fn new_room(alloc: Global) -> anyhow::Result<Rc<RefCell<Room>>> {
 }
 
 /// The objects of a connection: a chat at first.
-pub fn new_objects(alloc: Global, room: &Rc<RefCell<Room>>) -> anyhow::Result<Family<Served>> {
+pub fn new_objects(alloc: Global, room: &Rc<RefCell<Room>>) -> anyhow::Result<Objects<Served>> {
     let object = Chat(room.clone()?);
-    let mut objects = Family::new(alloc);
-    objects.add(Served::First(ChatServant::new(object)))?;
+    let mut objects = Objects::new(alloc);
+    objects.add(Served::Left(ChatDispatch::new(object)))?;
     Ok(objects)
 }
 
@@ -68,10 +68,10 @@ impl ServiceObject for Chat {
 }
 
 impl ChatServer for Chat {
-    fn join(&mut self, call: &mut ChatJoinCall<'_>, here: &mut Here<Served>) -> MethodResult {
-        let listener = call.params.listener_client(here.alloc(), call.caps())?;
+    fn join(&mut self, call: &mut ChatJoinCall<'_>, context: &mut Context<Served>) -> MethodResult {
+        let listener = call.params.listener_client(context.alloc(), call.caps())?;
         let heard = listener.target.copy()?;
-        let name = Rc::new(here.alloc(), call.params.name()?.text(here.alloc())?)?;
+        let name = Rc::new(context.alloc(), call.params.name()?.text(context.alloc())?)?;
         let mut room = self.0.try_borrow_mut()?;
         room.joined = room.joined.saturating_add(1);
         let object = Member {
@@ -81,9 +81,9 @@ impl ChatServer for Chat {
             listener,
             told: room.lines.len(),
         };
-        let member = here.make(Served::Second(MemberServant::new(object)))?;
-        call.keep_for(&member, &heard, here)?;
-        let member = MemberClient::new(here.alloc(), member);
+        let member = context.make(Served::Right(MemberDispatch::new(object)))?;
+        call.keep_for(&member, &heard, context)?;
+        let member = MemberClient::new(context.alloc(), member);
         Ok(call.results.set_member(member)?)
     }
 }
@@ -116,11 +116,11 @@ impl Drop for Member {
 impl ServiceObject for Member {
     type Makes = Served;
 
-    fn poll(&mut self, here: &mut Here<Served>) -> Result<Option<Settled>, MethodFault> {
+    fn poll(&mut self, context: &mut Context<Served>) -> Result<Option<Settled>, MethodFault> {
         let mut room = self.room.try_borrow_mut()?;
-        room.members.insert(self.number, here.waker())?;
+        room.members.insert(self.number, context.waker())?;
         for (name, text) in room.lines.iter().skip(self.told) {
-            here.tell(self.listener.heard_ask(name.as_str(), text.as_str(), 0)?)?;
+            context.send(self.listener.heard_call(name.as_str(), text.as_str(), 0)?)?;
         }
         self.told = room.lines.len();
         Ok(None)
@@ -128,12 +128,12 @@ impl ServiceObject for Member {
 }
 
 impl MemberServer for Member {
-    fn say(&mut self, call: &mut MemberSayCall<'_>, here: &mut Here<Served>) -> MethodResult {
-        let text = call.params.text()?.text(here.alloc())?;
+    fn say(&mut self, call: &mut MemberSayCall<'_>, context: &mut Context<Served>) -> MethodResult {
+        let text = call.params.text()?.text(context.alloc())?;
         let mut room = self.room.try_borrow_mut()?;
         room.lines.push((self.name.clone()?, text))?;
         for (_, waker) in &room.members {
-            here.wake(*waker)?;
+            context.wake(*waker)?;
         }
         Ok(())
     }

@@ -1,10 +1,10 @@
 //! Tests `chat_server` in memory: a client that says nothing hears what another one says.
 
 use crate::chat_server::{Room, Served, new_objects, new_room};
-use chat::{ChatClient, ListenerClient, ListenerHeardCall, ListenerServant, ListenerServer};
+use chat::{ChatClient, ListenerClient, ListenerHeardCall, ListenerDispatch, ListenerServer};
 use jamdrosek::client::Client;
 use jamdrosek::interfaces::{MethodResult, ServiceObject};
-use jamdrosek::server::{Family, Hall, Here, Waker};
+use jamdrosek::server::{Objects, ObjectTable, Context, Waker};
 use jamdrosek::session::{Session, SessionLimits, SessionOptions};
 use jamdrosek::{Limits, Mode};
 use std::alloc::Global;
@@ -13,7 +13,7 @@ use std::io::{Read, Write};
 use std::rc::Rc;
 
 /// The objects of a client: what hears.
-type Hearing = ListenerServant<Ear>;
+type Hearing = ListenerDispatch<Ear>;
 
 pub fn run(rt: &HostRuntime) -> anyhow::Result<()> {
     let alloc = rt.alloc();
@@ -56,7 +56,7 @@ fn serve(
     room: &Rc<RefCell<Room>>,
     number: u64,
     bytes: &[u8],
-) -> anyhow::Result<Session<Family<Served>>> {
+) -> anyhow::Result<Session<Objects<Served>>> {
     let options = SessionOptions {
         mode: Mode::Plain,
         messages: Limits::standard(),
@@ -85,10 +85,10 @@ fn talk(
     let object = Ear {
         heard: heard.clone()?,
     };
-    let mut objects = Family::new(alloc);
-    let listener = ListenerClient::new(alloc, objects.add(ListenerServant::new(object))?);
+    let mut objects = Objects::new(alloc);
+    let listener = ListenerClient::new(alloc, objects.add(ListenerDispatch::new(object))?);
     let (to, limits) = (Vec::new(alloc), Limits::standard());
-    let mut client = Client::with_family(alloc, from, to, Mode::Plain, limits, objects);
+    let mut client = Client::with_objects(alloc, from, to, Mode::Plain, limits, objects);
     let done = join(alloc, &mut client, listener, name, text);
     let (_, to) = client.into_devices();
     done?;
@@ -103,7 +103,7 @@ fn copied(alloc: Global, heard: &Rc<RefCell<String>>) -> anyhow::Result<String> 
 }
 
 /// Joins a chat, says this if it is anything, and hears the others until the chat ends.
-fn join<R: Read + Drop, W: Write + Drop, H: Hall>(
+fn join<R: Read + Drop, W: Write + Drop, H: ObjectTable>(
     alloc: Global,
     client: &mut Client<R, W, H>,
     listener: ListenerClient,
@@ -132,10 +132,10 @@ impl ListenerServer for Ear {
     fn heard(
         &mut self,
         call: &mut ListenerHeardCall<'_>,
-        here: &mut Here<Hearing>,
+        context: &mut Context<Hearing>,
     ) -> MethodResult {
-        let name = call.params.name()?.text(here.alloc())?;
-        let text = call.params.text()?.text(here.alloc())?;
+        let name = call.params.name()?.text(context.alloc())?;
+        let text = call.params.text()?.text(context.alloc())?;
         let mut heard = self.heard.try_borrow_mut()?;
         heard.push_str(name.as_str())?;
         heard.push_str(": ")?;

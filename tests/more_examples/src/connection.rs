@@ -1,7 +1,7 @@
 //! Two ends of a connection, joined in memory by their bytes, one at a time. The client adds to the server's total before it is known.
 
-use jamdrosek::client::{Cap, Content, Path, Request, word_at, word_in};
-use jamdrosek::connection::{Connection, Happening, Objects};
+use jamdrosek::client::{Cap, PayloadBuilder, Path, Request, word_at, word_in};
+use jamdrosek::connection::{Connection, ConnectionEvent, Dispatcher};
 use jamdrosek::server::{Ids, Reply, Servant, Settled, outcome_of};
 use jamdrosek::{Limits, Mode};
 use std::alloc::{AllocError, Global};
@@ -16,11 +16,11 @@ pub fn run(rt: &HostRuntime) -> anyhow::Result<()> {
 fn add(rt: &HostRuntime, client: &mut Connection, server: &mut Connection) -> anyhow::Result<()> {
     let alloc = rt.alloc();
     let total = Cap::Pipelined(client.bootstrap()?, Path::new(Vec::new(alloc)));
-    let params = Content::new(alloc).word(41)?;
+    let params = PayloadBuilder::new(alloc).word(41)?;
     let asked = client.call(total, params.request(0xe5a1_0000_0000_0003, 0))?;
     carry(client, server)?;
     let mut objects = vec![in alloc; Total { alloc, number: 0 }]?;
-    Objects::new(alloc).work_off(server, &mut objects)?;
+    Dispatcher::new(alloc).work_off(server, &mut objects)?;
     carry(server, client)?;
     println!(rt; "the sum is {}", sum_of(client, asked).unwrap_or(0))?;
     Ok(())
@@ -29,9 +29,9 @@ fn add(rt: &HostRuntime, client: &mut Connection, server: &mut Connection) -> an
 /// The number that the outcome of a question has, if it came.
 fn sum_of(client: &mut Connection, asked: u32) -> Option<u64> {
     let mut sum = None;
-    for _ in 0..client.held().happenings {
+    for _ in 0..client.held().events {
         match client.next() {
-            Some(Happening::Settled { question, outcome }) if question == asked => {
+            Some(ConnectionEvent::Settled { question, outcome }) if question == asked => {
                 sum = word_at(&outcome, 0);
             }
             _ => {}
@@ -59,7 +59,7 @@ struct Total {
 impl Servant for Total {
     fn call(&mut self, _ticket: u64, request: Request) -> Result<Reply, AllocError> {
         self.number = self.number.saturating_add(word_in(&request.content, 0));
-        let results = Content::new(self.alloc).word(self.number);
+        let results = PayloadBuilder::new(self.alloc).word(self.number);
         Ok(Reply::Now {
             outcome: outcome_of(self.alloc, results)?,
             gives_up: Ids::new(Vec::new(self.alloc)),

@@ -4,8 +4,8 @@
 use crate::notebook_client::talk;
 use crate::notebook_server::{Served, new_objects, new_shelf};
 use anyhow::anyhow;
-use jamdrosek::host::{Host, HostPlan, Listener, News};
-use jamdrosek::server::Family;
+use jamdrosek::host::{Host, HostConfig, Listener, HostEvent};
+use jamdrosek::server::Objects;
 use jamdrosek::session::{Session, SessionLimits, SessionOptions};
 use jamdrosek::{Limits, Mode};
 use std::alloc::Global;
@@ -46,11 +46,11 @@ fn answers_to(alloc: Global, bytes: &[u8]) -> anyhow::Result<(Vec<u8>, usize, us
     let mut most = 0;
     for byte in bytes {
         server.receive(&[*byte], 0)?;
-        most = most.max(server.hall().len());
+        most = most.max(server.object_table().len());
     }
     server.tick(1_000);
     let sent = Vec::from_slice(alloc, server.outgoing());
-    let left = server.hall().len();
+    let left = server.object_table().len();
     drop(server);
     Ok((sent?, most, left))
 }
@@ -62,7 +62,7 @@ fn hellos(rt: &HostRuntime, calls: &[u8]) -> anyhow::Result<(usize, usize)> {
     let address = listener.address()?.ok_or_else(|| anyhow!("no address"))?;
     let (first, second) = (client(rt, address, calls)?, client(rt, address, calls)?);
     second.shutdown(Shutdown::Write)?;
-    let mut host = Host::new(rt, HostPlan::standard(), listener)?;
+    let mut host = Host::new(rt, HostConfig::standard(), listener)?;
     serve_both(rt, &mut host, &first)?;
     drop(host);
     Ok((hellos_to(rt, first)?, hellos_to(rt, second)?))
@@ -78,17 +78,17 @@ fn client(rt: &HostRuntime, address: SocketAddr, calls: &[u8]) -> anyhow::Result
 /// Serves one shelf until the second client has ended, and then the first, which was silent meanwhile.
 fn serve_both(
     rt: &HostRuntime,
-    host: &mut Host<Family<Served>>,
+    host: &mut Host<Objects<Served>>,
     first: &TcpStream,
 ) -> anyhow::Result<()> {
     let shelf = new_shelf(rt.alloc())?;
     for _ in 0..u64::MAX {
         match host.next(rt)? {
-            Some(News::Came { number, .. }) => {
+            Some(HostEvent::Connected { number, .. }) => {
                 host.admit(new_objects(rt.alloc(), &shelf, number)?)?;
             }
-            Some(News::Ended { number: 2, .. }) => first.shutdown(Shutdown::Write)?,
-            Some(News::Ended { .. }) | None => break,
+            Some(HostEvent::Ended { number: 2, .. }) => first.shutdown(Shutdown::Write)?,
+            Some(HostEvent::Ended { .. }) | None => break,
             Some(_) => {}
         }
     }

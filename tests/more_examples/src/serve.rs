@@ -1,7 +1,7 @@
 //! Serves the store of the example `store` by a `Servant`, which takes requests as they come, without the types of its schema.
 
 use jamdrosek::client::{Request, text_in};
-use jamdrosek::server::{Content, Ids, Reply, Servant, Settled, outcome_of, serve};
+use jamdrosek::server::{PayloadBuilder, Ids, Reply, Servant, Settled, outcome_of, serve};
 use jamdrosek::{Mode, Tap};
 use std::alloc::{AllocError, Global};
 use std::collections::BTreeMap;
@@ -29,12 +29,12 @@ struct Shelf {
 impl Servant for Shelf {
     fn call(&mut self, _ticket: u64, request: Request) -> Result<Reply, AllocError> {
         let key = String::from_str(self.alloc, text_in(&request.content, 0).unwrap_or(""))?;
-        let mut results = Ok(Content::new(self.alloc));
+        let mut results = Ok(PayloadBuilder::new(self.alloc));
         if request.method == 0 {
             let value = text_in(&request.content, 1).unwrap_or("");
             self.texts.insert(key, String::from_str(self.alloc, value)?)?;
         } else if let Some(value) = self.texts.get(&key) {
-            results = Content::new(self.alloc).text(value.as_str());
+            results = PayloadBuilder::new(self.alloc).text(value.as_str());
         }
         Ok(Reply::Now {
             outcome: outcome_of(self.alloc, results)?,

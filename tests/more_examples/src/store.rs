@@ -1,14 +1,14 @@
 //! Serves a store of texts, the interface of tests/store/store.capnp, to a client whose messages are in a file.
 
 use jamdrosek::interfaces::{MethodResult, ServiceObject};
-use jamdrosek::server::{Family, Here};
+use jamdrosek::server::{Objects, Context};
 use jamdrosek::session::{Session, SessionLimits, SessionOptions};
 use jamdrosek::{Limits, Mode};
 use std::alloc::Global;
 use std::collections::BTreeMap;
 use std::fs;
 use std::io::{self, Write};
-use store::{StoreGetCall, StorePutCall, StoreServant, StoreServer};
+use store::{StoreGetCall, StorePutCall, StoreDispatch, StoreServer};
 
 pub fn run(rt: &HostRuntime) -> anyhow::Result<()> {
     let calls = fs::read(rt, "serve.bin")?;
@@ -26,8 +26,8 @@ fn answers(alloc: Global, calls: &[u8]) -> anyhow::Result<Vec<u8>> {
         releases_idle: true,
         limits: SessionLimits::standard(),
     };
-    let mut objects = Family::new(alloc);
-    objects.add(StoreServant::new(Shelf {
+    let mut objects = Objects::new(alloc);
+    objects.add(StoreDispatch::new(Shelf {
         texts: BTreeMap::new(alloc),
     }))?;
     let mut session = Session::new(alloc, &options, objects, 0);
@@ -46,17 +46,17 @@ struct Shelf {
 }
 
 impl ServiceObject for Shelf {
-    type Makes = StoreServant<Shelf>;
+    type Makes = StoreDispatch<Shelf>;
 }
 
 impl StoreServer for Shelf {
     fn put(
         &mut self,
         call: &mut StorePutCall<'_>,
-        here: &mut Here<StoreServant<Shelf>>,
+        context: &mut Context<StoreDispatch<Shelf>>,
     ) -> MethodResult {
-        let key = call.params.key()?.text(here.alloc())?;
-        let value = call.params.value()?.text(here.alloc())?;
+        let key = call.params.key()?.text(context.alloc())?;
+        let value = call.params.value()?.text(context.alloc())?;
         self.texts.insert(key, value)?;
         Ok(())
     }
@@ -64,11 +64,11 @@ impl StoreServer for Shelf {
     fn get(
         &mut self,
         call: &mut StoreGetCall<'_>,
-        here: &mut Here<StoreServant<Shelf>>,
+        context: &mut Context<StoreDispatch<Shelf>>,
     ) -> MethodResult {
-        let key = call.params.key()?.text(here.alloc())?;
+        let key = call.params.key()?.text(context.alloc())?;
         if let Some(value) = self.texts.get(&key) {
-            call.results.set_value(here.alloc(), value.as_str())?;
+            call.results.set_value(context.alloc(), value.as_str())?;
         }
         Ok(())
     }

@@ -1,6 +1,6 @@
 //! Two vats that talk in memory. The client asks for the server's object and calls what that will be, before it is known.
 
-use jamdrosek::client::{Cap, Content, Path, word_at, word_in};
+use jamdrosek::client::{Cap, PayloadBuilder, Path, word_at, word_in};
 use jamdrosek::vat::{Effect, Vat};
 use std::alloc::Global;
 
@@ -15,7 +15,7 @@ fn add(rt: &HostRuntime, client: &mut Vat, server: &mut Vat) -> anyhow::Result<(
     let alloc = rt.alloc();
     let asked = client.bootstrap()?;
     let object = Cap::Pipelined(asked.value, Path::new(Vec::new(alloc)));
-    let params = Content::new(alloc).word(41)?;
+    let params = PayloadBuilder::new(alloc).word(41)?;
     let called = client.call(object, params.request(0xe5a1_0000_0000_0002, 0))?;
     let mut effects = asked.effects.into_effects();
     effects.extend(called.effects.into_effects())?;
@@ -57,7 +57,7 @@ fn answer(alloc: Global, effects: &mut Vec<Effect>, vat: &mut Vat) -> anyhow::Re
     for effect in effects.iter() {
         if let Effect::Deliver { origin, call, .. } = effect {
             let sum = word_in(&call.content, 0).saturating_add(1);
-            let outcome = Content::new(alloc).word(sum)?.results();
+            let outcome = PayloadBuilder::new(alloc).word(sum)?.results();
             after.extend(vat.answer(*origin, outcome)?.effects.into_effects())?;
         }
     }

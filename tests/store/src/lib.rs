@@ -4,8 +4,8 @@
 mod store;
 
 pub use store::{
-    StoreClient, StoreGetCall, StoreGetParamsReader, StoreGetResultsBuilder,
-    StoreGetResultsPromise, StoreGetResultsReader, StorePutCall, StorePutParamsReader,
-    StorePutResultsBuilder, StorePutResultsPromise, StorePutResultsReader, StoreResolver,
-    StoreServant, StoreServer,
+    StoreClient, StoreDispatch, StoreGetCall, StoreGetParamsReader, StoreGetResultsBuilder,
+    StoreGetResultsPipeline, StoreGetResultsReader, StorePutCall, StorePutParamsReader,
+    StorePutResultsBuilder, StorePutResultsPipeline, StorePutResultsReader, StoreResolver,
+    StoreServer,
 };

@@ -3,26 +3,26 @@
 ghost use Rattle.std.specs.Prelude.{◌≡◌, IfOk, OnOk, OnErr, Err, ◌≤◌, ◌^◌, length, ◌+◌, []};
 ghost use Rattle.cp_tree.specs.Seen.{pointee_of};
 ghost use Rattle.cp_fields.specs.Pointers.{text_field};
-ghost use Rattle.cp_builder.specs.declared.fault.DraftFault.TheVariants.{TooLong};
+ghost use Rattle.cp_builder.specs.declared.fault.BuildError.TheVariants.{TooLong};
 ghost use Rattle.cp_builder.specs.Drafts.{blank, text_tree, with_pointer};
-ghost use Rattle.cp_stubs.specs.Calls.{ask_of, request_of};
-ghost use Rattle.cp_services.specs.Calls.{Answers};
-ghost use Rattle.cp_services.specs.Calls.{MakesOf};
-ghost use Rattle.cp_services.specs.Services.{At, at};
+ghost use Rattle.cp_interfaces.specs.Calls.{outgoing_call_of, request_of};
+ghost use Rattle.cp_interface_objects.specs.Calls.{Answers};
+ghost use Rattle.cp_interface_objects.specs.Calls.{MakesOf};
+ghost use Rattle.cp_interface_objects.specs.Services.{At, at};
 ghost use Rattle.store.specs.Store.{StoreKind, StoreTakes, any_store};
 
-use cp_builder::{DraftFault, StructDraft};
-use cp_fields::{StructView, TextView, WrongKind};
-use cp_makers::Here;
+use cp_builder::{BuildError, StructBuilder};
+use cp_fields::{StructReader, TextReader, WrongKind};
+use cp_interface_objects::{
+    Dispatch, MethodResult, ObjectDispatch, ServiceCall, ServiceObject, TypedResolver,
+};
+use cp_interfaces::{
+    CallTarget, Caller, CapTableBuilder, Lends, MethodCall, MethodFault, NoFieldsBuilder,
+    NoFieldsPipeline, NoFieldsReader, Results, TypedClient, TypedPipeline, refuse,
+};
+use cp_objects::Context;
 use cp_refs::{Cap, Request};
-use cp_servants::{Ask, Reply};
-use cp_services::{
-    Dispatch, MethodResult, ServedObject, ServiceCall, ServiceObject, TypedResolver,
-};
-use cp_stubs::{
-    CallTarget, Caller, Lends, MethodCall, MethodFault, NoFieldsBuilder, NoFieldsPromise,
-    NoFieldsReader, Promise, Results, Table, TypedClient, refuse,
-};
+use cp_servants::{OutgoingCall, Reply};
 use cp_tree::Whole;
 use std::alloc::{AllocError, Global};
 
@@ -47,10 +47,10 @@ impl StoreClient {
     }
 
     /// A call of `put @0`.
-    pub fn put_request(&self, key: &str, value: &str) -> Result<Request, DraftFault>
+    pub fn put_request(&self, key: &str, value: &str) -> Result<Request, BuildError>
         ensures { IfOk result (λ r. r ≡ request_of 0xea2f6e3bf233ec72 0 (with_pointer (with_pointer (blank 0 2) 0 (text_tree key.now)) 1 (text_tree value.now)) []) }
     {
-        let mut params: StructDraft<0, 2> = StructDraft::new(self.target.alloc())?;
+        let mut params: StructBuilder<0, 2> = StructBuilder::new(self.target.alloc())?;
         params.set_pointer(0, cp_builder::text_of(self.target.alloc(), key)?);
         params.set_pointer(1, cp_builder::text_of(self.target.alloc(), value)?);
         let content = params.into_whole();
@@ -63,25 +63,28 @@ impl StoreClient {
         caller: &mut C,
         key: &str,
         value: &str,
-    ) -> Result<StorePutResultsPromise, C::Fault>
-        ensures { MakesOf (λ p. p.at) C.asks caller.old self.now.target 0xea2f6e3bf233ec72 0 (with_pointer (with_pointer (blank 0 2) 0 (text_tree key.now)) 1 (text_tree value.now)) [] result caller.new }
+    ) -> Result<StorePutResultsPipeline, C::Fault>
+        ensures { MakesOf (λ p. p.at) C.sends caller.old self.now.target 0xea2f6e3bf233ec72 0 (with_pointer (with_pointer (blank 0 2) 0 (text_tree key.now)) 1 (text_tree value.now)) [] result caller.new }
     {
         let request = self.put_request(key, value)?;
-        Ok(StorePutResultsPromise::of(self.target.call(caller, request)?))
+        Ok(StorePutResultsPipeline::of(self.target.call(caller, request)?))
     }
 
     /// A call of `put` that an object makes. With the mark the object is told what it came to.
-    pub fn put_ask(&self, key: &str, value: &str, mark: u64) -> Result<Ask, DraftFault>
-        ensures { IfOk result (λ ask. ask ≡ ask_of self.now.target (request_of 0xea2f6e3bf233ec72 0 (with_pointer (with_pointer (blank 0 2) 0 (text_tree key.now)) 1 (text_tree value.now)) []) mark) }
+    pub fn put_call(&self, key: &str, value: &str, call_id: u64) -> Result<OutgoingCall, BuildError>
+        ensures { IfOk result (λ call. call ≡ outgoing_call_of self.now.target (request_of 0xea2f6e3bf233ec72 0 (with_pointer (with_pointer (blank 0 2) 0 (text_tree key.now)) 1 (text_tree value.now)) []) call_id) }
     {
-        Ok(self.target.ask(self.put_request(key, value)?, mark)?)
+        Ok(
+            self.target
+                .outgoing(self.put_request(key, value)?, call_id)?,
+        )
     }
 
     /// A call of `get @1`.
-    pub fn get_request(&self, key: &str) -> Result<Request, DraftFault>
+    pub fn get_request(&self, key: &str) -> Result<Request, BuildError>
         ensures { IfOk result (λ r. r ≡ request_of 0xea2f6e3bf233ec72 1 (with_pointer (blank 0 1) 0 (text_tree key.now)) []) }
     {
-        let mut params: StructDraft<0, 1> = StructDraft::new(self.target.alloc())?;
+        let mut params: StructBuilder<0, 1> = StructBuilder::new(self.target.alloc())?;
         params.set_pointer(0, cp_builder::text_of(self.target.alloc(), key)?);
         let content = params.into_whole();
         Ok(self.target.request(0xea2f6e3bf233ec72, 1, content))
@@ -92,18 +95,18 @@ impl StoreClient {
         &self,
         caller: &mut C,
         key: &str,
-    ) -> Result<StoreGetResultsPromise, C::Fault>
-        ensures { MakesOf (λ p. p.at) C.asks caller.old self.now.target 0xea2f6e3bf233ec72 1 (with_pointer (blank 0 1) 0 (text_tree key.now)) [] result caller.new }
+    ) -> Result<StoreGetResultsPipeline, C::Fault>
+        ensures { MakesOf (λ p. p.at) C.sends caller.old self.now.target 0xea2f6e3bf233ec72 1 (with_pointer (blank 0 1) 0 (text_tree key.now)) [] result caller.new }
     {
         let request = self.get_request(key)?;
-        Ok(StoreGetResultsPromise::of(self.target.call(caller, request)?))
+        Ok(StoreGetResultsPipeline::of(self.target.call(caller, request)?))
     }
 
     /// A call of `get` that an object makes. With the mark the object is told what it came to.
-    pub fn get_ask(&self, key: &str, mark: u64) -> Result<Ask, DraftFault>
-        ensures { IfOk result (λ ask. ask ≡ ask_of self.now.target (request_of 0xea2f6e3bf233ec72 1 (with_pointer (blank 0 1) 0 (text_tree key.now)) []) mark) }
+    pub fn get_call(&self, key: &str, call_id: u64) -> Result<OutgoingCall, BuildError>
+        ensures { IfOk result (λ call. call ≡ outgoing_call_of self.now.target (request_of 0xea2f6e3bf233ec72 1 (with_pointer (blank 0 1) 0 (text_tree key.now)) []) call_id) }
     {
-        Ok(self.target.ask(self.get_request(key)?, mark)?)
+        Ok(self.target.outgoing(self.get_request(key)?, call_id)?)
     }
 }
 
@@ -131,16 +134,24 @@ pub trait StoreServer: ServiceObject {
     ghost store_kind: { StoreKind (At Self Self.Makes) } = { any_store };
 
     /// Keeps a text under a key, in place of the one before.
-    fn put(&mut self, call: &mut StorePutCall<'_>, here: &mut Here<Self::Makes>) -> MethodResult
-        ensures { Answers (λ p. p.body) (λ d. d.body) (λ d. []) store_kind.on_put (at self.old here.old) call.old call.new result (at self.new here.new) };
+    fn put(
+        &mut self,
+        call: &mut StorePutCall<'_>,
+        context: &mut Context<Self::Makes>,
+    ) -> MethodResult
+        ensures { Answers (λ p. p.body) (λ d. d.body) (λ d. []) store_kind.on_put (at self.old context.old) call.old call.new result (at self.new context.new) };
 
     /// The text of a key, or none.
-    fn get(&mut self, call: &mut StoreGetCall<'_>, here: &mut Here<Self::Makes>) -> MethodResult
-        ensures { Answers (λ p. p.body) (λ d. d.body) (λ d. []) store_kind.on_get (at self.old here.old) call.old call.new result (at self.new here.new) };
+    fn get(
+        &mut self,
+        call: &mut StoreGetCall<'_>,
+        context: &mut Context<Self::Makes>,
+    ) -> MethodResult
+        ensures { Answers (λ p. p.body) (λ d. d.body) (λ d. []) store_kind.on_get (at self.old context.old) call.old call.new result (at self.new context.new) };
 }
 
 /// An object of `interface Store`, as a connection serves it.
-pub type StoreServant<T> = ServedObject<T, StoreClient>;
+pub type StoreDispatch<T> = ObjectDispatch<T, StoreClient>;
 
 /// Resolves a promise of an object of `interface Store`: one that is named before it is there.
 pub type StoreResolver = TypedResolver<StoreClient>;
@@ -151,27 +162,27 @@ impl<T: StoreServer> Dispatch<T> for StoreClient {
     fn dispatch(
         object: &mut T,
         call: &MethodCall,
-        here: &mut Here<T::Makes>,
+        context: &mut Context<T::Makes>,
     ) -> Result<Reply, AllocError> {
         match (call.request.interface, call.request.method, call.params()) {
             (0xea2f6e3bf233ec72, 0, Ok(body)) => {
-                let results = StorePutResultsBuilder::new(here.alloc())?;
+                let results = StorePutResultsBuilder::new(context.alloc())?;
                 let params = StorePutParamsReader { body };
-                let mut passed = ServiceCall::new(here.alloc(), call, params, results);
-                let done = StoreServer::put(object, &mut passed, here);
+                let mut passed = ServiceCall::new(context.alloc(), call, params, results);
+                let done = StoreServer::put(object, &mut passed, context);
                 passed.reply(call, done)
             }
             (0xea2f6e3bf233ec72, 1, Ok(body)) => {
-                let results = StoreGetResultsBuilder::new(here.alloc())?;
+                let results = StoreGetResultsBuilder::new(context.alloc())?;
                 let params = StoreGetParamsReader { body };
-                let mut passed = ServiceCall::new(here.alloc(), call, params, results);
-                let done = StoreServer::get(object, &mut passed, here);
+                let mut passed = ServiceCall::new(context.alloc(), call, params, results);
+                let done = StoreServer::get(object, &mut passed, context);
                 passed.reply(call, done)
             }
             (0xea2f6e3bf233ec72, 0..=1, Err(fault)) => {
-                refuse(here.alloc(), call, MethodFault::WrongKind(fault))
+                refuse(context.alloc(), call, MethodFault::WrongKind(fault))
             }
-            _ => refuse(here.alloc(), call, MethodFault::Unimplemented),
+            _ => refuse(context.alloc(), call, MethodFault::Unimplemented),
         }
     }
 }
@@ -180,19 +191,19 @@ impl<T: StoreServer> Dispatch<T> for StoreClient {
 #[derive(Drop)]
 pub struct StorePutParamsReader<'a> {
     /// The struct, by the places of its fields.
-    pub body: StructView<'a>,
+    pub body: StructReader<'a>,
 }
 
 impl<'a> StorePutParamsReader<'a> {
     /// `key @0`.
-    pub fn key(&self) -> Result<TextView<'a>, WrongKind>
+    pub fn key(&self) -> Result<TextReader<'a>, WrongKind>
         ensures { result ≡ text_field [] (pointee_of self.now.body 0) }
     {
         self.body.text(0)
     }
 
     /// `value @1`.
-    pub fn value(&self) -> Result<TextView<'a>, WrongKind>
+    pub fn value(&self) -> Result<TextReader<'a>, WrongKind>
         ensures { result ≡ text_field [] (pointee_of self.now.body 1) }
     {
         self.body.text(1)
@@ -206,18 +217,18 @@ pub type StorePutResultsReader<'a> = NoFieldsReader<'a>;
 pub type StorePutResultsBuilder = NoFieldsBuilder;
 
 /// `struct Store.put$Results`, as a question will give it.
-pub type StorePutResultsPromise = NoFieldsPromise;
+pub type StorePutResultsPipeline = NoFieldsPipeline;
 
 /// `struct Store.get$Params`.
 #[derive(Drop)]
 pub struct StoreGetParamsReader<'a> {
     /// The struct, by the places of its fields.
-    pub body: StructView<'a>,
+    pub body: StructReader<'a>,
 }
 
 impl<'a> StoreGetParamsReader<'a> {
     /// `key @0`.
-    pub fn key(&self) -> Result<TextView<'a>, WrongKind>
+    pub fn key(&self) -> Result<TextReader<'a>, WrongKind>
         ensures { result ≡ text_field [] (pointee_of self.now.body 0) }
     {
         self.body.text(0)
@@ -228,12 +239,12 @@ impl<'a> StoreGetParamsReader<'a> {
 #[derive(Drop)]
 pub struct StoreGetResultsReader<'a> {
     /// The struct, by the places of its fields.
-    pub body: StructView<'a>,
+    pub body: StructReader<'a>,
 }
 
 impl<'a> StoreGetResultsReader<'a> {
     /// `value @0`.
-    pub fn value(&self) -> Result<TextView<'a>, WrongKind>
+    pub fn value(&self) -> Result<TextReader<'a>, WrongKind>
         ensures { result ≡ text_field [] (pointee_of self.now.body 0) }
     {
         self.body.text(0)
@@ -244,7 +255,7 @@ impl<'a> StoreGetResultsReader<'a> {
 #[derive(Drop)]
 pub struct StoreGetResultsBuilder {
     /// The struct, by the places of its fields.
-    pub body: StructDraft<0, 1>,
+    pub body: StructBuilder<0, 1>,
 }
 
 impl StoreGetResultsBuilder {
@@ -253,12 +264,12 @@ impl StoreGetResultsBuilder {
         ensures { IfOk result (λ d. d.body ≡ blank 0 1) }
     {
         Ok(StoreGetResultsBuilder {
-            body: StructDraft::new(alloc)?,
+            body: StructBuilder::new(alloc)?,
         })
     }
 
     /// Sets `value`.
-    pub fn set_value(&mut self, alloc: Global, value: &str) -> Result<(), DraftFault>
+    pub fn set_value(&mut self, alloc: Global, value: &str) -> Result<(), BuildError>
         ensures set { OnOk result (self.new.body ≡ with_pointer self.old.body 0 (text_tree value.now)) }
         ensures left { OnErr result (self.new ≡ self.old) }
         ensures long { result ≡ Err TooLong → 2 ^ 29 ≤ length value.now + 1 }
@@ -273,20 +284,20 @@ impl Results for StoreGetResultsBuilder {
 
     ghost names = { λ d. [] };
 
-    fn into_parts(self, alloc: Global) -> (Whole, Table) {
-        (self.body.into_whole(), Table::new(alloc))
+    fn into_parts(self, alloc: Global) -> (Whole, CapTableBuilder) {
+        (self.body.into_whole(), CapTableBuilder::new(alloc))
     }
 }
 
 /// `struct Store.get$Results`, as a question will give it.
-pub type StoreGetResultsPromise = Promise<StoreGetResultsBuilder>;
+pub type StoreGetResultsPipeline = TypedPipeline<StoreGetResultsBuilder>;
 
 impl<'a> Lends<'a> for StoreGetResultsBuilder {
     type Reader = StoreGetResultsReader<'a>;
 
     ghost read = { λ x. x.body };
 
-    fn reader(body: StructView<'a>) -> StoreGetResultsReader<'a> {
+    fn reader(body: StructReader<'a>) -> StoreGetResultsReader<'a> {
         StoreGetResultsReader { body }
     }
 }

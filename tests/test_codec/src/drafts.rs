@@ -1,7 +1,7 @@
 //! Structs that are written by the places of their fields, and over readers and writers.
 
 use cp_builder::*;
-use cp_fields::{Constant, Pointee, StructView};
+use cp_fields::{Constant, PointerReader, StructReader};
 use cp_frame::Mode;
 use cp_stream::{Tap, read_struct, write_struct};
 use cp_tree::{Body, ListRef, Object, Tree, Whole};
@@ -10,8 +10,8 @@ use std::alloc::Global;
 use std::process::Abort;
 
 /// A draft with numbers of each width, a text and a capability.
-fn sample(rt: &impl Abort, alloc: Global) -> StructDraft<2, 3> {
-    let mut draft: StructDraft<2, 3> = StructDraft::new(alloc).expect(rt, "memory");
+fn sample(rt: &impl Abort, alloc: Global) -> StructBuilder<2, 3> {
+    let mut draft: StructBuilder<2, 3> = StructBuilder::new(alloc).expect(rt, "memory");
     draft.set_bit(0, true);
     draft.set_u8(1, 255);
     draft.set_u16(1, 0x8001);
@@ -23,7 +23,7 @@ fn sample(rt: &impl Abort, alloc: Global) -> StructDraft<2, 3> {
 }
 
 /// What the sample says.
-fn expect_sample(rt: &impl Abort, root: &StructView) {
+fn expect_sample(rt: &impl Abort, root: &StructReader) {
     check!(rt; root.bit(0));
     check!(rt; root.u8(1) == 255);
     check!(rt; root.u16(1) == 0x8001);
@@ -36,7 +36,7 @@ fn expect_sample(rt: &impl Abort, root: &StructView) {
 
 /// What an object that is the sample says.
 fn expect_object(rt: &impl Abort, object: &Object) {
-    let root = StructView::of(Pointee::of_object(object)).expect(rt, "a struct");
+    let root = StructReader::of(PointerReader::of_object(object)).expect(rt, "a struct");
     expect_sample(rt, &root);
 }
 
@@ -49,7 +49,7 @@ fn fields_are_set(rt: HostRuntime) {
 
 /// A draft whose numbers are set as those of fields with defaults: xor'd with them.
 fn with_defaults(rt: &impl Abort, alloc: Global) -> Object {
-    let mut draft: StructDraft<2, 0> = StructDraft::new(alloc).expect(rt, "memory");
+    let mut draft: StructBuilder<2, 0> = StructBuilder::new(alloc).expect(rt, "memory");
     draft.set_bit(0, !false);
     draft.set_u8(1, 200 ^ 18);
     draft.set_u16(1, 40_000 ^ 500);
@@ -60,7 +60,7 @@ fn with_defaults(rt: &impl Abort, alloc: Global) -> Object {
 
 /// Their fields read as they were set.
 fn expect_as_set(rt: &impl Abort, object: &Object) {
-    let root = StructView::of(Pointee::of_object(object)).expect(rt, "a struct");
+    let root = StructReader::of(PointerReader::of_object(object)).expect(rt, "a struct");
     check!(rt; !root.bit_or_true(0));
     check!(rt; root.u8_or(1, 18) == 200);
     check!(rt; root.u16_or(1, 500) == 40_000);
@@ -76,9 +76,9 @@ fn numbers_with_defaults_come_back(rt: HostRuntime) {
 }
 
 /// A draft of the fields that an object has.
-fn taken(rt: &impl Abort, alloc: Global, object: &Object) -> StructDraft<2, 3> {
-    let root = StructView::of(Pointee::of_object(object)).expect(rt, "a struct");
-    StructDraft::of_view(alloc, &root).expect(rt, "memory")
+fn taken(rt: &impl Abort, alloc: Global, object: &Object) -> StructBuilder<2, 3> {
+    let root = StructReader::of(PointerReader::of_object(object)).expect(rt, "a struct");
+    StructBuilder::of_view(alloc, &root).expect(rt, "memory")
 }
 
 #[test]
@@ -91,13 +91,13 @@ fn a_draft_is_made_of_a_view(rt: HostRuntime) {
 }
 
 /// A draft of the fields that an object has, by an older schema.
-fn taken_by_older(rt: &impl Abort, alloc: Global, object: &Object) -> StructDraft<1, 2> {
-    let root = StructView::of(Pointee::of_object(object)).expect(rt, "a struct");
-    StructDraft::of_view(alloc, &root).expect(rt, "memory")
+fn taken_by_older(rt: &impl Abort, alloc: Global, object: &Object) -> StructBuilder<1, 2> {
+    let root = StructReader::of(PointerReader::of_object(object)).expect(rt, "a struct");
+    StructBuilder::of_view(alloc, &root).expect(rt, "memory")
 }
 
 /// Sets a field that the older schema knows, as the sample has it.
-fn set_again(draft: StructDraft<1, 2>) -> StructDraft<1, 2> {
+fn set_again(draft: StructBuilder<1, 2>) -> StructBuilder<1, 2> {
     let mut draft = draft;
     draft.set_u32(1, 0);
     draft.set_u32(1, 7);
@@ -116,7 +116,7 @@ fn fields_of_a_newer_schema_are_kept(rt: HostRuntime) {
 /// A list by an older schema, of one struct that a newer schema's program wrote.
 fn list_by_older(rt: &impl Abort, alloc: Global) -> Whole {
     let newer = sample(rt, alloc).into_object();
-    let mut list: StructsDraft<1, 2> = StructsDraft::new(alloc);
+    let mut list: StructListBuilder<1, 2> = StructListBuilder::new(alloc);
     let item = taken_by_older(rt, alloc, &newer);
     drop(newer);
     list.push(item).expect(rt, "memory");
@@ -143,7 +143,7 @@ fn structs_of_a_list_have_its_sizes(rt: HostRuntime) {
 }
 
 /// What is said of a struct that no message can hold: a composite list's element lacks a word.
-fn uneven(rt: &impl Abort, alloc: Global) -> Option<DraftFault> {
+fn uneven(rt: &impl Abort, alloc: Global) -> Option<BuildError> {
     let item = Body {
         words: Vec::new(alloc),
         ptrs: Vec::new(alloc),
@@ -157,25 +157,25 @@ fn uneven(rt: &impl Abort, alloc: Global) -> Option<DraftFault> {
         words: Vec::new(alloc),
         ptrs: vec![in alloc; list].expect(rt, "memory"),
     });
-    let root = StructView::of(Pointee::of_tree(&tree)).expect(rt, "a struct");
-    let draft: Result<StructDraft<1, 2>, DraftFault> = StructDraft::of_view(alloc, &root);
+    let root = StructReader::of(PointerReader::of_tree(&tree)).expect(rt, "a struct");
+    let draft: Result<StructBuilder<1, 2>, BuildError> = StructBuilder::of_view(alloc, &root);
     draft.err()
 }
 
 #[test]
 fn no_draft_is_made_of_what_no_message_can_hold(rt: HostRuntime) {
-    check!(&rt; uneven(&rt, rt.alloc()) == Some(DraftFault::TooLong));
+    check!(&rt; uneven(&rt, rt.alloc()) == Some(BuildError::TooLong));
 }
 
 /// A list that is a constant, owned.
 fn tree_of_constant(rt: &impl Abort, alloc: Global, constant: &Constant) -> Tree {
-    Pointee::of_constant(constant)
+    PointerReader::of_constant(constant)
         .tree(alloc)
         .expect(rt, "memory")
 }
 
 /// A part is this list.
-fn expect_part(rt: &impl Abort, alloc: Global, part: Result<Whole, DraftFault>, wanted: ListRef) {
+fn expect_part(rt: &impl Abort, alloc: Global, part: Result<Whole, BuildError>, wanted: ListRef) {
     let part = part.expect(rt, "a part");
     let wanted = tree_of_constant(rt, alloc, &Constant::List(wanted));
     let is_wanted = *part.tree() == wanted;
@@ -220,18 +220,18 @@ fn parts_are_put_into_lists(rt: HostRuntime) {
 
 /// A struct whose pointer 0 is a list of two samples.
 fn two_samples(rt: &impl Abort, alloc: Global) -> Object {
-    let mut list: StructsDraft<2, 3> = StructsDraft::new(alloc);
+    let mut list: StructListBuilder<2, 3> = StructListBuilder::new(alloc);
     list.push(sample(rt, alloc)).expect(rt, "memory");
     list.push(sample(rt, alloc)).expect(rt, "memory");
-    let mut root: StructDraft<0, 1> = StructDraft::new(alloc).expect(rt, "memory");
+    let mut root: StructBuilder<0, 1> = StructBuilder::new(alloc).expect(rt, "memory");
     root.set_pointer(0, list.into_whole());
     root.into_object()
 }
 
 /// Both samples of a struct that was read.
 fn expect_two(rt: &impl Abort, whole: &Whole) {
-    let root = StructView::of(Pointee::of_whole(whole)).expect(rt, "a struct");
-    let list = root.list::<StructView<'_>>(0).expect(rt, "a list");
+    let root = StructReader::of(PointerReader::of_whole(whole)).expect(rt, "a struct");
+    let list = root.list::<StructReader<'_>>(0).expect(rt, "a list");
     check!(rt; list.len() == 2);
     for item in list {
         expect_sample(rt, &item);

@@ -4,20 +4,20 @@ use crate::field_samples::{BITS, NAMED, NAMES, NUMBERS, PAIRS, WIDE};
 use crate::fields::expect_wrong;
 use crate::look::{is_text, pointee_of, root_of, tree_of};
 use crate::samples::one_segment;
-use cp_fields::{Item, Kind, List, Pointee, StructView, TextView, WrongKind};
+use cp_fields::{Element, Kind, List, PointerReader, StructReader, TextReader, WrongKind};
 use cp_words::ElementSize;
 use std::alloc::Global;
 use std::process::Abort;
 
 /// The list that a struct's first field is.
-fn list_of<'a, T: Item<'a>>(rt: &impl Abort, pointee: Pointee<'a>) -> List<'a, T> {
-    let root = StructView::of(pointee).expect(rt, "a struct");
+fn list_of<'a, T: Element<'a>>(rt: &impl Abort, pointee: PointerReader<'a>) -> List<'a, T> {
+    let root = StructReader::of(pointee).expect(rt, "a struct");
     root.list(0).expect(rt, "a list")
 }
 
 /// A list of three numbers, as structs. The second number of an element and its text are as by default.
-fn expect_numbers_as_structs<'a>(rt: &impl Abort, pointee: Pointee<'a>) {
-    let list: List<'a, StructView<'a>> = list_of(rt, pointee);
+fn expect_numbers_as_structs<'a>(rt: &impl Abort, pointee: PointerReader<'a>) {
+    let list: List<'a, StructReader<'a>> = list_of(rt, pointee);
     check!(rt; list.len() == 3);
     let second = list.get(1);
     check!(rt; second.u16(0) == 65535);
@@ -31,15 +31,15 @@ fn numbers_are_read_as_structs(rt: HostRuntime) {
     expect_numbers_as_structs(&rt, pointee_of(&rt, &segments));
     let tree = tree_of(&rt, rt.alloc(), &segments);
     drop(segments);
-    expect_numbers_as_structs(&rt, Pointee::of_tree(&tree));
+    expect_numbers_as_structs(&rt, PointerReader::of_tree(&tree));
     drop(tree);
 }
 
 /// A list of two structs, as numbers and as texts.
-fn expect_structs_as_parts<'a>(rt: &impl Abort, alloc: Global, pointee: &Pointee<'a>) {
-    expect_two_numbers(rt, list_of(rt, pointee.again()));
-    expect_first_text(rt, alloc, list_of(rt, pointee.again()), "t");
-    expect_no_bits(rt, pointee.again());
+fn expect_structs_as_parts<'a>(rt: &impl Abort, alloc: Global, pointee: &PointerReader<'a>) {
+    expect_two_numbers(rt, list_of(rt, pointee.reborrow()));
+    expect_first_text(rt, alloc, list_of(rt, pointee.reborrow()), "t");
+    expect_no_bits(rt, pointee.reborrow());
 }
 
 /// The two numbers of the structs.
@@ -52,7 +52,7 @@ fn expect_two_numbers(rt: &impl Abort, list: List<'_, u16>) {
 fn expect_first_text<'a>(
     rt: &impl Abort,
     alloc: Global,
-    list: List<'a, Result<TextView<'a>, WrongKind>>,
+    list: List<'a, Result<TextReader<'a>, WrongKind>>,
     text: &str,
 ) {
     check!(rt; list.len() == 2);
@@ -60,8 +60,8 @@ fn expect_first_text<'a>(
 }
 
 /// Bits are read from bits alone.
-fn expect_no_bits(rt: &impl Abort, pointee: Pointee<'_>) {
-    let root = StructView::of(pointee).expect(rt, "a struct");
+fn expect_no_bits(rt: &impl Abort, pointee: PointerReader<'_>) {
+    let root = StructReader::of(pointee).expect(rt, "a struct");
     let fault = root.list::<bool>(0).err();
     let (bit, composite) = (ElementSize::Bit, ElementSize::Composite);
     expect_wrong(rt, fault, Kind::List(bit), Kind::List(composite));
@@ -73,12 +73,12 @@ fn structs_are_read_as_numbers_and_texts(rt: HostRuntime) {
     expect_structs_as_parts(&rt, rt.alloc(), &pointee_of(&rt, &segments));
     let tree = tree_of(&rt, rt.alloc(), &segments);
     drop(segments);
-    expect_structs_as_parts(&rt, rt.alloc(), &Pointee::of_tree(&tree));
+    expect_structs_as_parts(&rt, rt.alloc(), &PointerReader::of_tree(&tree));
     drop(tree);
 }
 
 /// Two texts, as structs of a text and a number.
-fn expect_texts_as_structs<'a>(rt: &impl Abort, alloc: Global, list: List<'a, StructView<'a>>) {
+fn expect_texts_as_structs<'a>(rt: &impl Abort, alloc: Global, list: List<'a, StructReader<'a>>) {
     check!(rt; list.len() == 2);
     let first = list.get(0);
     check!(rt; is_text(rt, alloc, first.text(0), "Ann"));
@@ -94,7 +94,7 @@ fn texts_are_read_as_structs(rt: HostRuntime) {
 }
 
 /// The second of two texts is empty.
-fn expect_second_empty<'a>(rt: &impl Abort, list: List<'a, Result<TextView<'a>, WrongKind>>) {
+fn expect_second_empty<'a>(rt: &impl Abort, list: List<'a, Result<TextReader<'a>, WrongKind>>) {
     check!(rt; list.len() == 2);
     check!(rt; list.get(1).expect(rt, "a text").is_empty());
 }
@@ -115,16 +115,16 @@ fn expect_low_parts(rt: &impl Abort, list: List<'_, u16>) {
 }
 
 /// Numbers of 16 bits aren't read as those of 32.
-fn expect_no_wider(rt: &impl Abort, root: &StructView) {
+fn expect_no_wider(rt: &impl Abort, root: &StructReader) {
     let (four, two) = (ElementSize::FourBytes, ElementSize::TwoBytes);
     let fault = root.list::<u32>(0).err();
     expect_wrong(rt, fault, Kind::List(four), Kind::List(two));
 }
 
 /// Bits are read as nothing else.
-fn expect_bits_alone(rt: &impl Abort, root: &StructView) {
+fn expect_bits_alone(rt: &impl Abort, root: &StructReader) {
     check!(rt; root.list::<u8>(0).is_err());
-    check!(rt; root.list::<StructView<'_>>(0).is_err());
+    check!(rt; root.list::<StructReader<'_>>(0).is_err());
 }
 
 #[test]

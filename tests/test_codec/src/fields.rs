@@ -2,14 +2,14 @@
 
 use crate::look::{is_text, root_of};
 use crate::samples::one_segment;
-use cp_fields::{DataView, Kind, Past, Pointee, StructView, TextView, WrongKind};
+use cp_fields::{DataReader, Kind, UnknownEnumerant, PointerReader, StructReader, TextReader, WrongKind};
 use cp_tree::Tree;
 use cp_words::ElementSize;
 use std::alloc::Global;
 use std::process::Abort;
 
 /// The numbers of the struct, at their edges.
-pub(crate) fn expect_numbers(rt: &impl Abort, root: &StructView) {
+pub(crate) fn expect_numbers(rt: &impl Abort, root: &StructReader) {
     let bits = [root.bit(0), root.bit_or_true(1), root.bit(2), root.bit(3)];
     check!(rt; bits == [true, false, true, false]);
     let signed = [
@@ -36,7 +36,7 @@ pub(crate) fn expect_numbers(rt: &impl Abort, root: &StructView) {
 }
 
 /// The texts, the data and the struct of the struct.
-pub(crate) fn expect_pointers(rt: &impl Abort, alloc: Global, root: &StructView) {
+pub(crate) fn expect_pointers(rt: &impl Abort, alloc: Global, root: &StructReader) {
     check!(rt; root.text(0).expect(rt, "a text").len() == 4);
     check!(rt; is_text(rt, alloc, root.text(0), "text"));
     check!(rt; is_text(rt, alloc, root.text_or(17, "none"), "x"));
@@ -49,7 +49,7 @@ pub(crate) fn expect_pointers(rt: &impl Abort, alloc: Global, root: &StructView)
 pub(crate) fn expect_data(
     rt: &impl Abort,
     alloc: Global,
-    found: Result<DataView<'_>, WrongKind>,
+    found: Result<DataReader<'_>, WrongKind>,
     wanted: &[u8],
 ) {
     let bytes = found.expect(rt, "data").to_vec(alloc).expect(rt, "memory");
@@ -58,13 +58,13 @@ pub(crate) fn expect_data(
 }
 
 /// The struct of the struct.
-fn expect_small(rt: &impl Abort, alloc: Global, small: &StructView) {
+fn expect_small(rt: &impl Abort, alloc: Global, small: &StructReader) {
     check!(rt; small.u32(0) == 3);
     check!(rt; is_text(rt, alloc, small.text(0), "in"));
 }
 
 /// Fields that are read as what they aren't: data whose last byte isn't zero is no text.
-pub(crate) fn expect_wrong_kinds(rt: &impl Abort, root: &StructView) {
+pub(crate) fn expect_wrong_kinds(rt: &impl Abort, root: &StructReader) {
     let bytes = Kind::List(ElementSize::Byte);
     let halves = Kind::List(ElementSize::TwoBytes);
     let structs = Kind::List(ElementSize::Composite);
@@ -82,7 +82,7 @@ pub(crate) fn expect_wrong(rt: &impl Abort, fault: Option<WrongKind>, wanted: Ki
 
 #[test]
 fn fields_past_the_end_are_as_by_default(rt: HostRuntime) {
-    let root = StructView::empty();
+    let root = StructReader::empty();
     expect_default_numbers(&rt, &root);
     expect_default_pointers(&rt, rt.alloc(), &root);
     let fault = WrongKind {
@@ -95,7 +95,7 @@ fn fields_past_the_end_are_as_by_default(rt: HostRuntime) {
 }
 
 /// The numbers of an empty struct.
-fn expect_default_numbers(rt: &impl Abort, root: &StructView) {
+fn expect_default_numbers(rt: &impl Abort, root: &StructReader) {
     let bits = [root.bit(0), root.bit_or_true(4_294_967_295)];
     check!(rt; bits == [false, true]);
     let signed = [
@@ -116,7 +116,7 @@ fn expect_default_numbers(rt: &impl Abort, root: &StructView) {
 }
 
 /// The pointers of an empty struct.
-fn expect_default_pointers(rt: &impl Abort, alloc: Global, root: &StructView) {
+fn expect_default_pointers(rt: &impl Abort, alloc: Global, root: &StructReader) {
     check!(rt; root.pointer(0).is_null());
     check!(rt; is_text(rt, alloc, root.text_or(17, "none"), "none"));
     expect_data(rt, alloc, root.data_or(1, b"\x01"), &[1]);
@@ -130,7 +130,7 @@ fn texts_say_whether_they_are_utf8(rt: HostRuntime) {
     check!(&rt; !is_utf8_in_place(&rt, rt.alloc(), 0x28c3));
     let bytes = Vec::from_slice(rt.alloc(), b"\xc3\x28\x00").expect(&rt, "memory");
     let tree = Tree::Bytes(bytes);
-    let text = TextView::of(Pointee::of_tree(&tree), "").expect(&rt, "a text");
+    let text = TextReader::of(PointerReader::of_tree(&tree), "").expect(&rt, "a text");
     check!(&rt; !text.is_utf8());
 }
 
@@ -146,10 +146,10 @@ fn is_utf8_in_place(rt: &impl Abort, alloc: Global, bytes: u64) -> bool {
 
 #[test]
 fn data_words_and_known_numbers_are_as_they_are(rt: HostRuntime) {
-    let root = StructView::of_data(&[0x0002_0001, 7]);
+    let root = StructReader::of_data(&[0x0002_0001, 7]);
     check!(&rt; root.u16(1) == 2);
     check!(&rt; root.u64(1) == 7);
     check!(&rt; root.u64(2) == 0);
     check!(&rt; root.pointer(0).is_null());
-    check!(&rt; Past::<3>::of(4).number() == 4);
+    check!(&rt; UnknownEnumerant::<3>::of(4).number() == 4);
 }

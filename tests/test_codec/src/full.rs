@@ -4,13 +4,13 @@ use crate::field_samples::FULL;
 use crate::look::{root_of, tree_of};
 use crate::samples::one_segment;
 use crate::{fields, lists};
-use cp_fields::{Pointee, StructView};
+use cp_fields::{PointerReader, StructReader};
 use cp_tree::Tree;
 use std::alloc::Global;
 use std::process::Abort;
 
 /// Each kind of field and of list.
-fn expect_all(rt: &impl Abort, alloc: Global, root: &StructView) {
+fn expect_all(rt: &impl Abort, alloc: Global, root: &StructReader) {
     fields::expect_numbers(rt, root);
     fields::expect_pointers(rt, alloc, root);
     fields::expect_wrong_kinds(rt, root);
@@ -20,7 +20,7 @@ fn expect_all(rt: &impl Abort, alloc: Global, root: &StructView) {
 
 /// The same of an owned tree.
 fn expect_owned(rt: &impl Abort, alloc: Global, tree: &Tree) {
-    let root = StructView::of(Pointee::of_tree(tree)).expect(rt, "a struct");
+    let root = StructReader::of(PointerReader::of_tree(tree)).expect(rt, "a struct");
     expect_all(rt, alloc, &root);
 }
 

@@ -9,7 +9,7 @@ use c_handles::{
 };
 use cp_frame::{FrameFault, Mode};
 use cp_reading::TreeFault;
-use cp_relay::{Output, RelayFault, Why};
+use cp_relay::{Output, RelayFault, RelayCause};
 use cp_rpc::{Field, SchemaFault};
 use cp_stream::Refusal;
 use cp_tree::WriteFault;
@@ -248,7 +248,7 @@ fn a_relay_stops_at_a_forbidden_call(rt: HostRuntime) {
     expect_bytes(&rt, &relay.lent, &FINISH);
     let forbidden = Err(RelayFault {
         at: 168,
-        why: Why::Forbidden,
+        why: RelayCause::Forbidden,
     });
     check!(&rt; relay.feed(stream.get(50..).unwrap_or(&[])) == forbidden);
     expect_bytes(&rt, &relay.lent, &first);

@@ -2,12 +2,12 @@
 
 use crate::fields::expect_data;
 use crate::look::is_text;
-use cp_fields::{DataView, Item, List, StructView, TextView, WrongKind};
+use cp_fields::{DataReader, Element, List, StructReader, TextReader, WrongKind};
 use std::alloc::Global;
 use std::process::Abort;
 
 /// The lists of numbers.
-pub(crate) fn expect_numbers<'a>(rt: &impl Abort, alloc: Global, root: &StructView<'a>) {
+pub(crate) fn expect_numbers<'a>(rt: &impl Abort, alloc: Global, root: &StructReader<'a>) {
     check!(rt; root.list::<()>(4).expect(rt, "voids").len() == 3);
     let bits = [
         true, false, false, true, true, false, true, false, false, true,
@@ -23,7 +23,7 @@ pub(crate) fn expect_numbers<'a>(rt: &impl Abort, alloc: Global, root: &StructVi
 }
 
 /// A list has these elements.
-fn expect_items<'a, T: Item<'a> + PartialEq>(
+fn expect_items<'a, T: Element<'a> + PartialEq>(
     rt: &impl Abort,
     alloc: Global,
     list: Result<List<'a, T>, WrongKind>,
@@ -35,7 +35,7 @@ fn expect_items<'a, T: Item<'a> + PartialEq>(
 }
 
 /// The lists of texts, data, structs and lists.
-pub(crate) fn expect_pointers<'a>(rt: &impl Abort, alloc: Global, root: &StructView<'a>) {
+pub(crate) fn expect_pointers<'a>(rt: &impl Abort, alloc: Global, root: &StructReader<'a>) {
     expect_texts(rt, alloc, root);
     expect_datas(rt, alloc, root);
     expect_smalls(rt, alloc, root);
@@ -43,8 +43,8 @@ pub(crate) fn expect_pointers<'a>(rt: &impl Abort, alloc: Global, root: &StructV
 }
 
 /// The list of texts.
-fn expect_texts<'a>(rt: &impl Abort, alloc: Global, root: &StructView<'a>) {
-    let texts = root.list::<Result<TextView<'a>, WrongKind>>(12);
+fn expect_texts<'a>(rt: &impl Abort, alloc: Global, root: &StructReader<'a>) {
+    let texts = root.list::<Result<TextReader<'a>, WrongKind>>(12);
     let texts = texts.expect(rt, "texts");
     check!(rt; texts.len() == 3);
     check!(rt; is_text(rt, alloc, texts.get(2), "xyz"));
@@ -52,23 +52,23 @@ fn expect_texts<'a>(rt: &impl Abort, alloc: Global, root: &StructView<'a>) {
 }
 
 /// The list of data.
-fn expect_datas<'a>(rt: &impl Abort, alloc: Global, root: &StructView<'a>) {
-    let datas = root.list::<Result<DataView<'a>, WrongKind>>(13);
+fn expect_datas<'a>(rt: &impl Abort, alloc: Global, root: &StructReader<'a>) {
+    let datas = root.list::<Result<DataReader<'a>, WrongKind>>(13);
     let datas = datas.expect(rt, "datas");
     check!(rt; datas.len() == 2);
     expect_data(rt, alloc, datas.get(0), &[254]);
 }
 
 /// The list of structs.
-fn expect_smalls<'a>(rt: &impl Abort, alloc: Global, root: &StructView<'a>) {
-    let smalls = root.list::<StructView<'a>>(14).expect(rt, "structs");
+fn expect_smalls<'a>(rt: &impl Abort, alloc: Global, root: &StructReader<'a>) {
+    let smalls = root.list::<StructReader<'a>>(14).expect(rt, "structs");
     check!(rt; smalls.len() == 2);
     check!(rt; is_text(rt, alloc, smalls.get(0).text(0), "one"));
     check!(rt; smalls.get(1).u32(0) == 2);
 }
 
 /// The list of lists.
-fn expect_lists<'a>(rt: &impl Abort, alloc: Global, root: &StructView<'a>) {
+fn expect_lists<'a>(rt: &impl Abort, alloc: Global, root: &StructReader<'a>) {
     let lists = root
         .list::<Result<List<'a, i16>, WrongKind>>(16)
         .expect(rt, "lists");

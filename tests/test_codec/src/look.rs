@@ -1,6 +1,6 @@
 //! What the tests of cp_fields share: roots and texts.
 
-use cp_fields::{Pointee, StructView, TextView, WrongKind};
+use cp_fields::{PointerReader, StructReader, TextReader, WrongKind};
 use cp_reading::View;
 use cp_tree::Tree;
 use cp_words::{Limits, Segments};
@@ -8,13 +8,13 @@ use std::alloc::Global;
 use std::process::Abort;
 
 /// What a message's root stands for.
-pub(crate) fn pointee_of<'a>(rt: &impl Abort, segments: &'a Segments) -> Pointee<'a> {
-    Pointee::of_view(View::root(segments, Limits::standard()).expect(rt, "a root"))
+pub(crate) fn pointee_of<'a>(rt: &impl Abort, segments: &'a Segments) -> PointerReader<'a> {
+    PointerReader::of_view(View::root(segments, Limits::standard()).expect(rt, "a root"))
 }
 
 /// A message's root.
-pub(crate) fn root_of<'a>(rt: &impl Abort, segments: &'a Segments) -> StructView<'a> {
-    StructView::of(pointee_of(rt, segments)).expect(rt, "a struct")
+pub(crate) fn root_of<'a>(rt: &impl Abort, segments: &'a Segments) -> StructReader<'a> {
+    StructReader::of(pointee_of(rt, segments)).expect(rt, "a struct")
 }
 
 /// A message's tree.
@@ -26,7 +26,7 @@ pub(crate) fn tree_of(rt: &impl Abort, alloc: Global, segments: &Segments) -> Tr
 pub(crate) fn is_text(
     rt: &impl Abort,
     alloc: Global,
-    text: Result<TextView<'_>, WrongKind>,
+    text: Result<TextReader<'_>, WrongKind>,
     wanted: &str,
 ) -> bool {
     let text = text.expect(rt, "a text").text(alloc).expect(rt, "UTF-8");

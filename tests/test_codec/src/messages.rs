@@ -2,7 +2,7 @@
 //! test_interop's `messages.txt`.
 
 use crate::message_samples::ALL_PARTS;
-use cp_fields::Past;
+use cp_fields::UnknownEnumerant;
 use cp_rpc::{Message, OtherWhich, Owned, SchemaFault, Source, message_in, message_of, tree_of};
 use cp_tree::{Object, WriteFault};
 use cp_words::{Limits, Segments};
@@ -11,8 +11,8 @@ use std::process::Abort;
 
 #[test]
 fn numbers_past_a_table(rt: HostRuntime) {
-    check!(&rt; Past::<3>::new(3).is_none());
-    check!(&rt; matches!(Past::<3>::new(4), Some(number) if number.number() == 4));
+    check!(&rt; UnknownEnumerant::<3>::new(3).is_none());
+    check!(&rt; matches!(UnknownEnumerant::<3>::new(4), Some(number) if number.number() == 4));
     for known in KNOWN {
         check!(&rt; OtherWhich::new(*known).is_none());
     }

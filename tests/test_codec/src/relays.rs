@@ -75,18 +75,18 @@ struct Row {
 /// A message that doesn't release is forbidden after `FINISH`.
 const FORBIDDEN: Option<RelayFault> = Some(RelayFault {
     at: 40,
-    why: Why::Forbidden,
+    why: RelayCause::Forbidden,
 });
 
 /// What is at fault after `FINISH`: a number of segments, a root's bounds, a list, and an end inside a frame.
 const MANY: Option<RelayFault> = Some(RelayFault {
     at: 40,
-    why: Why::Refused(Refusal::Frame(FrameFault::TooManySegments)),
+    why: RelayCause::Refused(Refusal::Frame(FrameFault::TooManySegments)),
 });
 
 const OUT_OF_BOUNDS: Option<RelayFault> = Some(RelayFault {
     at: 40,
-    why: Why::Refused(Refusal::Tree(TreeFault::OutOfBounds(Place {
+    why: RelayCause::Refused(Refusal::Tree(TreeFault::OutOfBounds(Place {
         segment: 0,
         word: 0,
     }))),
@@ -94,12 +94,12 @@ const OUT_OF_BOUNDS: Option<RelayFault> = Some(RelayFault {
 
 const NO_STRUCT: Option<RelayFault> = Some(RelayFault {
     at: 40,
-    why: Why::Refused(Refusal::Schema(SchemaFault::Kind(Field::MessageFinish))),
+    why: RelayCause::Refused(Refusal::Schema(SchemaFault::Kind(Field::MessageFinish))),
 });
 
 const TRUNCATED: Option<RelayFault> = Some(RelayFault {
     at: 40,
-    why: Why::Refused(Refusal::Frame(FrameFault::Truncated)),
+    why: RelayCause::Refused(Refusal::Frame(FrameFault::Truncated)),
 });
 
 /// `FINISH` without its last byte.
@@ -253,7 +253,7 @@ fn streams_go_through(rt: HostRuntime) {
 fn refused(refusal: Refusal) -> Option<RelayFault> {
     Some(RelayFault {
         at: 0,
-        why: Why::Refused(refusal),
+        why: RelayCause::Refused(refusal),
     })
 }
 
@@ -278,11 +278,11 @@ fn little_is_kept(rt: HostRuntime) {
     for piece in TWO_FRAMES.chunks(56) {
         let (front, back) = piece.split_at(20);
         relay
-            .feed(&mut Everything, front, &mut out)
+            .feed(&mut AllowAll, front, &mut out)
             .expect(&rt, "a piece");
         check!(&rt; relay.held() == (24, 2));
         relay
-            .feed(&mut Everything, back, &mut out)
+            .feed(&mut AllowAll, back, &mut out)
             .expect(&rt, "a piece");
         check!(&rt; relay.held() == (0, 0));
     }

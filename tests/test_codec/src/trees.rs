@@ -103,7 +103,7 @@ fn expect_finish(rt: &impl Abort, root: &View) {
         Shape::Struct { words: 1, ptrs: 0 },
         (1, 2),
     );
-    expect_words(rt, root.child(0).again().words(), &[7]);
+    expect_words(rt, root.child(0).reborrow().words(), &[7]);
     expect_shape(rt, &root.child(1), Shape::Null, (0, 0));
 }
 

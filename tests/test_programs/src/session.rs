@@ -7,7 +7,7 @@ mod turns;
 use crate::frames::bytes_of;
 use cp_connection::ConnectionFault;
 use cp_frame::Mode;
-use cp_makers::Hall;
+use cp_objects::ObjectTable;
 use cp_servants::Sample;
 use cp_session::{Limit, Session, SessionEvent, SessionLimits, SessionOptions};
 use cp_vat_machine::Reason;
@@ -108,7 +108,7 @@ impl Trial {
     }
 }
 
-fn act<H: Hall>(rt: &impl Abort, alloc: Global, session: &mut Session<H>, step: Step<'_>) -> Stand {
+fn act<H: ObjectTable>(rt: &impl Abort, alloc: Global, session: &mut Session<H>, step: Step<'_>) -> Stand {
     let mut given = None;
     match step {
         Step::Frames(frames, now) => take(rt, alloc, session, frames, now),
@@ -130,7 +130,7 @@ fn act<H: Hall>(rt: &impl Abort, alloc: Global, session: &mut Session<H>, step: 
 }
 
 /// Does a step of the driver.
-fn pass<H: Hall>(rt: &impl Abort, session: &mut Session<H>, step: Step<'_>) {
+fn pass<H: ObjectTable>(rt: &impl Abort, session: &mut Session<H>, step: Step<'_>) {
     match step {
         Step::Wrote(count, now) => session.wrote(count, now),
         Step::Write(now) => {
@@ -147,7 +147,7 @@ fn pass<H: Hall>(rt: &impl Abort, session: &mut Session<H>, step: Step<'_>) {
 }
 
 /// The session takes these frames one after another, each whole, at this time.
-fn take<H: Hall>(
+fn take<H: ObjectTable>(
     rt: &impl Abort,
     alloc: Global,
     session: &mut Session<H>,
@@ -166,13 +166,13 @@ fn take<H: Hall>(
 }
 
 /// What waits to be written are these frames.
-fn expect_outgoing<H: Hall>(rt: &impl Abort, alloc: Global, session: &Session<H>, frames: &[&str]) {
+fn expect_outgoing<H: ObjectTable>(rt: &impl Abort, alloc: Global, session: &Session<H>, frames: &[&str]) {
     let wanted = bytes_of(rt, alloc, frames);
     check!(rt; session.outgoing() == wanted.as_slice());
     drop(wanted);
 }
 
-fn next_told<H: Hall>(session: &mut Session<H>) -> Told {
+fn next_told<H: ObjectTable>(session: &mut Session<H>) -> Told {
     let event = session.poll_event();
     let told = match &event {
         None => Told::Nothing,

@@ -3,10 +3,10 @@
 #![tactic(auto)]
 
 use anyhow::anyhow;
-use cp_builder::DraftFault;
+use cp_builder::BuildError;
 use cp_frame::Mode;
 use cp_refs::{Outcome, Request};
-use cp_servants::{Content, Reply, Servant, Settled, named_imports, no_such_method, outcome_of};
+use cp_servants::{PayloadBuilder, Reply, Servant, Settled, named_imports, no_such_method, outcome_of};
 use cp_serve::serve_each;
 use cp_stream::Tap;
 use std::alloc::{AllocError, Global};
@@ -42,8 +42,8 @@ impl Blob {
         outcome_of(self.alloc, self.content())
     }
 
-    fn content(&self) -> Result<Content, DraftFault> {
-        let content = Content::new(self.alloc).word(self.calls)?;
+    fn content(&self) -> Result<PayloadBuilder, BuildError> {
+        let content = PayloadBuilder::new(self.alloc).word(self.calls)?;
         content.data(self.bytes.as_slice())
     }
 }

@@ -7,11 +7,11 @@ $block builder$
 #[derive(Drop)]
 pub struct $Type$Builder {
     /// The struct, by the places of its fields.
-    pub body: StructDraft<$words$, $pointers$>,
+    pub body: StructBuilder<$words$, $pointers$>,
 $if own$
     /// The capabilities that it names.
-    pub table: Table,
-use cp_stubs::Table;
+    pub table: CapTableBuilder,
+use cp_interfaces::CapTableBuilder;
 $end$
 }
 
@@ -23,7 +23,7 @@ $if own$
         ensures names { IfOk result (λ d. d.table ≡ []) }
 $end$
     {
-        Ok($Type$Builder { body: StructDraft::new(alloc)?$if own$, table: Table::new(alloc)$end$ })
+        Ok($Type$Builder { body: StructBuilder::new(alloc)?$if own$, table: CapTableBuilder::new(alloc)$end$ })
     }
 $for parts$
 $insert setter setter$
@@ -35,7 +35,7 @@ $if list$
 #[derive(Drop)]
 pub struct $Type$ListBuilder {
     /// The list.
-    pub items: StructsDraft<$words$, $pointers$>,
+    pub items: StructListBuilder<$words$, $pointers$>,
 }
 
 impl $Type$ListBuilder {
@@ -43,11 +43,11 @@ impl $Type$ListBuilder {
     pub fn new(alloc: Global) -> $Type$ListBuilder
         ensures { result.items ≡ blank_list $words$ $pointers$ }
     {
-        $Type$ListBuilder { items: StructsDraft::new(alloc) }
+        $Type$ListBuilder { items: StructListBuilder::new(alloc) }
     }
 
     /// Adds a struct at the end.
-    pub fn push(&mut self, item: $Type$Builder) -> Result<(), DraftFault>
+    pub fn push(&mut self, item: $Type$Builder) -> Result<(), BuildError>
         ensures pushed { OnOk result (self.new.items ≡ with_last self.old.items item.body) }
         ensures left { OnErr result (self.new ≡ self.old) }
         ensures long { result ≡ Err TooLong → ¬ (HoldsOneMore self.old.items ($words$ + $pointers$)) }
@@ -56,12 +56,12 @@ impl $Type$ListBuilder {
     }
 }
 
-impl cp_services::ListValue for $Type$ListBuilder {
+impl cp_interface_objects::ListValue for $Type$ListBuilder {
     ghost tree = { λ l. l.items };
 
     ghost is_long = { λ l. ¬ (Unit {0}) };
 
-    fn into_list(self, alloc: Global) -> Result<Whole, DraftFault> {
+    fn into_list(self, alloc: Global) -> Result<Whole, BuildError> {
         let _ = alloc;
         Ok(self.items.into_whole())
     }
@@ -74,15 +74,15 @@ impl Results for $Type$Builder {
 
     ghost names = { λ d. $if own$d.table$else$[]$end$ };
 
-    fn into_parts(self, alloc: Global) -> (Whole, Table) {
+    fn into_parts(self, alloc: Global) -> (Whole, CapTableBuilder) {
 $if own$
         let _ = alloc;
 $end$
-        (self.body.into_whole(), $if own$self.table$else$Table::new(alloc)$end$)
+        (self.body.into_whole(), $if own$self.table$else$CapTableBuilder::new(alloc)$end$)
     }
 }
-use cp_stubs::Results;
-use cp_stubs::Table;
+use cp_interfaces::Results;
+use cp_interfaces::CapTableBuilder;
 $block parameters$$for args$, $value$: $if client$$client.Type$Client$else$$insert takes form$$end$$end$
 $block content$$for wraps$($if points$with_pointer$else$with_uint$end$ $end$(blank $words$ $pointers$)$for args$ $unless points$$width$ $end$$place$ $if client$(pointer_naming $for before$(with_named $end$[]$for before$ $value$.target)$end$ $value$.target)$else$$insert sets form$$end$)$end$
 $block table$$for clients$(with_named $end$[]$for clients$ $value$.target)$end$
@@ -107,7 +107,7 @@ $insert about$
 $block setter field$
 $unless client$
 $insert about$
-    pub fn set_$joined$(&mut self, $insert copies kind$value: $insert takes form$)$if fails$ -> Result<(), DraftFault>$end$
+    pub fn set_$joined$(&mut self, $insert copies kind$value: $insert takes form$)$if fails$ -> Result<(), BuildError>$end$
         ensures $if fails$set { OnOk result ($else$$if own$set $end${ $end$self.new.body ≡ $if points$with_pointer$else$with_uint$end$ $insert old$ $unless points$$width$ $end$$place$ $insert sets form$$insert limits kind$$unless fails$ }$end$$insert table_stays$
     {
 $if first$
@@ -129,9 +129,9 @@ $block table_stays$$if own$
         ensures names { self.new.table ≡ self.old.table }$end$
 $block client_setter$
 use $from$$Type$Client;
-use cp_stubs::Table;
+use cp_interfaces::CapTableBuilder;
 $if own$
-    pub fn set_$joined$(&mut self, value: $Type$Client) -> Result<(), DraftFault>
+    pub fn set_$joined$(&mut self, value: $Type$Client) -> Result<(), BuildError>
         ensures set { OnOk result (self.new.body ≡ with_pointer $insert old$ $place$ (pointer_naming self.old.table value.target)) }
         ensures added { OnOk result (self.new.table ≡ with_named self.old.table value.target) }
         ensures left { OnErr result (self.new ≡ self.old) }
@@ -141,9 +141,9 @@ $if own$
 $else$
     pub fn set_$joined$(
         &mut self,
-        table: &mut Table,
+        table: &mut CapTableBuilder,
         value: $Type$Client,
-    ) -> Result<(), DraftFault>
+    ) -> Result<(), BuildError>
         ensures set { OnOk result (self.new.body ≡ with_pointer $insert old$ $place$ (pointer_naming table.old value.target)) }
         ensures added { OnOk result (table.new ≡ with_named table.old value.target) }
         ensures left { OnErr result ((self.new ≡ self.old) × (table.new ≡ table.old)) }
@@ -238,26 +238,26 @@ $block sets numbers$($elements$_tree $value$.items)
 $block makes numbers$cp_builder::$maker$_of($value$)?
 $block takes signed_list$&[i$width$]
 $block sets signed_list$($elements$_tree (map (cast_unsigned w$width$) $value$.now))
-$block makes signed_list$cp_services::signed$width$_of($alloc$, $value$)?
+$block makes signed_list$cp_interface_objects::signed$width$_of($alloc$, $value$)?
 $block takes float_list$&[f$width$]
 $block sets float_list$($elements$_tree (map (to_bits binary$width$) $value$.now))
-$block makes float_list$cp_services::float$width$_of($alloc$, $value$)?
+$block makes float_list$cp_interface_objects::float$width$_of($alloc$, $value$)?
 $block takes enum_list$&[$of.Type$]
 $block sets enum_list$(halves_tree (map $of.word$_number $value$.now))
-$block makes enum_list$cp_services::enumerants_of($alloc$, $value$)?
+$block makes enum_list$cp_interface_objects::enumerants_of($alloc$, $value$)?
 $block cites enum_list$
 $insert cites enum$
-$block takes built$$for depth$cp_services::ListsBuilder<$end$$insert list base$$for depth$>$end$
+$block takes built$$for depth$cp_interface_objects::ListsBuilder<$end$$insert list base$$for depth$>$end$
 $block sets built$(pointers_tree $value$.items.items)
 $block makes built$$value$.into_whole()?
 $block cites built$
-ghost use Rattle.cp_services.specs.Lists.{pointers_tree};
+ghost use Rattle.cp_interface_objects.specs.Lists.{pointers_tree};
 $if of$
 $insert cites structs$
 $end$
-$block list text$cp_services::TextListBuilder
-$block list data$cp_services::DataListBuilder
-$block list cap$cp_services::CapListBuilder
+$block list text$cp_interface_objects::TextListBuilder
+$block list data$cp_interface_objects::DataListBuilder
+$block list cap$cp_interface_objects::CapListBuilder
 $block list struct$$of.Type$ListBuilder
 $block list bool$Vec<bool>
 $block list unsigned$Vec<u$width$>

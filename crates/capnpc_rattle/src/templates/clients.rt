@@ -13,7 +13,7 @@ pub struct $Type$Client {
     pub target: CallTarget,
 }
 use cp_refs::Cap;
-use cp_stubs::CallTarget;
+use cp_interfaces::CallTarget;
 
 impl $Type$Client {
     /// The interface's number.
@@ -52,20 +52,20 @@ impl TypedClient for $Type$Client {
         self.target
     }
 }
-use cp_stubs::TypedClient;
+use cp_interfaces::TypedClient;
 $insert server$
 $block client_method$
 
 $if plain$
 $for plain$
     /// A call of `$name$ @$number$`.
-    pub fn $name|snake$_request(&self$insert parameters$) -> Result<Request, DraftFault>
+    pub fn $name|snake$_request(&self$insert parameters$) -> Result<Request, BuildError>
         ensures { IfOk result (λ r. r ≡ request_of $id|hex$ $number$ $insert content$ $insert table$) }
     {
-        let $if args$mut $end$params: StructDraft<$words$, $pointers$> = StructDraft::new(self.target.alloc())?;
+        let $if args$mut $end$params: StructBuilder<$words$, $pointers$> = StructBuilder::new(self.target.alloc())?;
 $if clients$
-        let mut table = Table::new(self.target.alloc());
-use cp_stubs::Table;
+        let mut table = CapTableBuilder::new(self.target.alloc());
+use cp_interfaces::CapTableBuilder;
 $end$
 $for args$
         params.$if points$set_pointer($place$, $end$$if client$table.add($value$.target.into_cap())?$else$$insert makes form$$end$$if points$)$end$;
@@ -81,25 +81,25 @@ $doc about$
 $unless about$
 /// Calls `$name$ @$number$`.
 $end$
-    pub fn $name|method$<C: Caller>(&self, caller: &mut C$insert parameters$) -> Result<$results.Type$Promise, C::Fault>
-        ensures { MakesOf (λ p. p.at) C.asks caller.old self.now.target $id|hex$ $number$ $insert content$ $insert table$ result caller.new }
+    pub fn $name|method$<C: Caller>(&self, caller: &mut C$insert parameters$) -> Result<$results.Type$Pipeline, C::Fault>
+        ensures { MakesOf (λ p. p.at) C.sends caller.old self.now.target $id|hex$ $number$ $insert content$ $insert table$ result caller.new }
     {
         let request = self.$name|snake$_request($for args$$if more$, $end$$value$$end$)?;
-        Ok($results.Type$Promise::of(self.target.call(caller, request)?))
+        Ok($results.Type$Pipeline::of(self.target.call(caller, request)?))
     }
 
     /// A call of `$name$` that an object makes. With the mark the object is told what it came to.
-    pub fn $name|snake$_ask(&self$insert parameters$, mark: u64) -> Result<Ask, DraftFault>
-        ensures { IfOk result (λ ask. ask ≡ ask_of self.now.target (request_of $id|hex$ $number$ $insert content$ $insert table$) mark) }
+    pub fn $name|snake$_call(&self$insert parameters$, call_id: u64) -> Result<OutgoingCall, BuildError>
+        ensures { IfOk result (λ call. call ≡ outgoing_call_of self.now.target (request_of $id|hex$ $number$ $insert content$ $insert table$) call_id) }
     {
-        Ok(self.target.ask(self.$name|snake$_request($for args$$if more$, $end$$value$$end$)?, mark)?)
+        Ok(self.target.outgoing(self.$name|snake$_request($for args$$if more$, $end$$value$$end$)?, call_id)?)
     }
-use cp_servants::Ask;
-ghost use Rattle.cp_services.specs.Calls.{MakesOf};
+use cp_servants::OutgoingCall;
+ghost use Rattle.cp_interface_objects.specs.Calls.{MakesOf};
 $end$
 $else$
     /// A call of `$name$ @$number$`$if params.shared$, with the table of the capabilities that its params name$end$.
-    pub fn $name|snake$_request(&self, params: $params.Type$Builder$if params.shared$, table: Table$end$) -> Request
+    pub fn $name|snake$_request(&self, params: $params.Type$Builder$if params.shared$, table: CapTableBuilder$end$) -> Request
         ensures { result ≡ request_of $id|hex$ $number$ params.body $insert names params.naming$ }
     {
         let content = params.body.into_whole();
@@ -110,21 +110,21 @@ $doc about$
 $unless about$
 /// Calls `$name$ @$number$`.
 $end$
-    pub fn $name|method$<C: Caller>(&self, caller: &mut C, params: $params.Type$Builder$if params.shared$, table: Table$end$) -> Result<$results.Type$Promise, C::Fault>
-        ensures { Makes (λ p. p.at) C.asks caller.old self.now.target $id|hex$ $number$ params.body $insert names params.naming$ result caller.new }
+    pub fn $name|method$<C: Caller>(&self, caller: &mut C, params: $params.Type$Builder$if params.shared$, table: CapTableBuilder$end$) -> Result<$results.Type$Pipeline, C::Fault>
+        ensures { Makes (λ p. p.at) C.sends caller.old self.now.target $id|hex$ $number$ params.body $insert names params.naming$ result caller.new }
     {
         let request = self.$name|snake$_request(params$if params.shared$, table$end$);
-        Ok($results.Type$Promise::of(self.target.call(caller, request)?))
+        Ok($results.Type$Pipeline::of(self.target.call(caller, request)?))
     }
 $if params.shared$
-use cp_stubs::Table;
+use cp_interfaces::CapTableBuilder;
 $end$
 use $params.from$$params.Type$Builder;
-ghost use Rattle.cp_stubs.specs.Calls.{Makes};
+ghost use Rattle.cp_interfaces.specs.Calls.{Makes};
 $end$
 use cp_refs::Request;
-use cp_stubs::Caller;
-use $results.from$$results.Type$Promise;
+use cp_interfaces::Caller;
+use $results.from$$results.Type$Pipeline;
 $block names never$[]
 $block names own$params.table
 $block names shared$table
@@ -132,16 +132,16 @@ $block node empty$
 
 /// `struct $title$`.
 pub type $Type$Reader<'a> = NoFieldsReader<'a>;
-use cp_stubs::NoFieldsReader;
+use cp_interfaces::NoFieldsReader;
 $if results$
 
 /// `struct $title$`, to be written.
 pub type $Type$Builder = NoFieldsBuilder;
 
 /// `struct $title$`, as a question will give it.
-pub type $Type$Promise = NoFieldsPromise;
-use cp_stubs::NoFieldsBuilder;
-use cp_stubs::NoFieldsPromise;
+pub type $Type$Pipeline = NoFieldsPipeline;
+use cp_interfaces::NoFieldsBuilder;
+use cp_interfaces::NoFieldsPipeline;
 $end$
 $block promise$
 
@@ -149,35 +149,35 @@ $block promise$
 $if piped$
 $insert piped_promise$
 $else$
-pub type $Type$Promise = Promise<$Type$Builder>;
+pub type $Type$Pipeline = TypedPipeline<$Type$Builder>;
 
 impl<'a> Lends<'a> for $Type$Builder {
     type Reader = $Type$Reader<'a>;
 
     ghost read = { λ x. x.body };
 
-    fn reader(body: StructView<'a>) -> $Type$Reader<'a> {
+    fn reader(body: StructReader<'a>) -> $Type$Reader<'a> {
         $Type$Reader { body }
     }
 }
-use cp_stubs::Lends;
-use cp_stubs::Promise;
+use cp_interfaces::Lends;
+use cp_interfaces::TypedPipeline;
 $end$
 $block piped_promise$
 #[derive(Drop)]
-pub struct $Type$Promise {
+pub struct $Type$Pipeline {
     /// The question, and the path to the struct.
-    pub at: Promised,
+    pub at: Pipeline,
 }
-use cp_stubs::ResultPayload;
-use cp_stubs::Promised;
+use cp_interfaces::ResultPayload;
+use cp_interfaces::Pipeline;
 
-impl $Type$Promise {
+impl $Type$Pipeline {
     /// What is promised there.
-    pub fn of(at: Promised) -> $Type$Promise
+    pub fn of(at: Pipeline) -> $Type$Pipeline
         ensures { result.at ≡ at }
     {
-        $Type$Promise { at }
+        $Type$Pipeline { at }
     }
 
     /// The number of the question, whose outcome can be waited for.
@@ -256,7 +256,7 @@ $end$
 $end$
   pub elsewhere : IsElsewhere ($for family$$id|hex$ ∷ $end$[]) call → Refuses old call reply new
 use Rattle.cp_servants.specs.declared.servant.Reply.{Reply}
-use Rattle.cp_stubs.specs.Dispatch.{$if methods$Anything, $end$IsElsewhere$if methods$, Method, Passes$end$, Refuses}
-use Rattle.cp_stubs.specs.declared.call.MethodCall.{MethodCall}
+use Rattle.cp_interfaces.specs.Dispatch.{$if methods$Anything, $end$IsElsewhere$if methods$, Method, Passes$end$, Refuses}
+use Rattle.cp_interfaces.specs.declared.call.MethodCall.{MethodCall}
 $block takes_calls$$Type$Takes$for family$ T.$word$_kind$end$
 "#;

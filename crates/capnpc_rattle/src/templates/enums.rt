@@ -9,7 +9,7 @@ $unless about$
 $end$
 $insert enumeration$
 
-impl<'a> Item<'a> for $Type$ {
+impl<'a> Element<'a> for $Type$ {
     ghost SIZE = { sizes.TwoBytes };
 
     ghost read = { λ t. $word$_of (plain t 16 0) };
@@ -18,13 +18,13 @@ impl<'a> Item<'a> for $Type$ {
         cp_words::ElementSize::TwoBytes
     }
 
-    fn of_item(item: StructView<'a>) -> $Type$ {
+    fn of_element(item: StructReader<'a>) -> $Type$ {
         $Type$::of(item.u16(0))
     }
 }
 $if whole$
 
-impl cp_services::Enumerant for $Type$ {
+impl cp_interface_objects::Enumerant for $Type$ {
     ghost number = { $word$_number };
 
     fn as_number(&self) -> u16 {
@@ -42,7 +42,7 @@ $doc about$
     $name|variant$,
 $end$
     /// A number that a newer schema has.
-    Unknown(Past<$last$>),
+    Unknown(UnknownEnumerant<$last$>),
 }
 
 impl $Type$ {
@@ -54,7 +54,7 @@ impl $Type$ {
 $for values$
             $number$ => $Type$::$name|variant$,
 $end$
-            _ => match Past::new(number) {
+            _ => match UnknownEnumerant::new(number) {
                 Some(number) => $Type$::Unknown(number),
                 None => unreachable!(),
             },

@@ -10,11 +10,11 @@ $end$
 #[derive(Drop)]
 pub struct $Type$$Reader$<'a> {
     /// The struct, by the places of its fields.
-    pub body: StructView<'a>,
+    pub body: StructReader<'a>,
 }
 $if items$
 
-impl<'a> Item<'a> for $Type$$Reader$<'a> {
+impl<'a> Element<'a> for $Type$$Reader$<'a> {
     ghost SIZE = { sizes.Composite };
 
     ghost read = { λ t. record { body = t } };
@@ -25,7 +25,7 @@ impl<'a> Item<'a> for $Type$$Reader$<'a> {
         cp_words::ElementSize::Composite
     }
 
-    fn of_item(item: StructView<'a>) -> $Type$$Reader$<'a> {
+    fn of_element(item: StructReader<'a>) -> $Type$$Reader$<'a> {
         $Type$$Reader$ { body: item }
     }
 }
@@ -34,10 +34,10 @@ $if methods$
 
 impl<'a> $Type$$Reader$<'a> {$if constructor$
     /// The struct that a pointer stands for; null is the struct whose fields are all as by default.
-    pub fn of(at: Pointee<'a>) -> Result<$Type$$Reader$<'a>, WrongKind>
+    pub fn of(at: PointerReader<'a>) -> Result<$Type$$Reader$<'a>, WrongKind>
         ensures { Reads result (λ x. x.body) (struct_field at.entry) }
     {
-        Ok($Type$$Reader$ { body: StructView::of(at)? })
+        Ok($Type$$Reader$ { body: StructReader::of(at)? })
     }
 $end$
 $if which$
@@ -97,7 +97,7 @@ $end$
     pub fn $name|method$(&self) -> $of.Type$$Reader$<'a>
         ensures { result.body ≡ self.now.body }
     {
-        $of.Type$$Reader$ { body: self.body.again() }
+        $of.Type$$Reader$ { body: self.body.reborrow() }
     }
 $block reader slot$
 
@@ -131,8 +131,8 @@ $for client$
     }
 use $from$$Type$Client;
 use cp_refs::Caps;
-use cp_stubs::CapFault;
-use cp_stubs::CallTarget;
+use cp_interfaces::CapFault;
+use cp_interfaces::CallTarget;
 use std::alloc::Global;
 $end$
 $block default$
@@ -166,7 +166,7 @@ $for members$
     $name|variant$$if holds$($insert holds held$)$end$,
 $end$
     /// A member that a newer schema has.
-    Unknown(Past<$last$>),
+    Unknown(UnknownEnumerant<$last$>),
 }
 ghost use $here$.{$word$_member};
 $block holds group$$of.Type$$Reader$<'a>
@@ -199,9 +199,9 @@ $block type signed$i$width$
 $block type float$f$width$
 $block type bool$bool
 $block type enum$$of.Type$
-$block type any$Pointee<'a>
-$block type text$TextView<'a>
-$block type data$DataView<'a>
+$block type any$PointerReader<'a>
+$block type text$TextReader<'a>
+$block type data$DataReader<'a>
 $block type cap$Option<u32>
 $block type struct$$of.Type$$Reader$<'a>
 $block type list$List<'a, $for inner$Result<List<'a, $end$$insert item base$$for inner$>, WrongKind>$end$>
@@ -211,9 +211,9 @@ $block item signed$i$width$
 $block item float$f$width$
 $block item bool$bool
 $block item enum$$of.Type$
-$block item any$Pointee<'a>
-$block item text$Result<TextView<'a>, WrongKind>
-$block item data$Result<DataView<'a>, WrongKind>
+$block item any$PointerReader<'a>
+$block item text$Result<TextReader<'a>, WrongKind>
+$block item data$Result<DataReader<'a>, WrongKind>
 $block item cap$Result<Option<u32>, WrongKind>
 $block item struct$$of.Type$$Reader$<'a>
 $block value unsigned$plain $body$ $width$ $place$

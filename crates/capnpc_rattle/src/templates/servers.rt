@@ -20,8 +20,8 @@ $doc about$
 $unless about$
 /// `$name$ @$number$`.
 $end$
-    fn $name|method$(&mut self, call: &mut $Type$$name|camel$Call<'_>, here: &mut Here<Self::Makes>) -> MethodResult
-        ensures { Answers (λ p. p.body) $insert seen results.naming$ $word$_kind.on_$name|snake$ (at self.old here.old) call.old call.new result (at self.new here.new) };
+    fn $name|method$(&mut self, call: &mut $Type$$name|camel$Call<'_>, context: &mut Context<Self::Makes>) -> MethodResult
+        ensures { Answers (λ p. p.body) $insert seen results.naming$ $word$_kind.on_$name|snake$ (at self.old context.old) call.old call.new result (at self.new context.new) };
 $end$
 $for supers$
 use $from$$Type$Server;
@@ -29,7 +29,7 @@ $end$
 }
 
 /// An object of `interface $title$`, as a connection serves it.
-pub type $Type$Servant<T> = ServedObject<T, $Type$Client>;
+pub type $Type$Dispatch<T> = ObjectDispatch<T, $Type$Client>;
 
 /// Resolves a promise of an object of `interface $title$`: one that is named before it is there.
 pub type $Type$Resolver = TypedResolver<$Type$Client>;
@@ -37,52 +37,52 @@ pub type $Type$Resolver = TypedResolver<$Type$Client>;
 impl<T: $Type$Server> Dispatch<T> for $Type$Client {
     ghost takes = { $insert takes_calls$ };
 
-    fn dispatch(object: &mut T, call: &MethodCall, here: &mut Here<T::Makes>) -> Result<Reply, AllocError> {
+    fn dispatch(object: &mut T, call: &MethodCall, context: &mut Context<T::Makes>) -> Result<Reply, AllocError> {
         match (call.request.interface, call.request.method, call.params()) {
 $for methods$
             ($id|hex$, $number$, Ok(body)) => {
                 let results = $insert starts results.naming$;
                 let params = $params.Type$Reader { body };
-                let mut passed = ServiceCall::new(here.alloc(), call, params, results);
-                let done = $Type$Server::$name|method$(object, &mut passed, here);
+                let mut passed = ServiceCall::new(context.alloc(), call, params, results);
+                let done = $Type$Server::$name|method$(object, &mut passed, context);
                 passed.reply(call, done)
             }
 $if results.shared$
-use cp_services::NamedResults;
+use cp_interface_objects::NamedResults;
 $end$
 $end$
 $if methods$
             ($id|hex$, $if last$0..=$end$$last$, Err(fault)) => {
-                refuse(here.alloc(), call, MethodFault::WrongKind(fault))
+                refuse(context.alloc(), call, MethodFault::WrongKind(fault))
             }
-use cp_services::MethodResult;
-use cp_services::ServiceCall;
-ghost use Rattle.cp_services.specs.Calls.{Answers};
+use cp_interface_objects::MethodResult;
+use cp_interface_objects::ServiceCall;
+ghost use Rattle.cp_interface_objects.specs.Calls.{Answers};
 $end$
 $for family$
 $if extended$
-            ($id|hex$, _, _) => <$Type$Client as Dispatch<T>>::dispatch(object, call, here),
+            ($id|hex$, _, _) => <$Type$Client as Dispatch<T>>::dispatch(object, call, context),
 use $from$$Type$Client;
 $end$
 $end$
-            _ => refuse(here.alloc(), call, MethodFault::Unimplemented),
+            _ => refuse(context.alloc(), call, MethodFault::Unimplemented),
         }
     }
 }
 $unless supers$
-use cp_services::ServiceObject;
+use cp_interface_objects::ServiceObject;
 $end$
-use cp_makers::Here;
+use cp_objects::Context;
 use cp_servants::Reply;
-use cp_services::Dispatch;
-use cp_services::ServedObject;
-use cp_services::TypedResolver;
-use cp_stubs::MethodCall;
-use cp_stubs::MethodFault;
-use cp_stubs::refuse;
+use cp_interface_objects::Dispatch;
+use cp_interface_objects::ObjectDispatch;
+use cp_interface_objects::TypedResolver;
+use cp_interfaces::MethodCall;
+use cp_interfaces::MethodFault;
+use cp_interfaces::refuse;
 use std::alloc::AllocError;
 ghost use $here$.{$Type$Kind, $Type$Takes, any_$word$};
-ghost use Rattle.cp_services.specs.Services.{At, at};
+ghost use Rattle.cp_interface_objects.specs.Services.{At, at};
 $block bases$$for supers$$if later$ + $end$$Type$Server$end$
 $block fills never$$results.Type$Builder
 $block fills own$$results.Type$Builder
@@ -90,7 +90,7 @@ $block fills shared$NamedResults<$results.Type$Builder>
 $block seen never$(λ d. d.body) (λ d. [])
 $block seen own$(λ d. d.body) (λ d. d.table)
 $block seen shared$(λ d. d.content.body) (λ d. d.table)
-$block starts never$$results.Type$Builder::new(here.alloc())?
-$block starts own$$results.Type$Builder::new(here.alloc())?
-$block starts shared$NamedResults::new(here.alloc(), $results.Type$Builder::new(here.alloc())?)
+$block starts never$$results.Type$Builder::new(context.alloc())?
+$block starts own$$results.Type$Builder::new(context.alloc())?
+$block starts shared$NamedResults::new(context.alloc(), $results.Type$Builder::new(context.alloc())?)
 "#;

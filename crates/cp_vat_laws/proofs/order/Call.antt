@@ -22,7 +22,7 @@ use Rattle.cp_vat_machine.specs.Then.{Done, fault_if}
 use Rattle.cp_vat_machine.specs.Capacity.{has_capacity, has_ticket, Fresh, cap_fits, request_fits}
 use Rattle.cp_vat_machine.specs.InUse.{has_question, has_promise, has_import, is_local_path, is_own}
 use Rattle.cp_vat_machine.specs.Calling.{Standing, plain, on_wire, came_to, reference_of, called, own_call, mark_of, with_mark, has_mark_capacity, marked, disembargo_of, GoBack, GoByValue, GoFrom, OwnDone, Opens, not_all, call_refusals, DoCall}
-use Rattle.cp_vat_machine.specs.Go.{Underway, held_at, Go, GoTo}
+use Rattle.cp_vat_machine.specs.Go.{PendingCall, held_at, Go, GoTo}
 use Rattle.cp_vat_machine.specs.Local.{OwnIs, QuestionIs}
 use Rattle.cp_vat_machine.specs.Trace.{Turn}
 use Rattle.cp_vat_machine.specs.Ports.{capability, NameRoute, is_there}
@@ -64,7 +64,7 @@ module _ (old : State) (q : ℕ) (request : Request) (cap : Cap) (within : Withi
   sound : Sound old
   sound = sound_within old None [] within
 
-  abbrev call : Underway
+  abbrev call : PendingCall
   call = own_call old q request
 
   -- the state in which the call goes, with these marks

@@ -24,7 +24,7 @@ use Rattle.cp_vat_machine.specs.Then.{Done, fault_if}
 use Rattle.cp_vat_machine.specs.Supported.{is_supported}
 use Rattle.cp_vat_machine.specs.Receiving.{answer_of, path_of, ReceivesCaps}
 use Rattle.cp_vat_machine.specs.Answering.{is_answering, target_faults, GoToExport, GoToAnswer, GoToTarget, peer_call, entered, call_faults, OnCall}
-use Rattle.cp_vat_machine.specs.Go.{Underway, Go}
+use Rattle.cp_vat_machine.specs.Go.{PendingCall, Go}
 use Rattle.cp_vat_machine.specs.Local.{IsExportable, AnswerIs}
 use Rattle.cp_vat_machine.specs.Trace.{Turn}
 use Rattle.cp_vat_machine.specs.Ports.{Name, answer_path, capability, named, NameRoute, entry_of_event}
@@ -62,7 +62,7 @@ module _ (old : State) (c : Call) (taken : List Cap × State) (within : Within o
   abbrev between : State
   between = entered taken.1 c.question_id
 
-  abbrev call : Underway
+  abbrev call : PendingCall
   call = peer_call taken.1 c taken.0
 
   abbrev its_entry : Exchange AnswerEntry

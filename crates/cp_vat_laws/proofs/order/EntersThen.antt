@@ -19,7 +19,7 @@ use Rattle.cp_refs.specs.declared.values.QuestionKind.{QuestionKind}
 use Rattle.cp_refs.specs.declared.values.QuestionKind.TheVariants as kinds
 use Rattle.cp_vat_machine.specs.State.{State, none_over, gave}
 use Rattle.cp_vat_machine.specs.Calling.{mark_of}
-use Rattle.cp_vat_machine.specs.Go.{Underway, held_at, Go}
+use Rattle.cp_vat_machine.specs.Go.{PendingCall, held_at, Go}
 use Rattle.cp_vat_machine.specs.Local.{IsTicketOf}
 use Rattle.cp_vat_machine.specs.Trace.{Turn}
 use Rattle.cp_vat_machine.specs.Ports.{Name, answer_path, capability, entry_of_event, NameRoute, is_there}
@@ -98,7 +98,7 @@ clear_apart s (answer_path a path) n none clear fits = free_over s n none fits
 clear_apart s (capability c) n none clear fits = free_over s n none (rw (clear) at fits.1)
 
 -- The state in which the call goes: values grew, nothing is over, and no other call waits.
-pub record IsCome (old mid : State) (call : Underway) : Type 0 where
+pub record IsCome (old mid : State) (call : PendingCall) : Type 0 where
   pub passes : Passes old mid
   pub grows : GrowsTo old.values mid.values
   pub over : mid.waiting.over ≡ none_over
@@ -113,7 +113,7 @@ pub given_none : (s : State) (origin : Origin) → IsUngiven s origin → given_
 given_none s (Rattle.cp_refs.specs.declared.call.Origin.TheVariants.Answer a) h = h.1
 given_none s (Rattle.cp_refs.specs.declared.call.Origin.TheVariants.Own q) h = h.3
 
-module _ (past : List Turn) (event : Event) (value : Value) (old between : State) (call : Underway) (name : Name) (h : OrderHolds past old) (sound : Sound old)
+module _ (past : List Turn) (event : Event) (value : Value) (old between : State) (call : PendingCall) (name : Name) (h : OrderHolds past old) (sound : Sound old)
     (entry : entry_of_event old event value ≡ Some (record { ticket = old.next_ticket; origin = call.origin; name = name })) (none : old.waiting.over ≡ none_over)
     (come : IsCome old between call) (there : is_there old.values name ≡ true) where
   there_between : is_there between.values name ≡ true

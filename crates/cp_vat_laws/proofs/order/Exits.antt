@@ -22,7 +22,7 @@ use Rattle.cp_vat_machine.specs.Then.{Done}
 use Rattle.cp_vat_machine.specs.Capacity.{Fresh}
 use Rattle.cp_vat_machine.specs.Writing.{WritesDescriptors, promised}
 use Rattle.cp_vat_machine.specs.Receiving.{path_of}
-use Rattle.cp_vat_machine.specs.Go.{Underway, delivered, forwarding, sent, finish_after, GoOut, Go}
+use Rattle.cp_vat_machine.specs.Go.{PendingCall, delivered, forwarding, sent, finish_after, GoOut, Go}
 use Rattle.cp_vat_machine.specs.Local.{IsTicketOf}
 use Rattle.cp_vat_machine.specs.Exits.{to_target, sent_under, exit_by, given_to, failure_by, or_failure}
 use Rattle.cp_vat_machine.specs.declared.entry.QuestionEntry.{QuestionEntry}
@@ -46,7 +46,7 @@ under_ticket : (o : Option (Exchange QuestionEntry)) (entry : Exchange QuestionE
 under_ticket o entry ticket target is bears = rw (is, bears) refl
 
 -- what goes out
-pub record IsOut (s : State) (call : Underway) (target : Target) (done : Done) : Type 0 where
+pub record IsOut (s : State) (call : PendingCall) (target : Target) (done : Done) : Type 0 where
   pub closes : Closes s done.1
   pub exits : flat_map (exit_by done.1) done.0 ≡ to_target call.ticket target
 
@@ -59,7 +59,7 @@ sent_is : (questions : Table (Exchange QuestionEntry)) (q : ℕ) (entry : Exchan
     → get questions q ≡ Some entry → get (with_change questions q change) q ≡ Some (change entry)
 sent_is questions q entry change is = rw (is) (put_at questions q q (change entry) true (is_itself q))
 
-out_done : (s : State) (call : Underway) (target : Target) (origin : Origin) (done : Done) → GoOut s call target origin (Ok done) → IsTicketOf s origin call.ticket
+out_done : (s : State) (call : PendingCall) (target : Target) (origin : Origin) (done : Done) → GoOut s call target origin (Ok done) → IsTicketOf s origin call.ticket
     → IsOut s call target done
 out_done s call target (origins.Answer a) done out whose =
     let first = then_out {A = ℕ} {B = Done} (Fresh s.entries.questions) _ done out in
@@ -91,7 +91,7 @@ out_done s call target (origins.Own q) done out whose =
     })
 
 -- A call went by a route that doesn't wait: so it exits, and nothing else is told of it.
-pub record IsGone (s : State) (call : Underway) (route : Route) (done : Done) : Type 0 where
+pub record IsGone (s : State) (call : PendingCall) (route : Route) (done : Done) : Type 0 where
   pub closes : Closes s done.1
   pub exits : or_failure (flat_map (exit_by done.1) done.0) (failure_by call.ticket (given_to done.1.waiting.over call.origin)) ≡ record { ticket = call.ticket; route = route } ∷ []
 
@@ -99,7 +99,7 @@ delivered_closes : (s : State) (origin : Origin) → Closes s (delivered s origi
 delivered_closes s (origins.Answer a) = same_closes s (delivered s (origins.Answer a)) refl refl refl refl
 delivered_closes s (origins.Own q) = same_closes s (delivered s (origins.Own q)) refl refl refl refl
 
-pub go_done : (s : State) (call : Underway) (route : Route) (done : Done) → Go s call route (Ok done) → IsGoing route → IsTicketOf s call.origin call.ticket
+pub go_done : (s : State) (call : PendingCall) (route : Route) (done : Done) → Go s call route (Ok done) → IsGoing route → IsTicketOf s call.origin call.ticket
     → IsUngiven s call.origin → IsGone s call route done
 go_done s call (routes.Deliver k) done goes going whose may = rw (ok_in _ _ goes) (record { closes = delivered_closes s call.origin; exits = refl })
 go_done s call (routes.Import i) done goes going whose may =

@@ -24,7 +24,7 @@ use Rattle.cp_vat_machine.specs.Then.{Done}
 use Rattle.cp_vat_machine.specs.Capacity.{Fresh}
 use Rattle.cp_vat_machine.specs.Writing.{WritesDescriptors, promised}
 use Rattle.cp_vat_machine.specs.Give.{SettleTied, Returns, given, GiveBy, GiveOwnBy, Give}
-use Rattle.cp_vat_machine.specs.Go.{Underway, delivered, GoOut, Go}
+use Rattle.cp_vat_machine.specs.Go.{PendingCall, delivered, GoOut, Go}
 use Rattle.cp_vat_machine.specs.Ports.{Name, answer_path, capability, is_there}
 use Rattle.cp_vat_machine.specs.declared.entry.AnswerEntry.{AnswerEntry}
 use Rattle.cp_vat_machine.specs.declared.entry.QuestionEntry.{QuestionEntry}
@@ -37,7 +37,7 @@ abbrev pub IsSent : Route → Type 0
 IsSent (routes.Fail x) = ⊥
 IsSent other = Unit {0}
 
-out_same : (s : State) (call : Underway) (target : Target) (origin : Origin) (done : Done) → GoOut s call target origin (Ok done) → done.1.values ≡ s.values
+out_same : (s : State) (call : PendingCall) (target : Target) (origin : Origin) (done : Done) → GoOut s call target origin (Ok done) → done.1.values ≡ s.values
 out_same s call target (origins.Answer a) done out =
     let first = then_out {A = ℕ} {B = Done} (Fresh s.entries.questions) _ done out in
     let parts = then_out {A = List Descriptor × State} {B = Done} (WritesDescriptors s call.request.caps) _ done first.2 in
@@ -50,7 +50,7 @@ delivered_same : (s : State) (origin : Origin) → (delivered s origin).values �
 delivered_same s (origins.Answer a) = refl
 delivered_same s (origins.Own q) = refl
 
-pub go_same : (s : State) (call : Underway) (route : Route) (done : Done) → Go s call route (Ok done) → IsSent route → done.1.values ≡ s.values
+pub go_same : (s : State) (call : PendingCall) (route : Route) (done : Done) → Go s call route (Ok done) → IsSent route → done.1.values ≡ s.values
 go_same s call (routes.Deliver k) done goes is_sent = rw (ok_in _ _ goes) (delivered_same s call.origin)
 go_same s call (routes.Import i) done goes is_sent = out_same s call (targets.ImportedCap i) call.origin done goes
 go_same s call (routes.Pipe q path) done goes is_sent = out_same s call (targets.PromisedAnswer (promised q path)) call.origin done goes
@@ -117,7 +117,7 @@ give_stays s (origins.Own q) outcome done (entry, is, gives) fresh name there =
 same_stays : (values new : ValueMaps) → new ≡ values → StaysThere values new
 same_stays values new same name there = rw (same) there
 
-pub go_stays : (s : State) (call : Underway) (route : Route) (done : Done) → Go s call route (Ok done) → IsFresh s call.origin → StaysThere s.values done.1.values
+pub go_stays : (s : State) (call : PendingCall) (route : Route) (done : Done) → Go s call route (Ok done) → IsFresh s call.origin → StaysThere s.values done.1.values
 go_stays s call (routes.Deliver k) done goes fresh = same_stays s.values done.1.values (go_same s call (routes.Deliver k) done goes tt)
 go_stays s call (routes.Import i) done goes fresh = same_stays s.values done.1.values (go_same s call (routes.Import i) done goes tt)
 go_stays s call (routes.Pipe q path) done goes fresh = same_stays s.values done.1.values (go_same s call (routes.Pipe q path) done goes tt)

@@ -10,8 +10,8 @@ use Rattle.cp_tables.specs.declared.counted.Counted.{Counted}
 use Rattle.cp_tables.specs.declared.exchange.Exchange.{Exchange}
 use Rattle.cp_tables.specs.declared.exchange.Stage.{Stage}
 use Rattle.cp_tables.specs.declared.exchange.Stage.TheVariants as stages
-use Rattle.cp_messages.specs.declared.disembargo.Context.{Context}
-use Rattle.cp_messages.specs.declared.disembargo.Context.TheVariants as contexts
+use Rattle.cp_messages.specs.declared.disembargo.DisembargoContext.{DisembargoContext}
+use Rattle.cp_messages.specs.declared.disembargo.DisembargoContext.TheVariants as contexts
 use Rattle.cp_messages.specs.declared.exception.Exception.{Exception}
 use Rattle.cp_messages.specs.declared.message.Message.{Message}
 use Rattle.cp_messages.specs.declared.message.Message.TheVariants as messages
@@ -130,7 +130,7 @@ ended_quietly old n (Some cap) done none at is =
     let open_ : get old.waiting.over.embargoes n ≡ None = ap (λ o. get o.embargoes n) none ∙ get-empty {X = Cap} nat_cmp n in
     rw (ok_in _ _ is) (record { passes = embargo_passes old n cap at open_; quiet = λ s. refl; calls = refl })
 
-pub on_disembargo : (old : State) (context : Context) (target : Target) (done : Done) → old.waiting.over ≡ none_over → OnDisembargo old context target (Ok done) → DoesQuietly old done
+pub on_disembargo : (old : State) (context : DisembargoContext) (target : Target) (done : Done) → old.waiting.over ≡ none_over → OnDisembargo old context target (Ok done) → DoesQuietly old done
 on_disembargo old (contexts.SenderLoopback n) target done none does = echoes old n target done (unless_out (target_faults old target) (EchoesTarget old n target) done does)
 on_disembargo old (contexts.ReceiverLoopback n) target done none does = ended_quietly old n (get old.marks.embargoes n) done none refl does
 on_disembargo old contexts.Accept target done none does = absurd does

@@ -25,7 +25,7 @@ use Rattle.cp_vat_machine.specs.Supported.{is_supported}
 use Rattle.cp_vat_machine.specs.Receiving.{answer_of, path_of, ReceivesCaps}
 use Rattle.cp_vat_machine.specs.Answering.{is_answering, target_faults, GoToExport, GoToAnswer, GoToTarget, peer_call, entered, call_faults, OnCall}
 use Rattle.cp_vat_machine.specs.Calling.{Standing, plain, on_wire, came_to, reference_of, called, own_call, mark_of, marked, has_mark_capacity, disembargo_of, GoBack, GoByValue, GoFrom, OwnDone, Opens, call_refusals, DoCall}
-use Rattle.cp_vat_machine.specs.Go.{Underway, held_at, Go, GoTo}
+use Rattle.cp_vat_machine.specs.Go.{PendingCall, held_at, Go, GoTo}
 use Rattle.cp_vat_machine.specs.Trace.{Turn}
 use Rattle.cp_vat_machine.specs.Ports.{Name, answer_path, capability, named, is_there}
 use Rattle.cp_vat_machine.specs.Exits.{exits_in, exit_by, given_to, subject_of}
@@ -66,7 +66,7 @@ held_tells turn origin ticket subject quiet silent ungiven =
     let exits : exits_in turn ≡ [] = rw (quiet turn.after, subject) (no_failure ticket (given_to turn.after.waiting.over origin) ungiven) in
     (None, sym (ap (λ e. failed_with e (subject_of turn)) exits ∙ ap (λ k. failed_with [] k) subject), silent)
 
-module _ (turn : Turn) (between : State) (call : Underway) (come : IsCome turn.before between call) (was : NotFinished turn.before call.origin)
+module _ (turn : Turn) (between : State) (call : PendingCall) (come : IsCome turn.before between call) (was : NotFinished turn.before call.origin)
     (subject : subject_of turn ≡ Some (turn.before.next_ticket, call.origin)) where
   its_subject : subject_of turn ≡ Some (call.ticket, call.origin)
   its_subject = subject ∙ ap (λ t. Some (t, call.origin)) (sym come.ticket)

@@ -32,7 +32,7 @@ use Rattle.cp_vat_machine.specs.Answering.{with_answer, bootstrap_outcome, is_an
 use Rattle.cp_vat_machine.specs.Asking.{ReceivesReturned, Settles, ReturnBy, is_asked, ReturnOf, OnReturn}
 use Rattle.cp_vat_machine.specs.Doing.{is_settled}
 use Rattle.cp_vat_machine.specs.Trace.{Turn}
-use Rattle.cp_vat_machine.specs.Telling.{Gift, asked_for, Brings, AskedGives, LeadsBy, LeadsWithin, LeadsTo, is_telling, was_finished, OriginTold, GiftTold}
+use Rattle.cp_vat_machine.specs.Telling.{Fulfillment, asked_for, Brings, AskedGives, LeadsBy, LeadsWithin, LeadsTo, is_telling, was_finished, OriginTold, FulfillmentTold}
 use Rattle.cp_vat_machine.specs.declared.effect.Effect.{Effect}
 use Rattle.cp_vat_machine.specs.declared.entry.AnswerEntry.{AnswerEntry}
 use Rattle.cp_vat_machine.specs.declared.entry.QuestionEntry.{QuestionEntry}
@@ -210,7 +210,7 @@ return_turn old r first mid = owning (events.Receive (messages.Return r)) values
 
 abbrev pub ReturnTells : State → Return → Option (Exchange QuestionEntry) → Done → Type 0
 ReturnTells old r o done =
-    (gift : Option Gift) × AskedGives (return_turn old r done.0 done.1) r o gift × GiftTold (return_turn old r done.0 done.1) gift (filter is_telling done.0)
+    (fulfillment : Option Fulfillment) × AskedGives (return_turn old r done.0 done.1) r o fulfillment × FulfillmentTold (return_turn old r done.0 done.1) fulfillment (filter is_telling done.0)
 
 lowered_since : (old : State) (exports : Table (Counted Cap)) → AreFewer old.counts.exports exports → IsSince old (with_exports old exports)
 lowered_since old exports fewer =
@@ -243,9 +243,9 @@ module _ (old : State) (exports : Table (Counted Cap)) (r : Return) (entry : Exc
   question_same : was_finished (get old.entries.questions r.answer_id) ≡ was_finished (get taken.1.entries.questions r.answer_id)
   question_same = ap (λ t. was_finished (get t r.answer_id)) (sym inn.grows.asked)
 
-  gives_open : (first : List Effect) (mid : State) (gift : Option Gift) (outcome : Outcome) → gift ≡ Some (record { origin = asked_for r.answer_id entry.kept.forwards; outcome = outcome })
-      → Brings (return_turn old r first mid) r.returned outcome → AskedGives (return_turn old r first mid) r (Some entry) gift
-  gives_open first mid gift outcome same brought = rw (open_) (outcome, same, brought)
+  gives_open : (first : List Effect) (mid : State) (fulfillment : Option Fulfillment) (outcome : Outcome) → fulfillment ≡ Some (record { origin = asked_for r.answer_id entry.kept.forwards; outcome = outcome })
+      → Brings (return_turn old r first mid) r.returned outcome → AskedGives (return_turn old r first mid) r (Some entry) fulfillment
+  gives_open first mid fulfillment outcome same brought = rw (open_) (outcome, same, brought)
 
   -- what leads on after what was taken in
   leads_back : (s : State) (first : List Effect) (mid : State) → s.values.promises ≡ taken.1.values.promises

@@ -15,7 +15,7 @@ use Rattle.cp_vat_machine.specs.Step.{On, echo_fits, ReceivesIf, Receives, Does,
 use Rattle.cp_vat_machine.specs.Run.{Moment, Steps}
 use Rattle.cp_vat_machine.specs.Trace.{Turn, leaving_turns, following_turns, step_turns, turns_after}
 use Rattle.cp_vat_machine.specs.Ports.{entry_of_message, entry_of_event}
-use Rattle.cp_vat_machine.specs.Telling.{Gift, MessageGives, is_telling, GiftTold, TellsItsGift}
+use Rattle.cp_vat_machine.specs.Telling.{Fulfillment, MessageGives, is_telling, FulfillmentTold, TellsItsFulfillment}
 use Rattle.cp_vat_machine.specs.declared.effect.Effect.{Effect}
 use Rattle.cp_vat_machine.specs.declared.event.Event.{Event}
 use Rattle.cp_vat_machine.specs.declared.event.Event.TheVariants as events
@@ -49,7 +49,7 @@ module _ (old : State) (first : List Effect) (mid : State) (w : Within old None 
   silent_tells event value entry quiet silent = (None, sym (silent_fails event value old first mid entry quiet), silent)
 
   -- The application's calls.
-  pub own_tells : (event : Event) (value : Value) → Does old event (Ok (value, first, mid)) → TellsItsGift (owning event value old first mid)
+  pub own_tells : (event : Event) (value : Value) → Does old event (Ok (value, first, mid)) → TellsItsFulfillment (owning event value old first mid)
   own_tells (events.Receive m) value does = absurd does
   own_tells events.Bootstrap value does =
       silent_tells events.Bootstrap value refl (did_bootstrap old (value, first, mid) w does).quiet (bootstrap_silent old (value, first, mid) does)
@@ -70,8 +70,8 @@ module _ (old : State) (first : List Effect) (mid : State) (w : Within old None 
   -- what a message that is supported gives
   abbrev MessageTells : Message → Type 0
   MessageTells m =
-      (gift : Option Gift) × MessageGives (owning (events.Receive m) values.Nothing old first mid) m gift
-      × GiftTold (owning (events.Receive m) values.Nothing old first mid) gift (filter is_telling first)
+      (fulfillment : Option Fulfillment) × MessageGives (owning (events.Receive m) values.Nothing old first mid) m fulfillment
+      × FulfillmentTold (owning (events.Receive m) values.Nothing old first mid) fulfillment (filter is_telling first)
 
   quiet_message : (m : Message) → is_supported m ≡ true → entry_of_message old m ≡ None → IsQuietly old first mid → IsSilent first
       → TellsFailure (owning (events.Receive m) values.Nothing old first mid)
@@ -90,24 +90,24 @@ module _ (old : State) (first : List Effect) (mid : State) (w : Within old None 
       quiet_message (messages.Disembargo d) supported refl (on_disembargo old d.context d.target (first, mid) none does) (on_disembargo_silent old d.context d.target (first, mid) does)
   on_tells (messages.Other which body) supported does = absurd does
 
-  supported_tells : (m : Message) → is_supported m ≡ true → MessageTells m → TellsItsGift (owning (events.Receive m) values.Nothing old first mid)
+  supported_tells : (m : Message) → is_supported m ≡ true → MessageTells m → TellsItsFulfillment (owning (events.Receive m) values.Nothing old first mid)
   supported_tells m supported tells = (tells.0, rw (supported) tells.1, tells.2)
 
   echo_silent : (b : Bool) (effects : List Effect) → IsSilent effects → ◌≡◌ {A = Result Done PeerFault} (Ok (first, mid)) (if b then Ok (effects, old) else Err faults.EchoTooLarge) → IsSilent first
   echo_silent true effects silent e = ap (λ d. filter is_telling d.0) (ok_in {F = PeerFault} (first, mid) (effects, old) e) ∙ silent
   echo_silent false effects silent e = ok_out e
 
-  receives_by : (m : Message) (b : Bool) → is_supported m ≡ b → ReceivesIf b old m (Ok (first, mid)) → TellsItsGift (owning (events.Receive m) values.Nothing old first mid)
+  receives_by : (m : Message) (b : Bool) → is_supported m ≡ b → ReceivesIf b old m (Ok (first, mid)) → TellsItsFulfillment (owning (events.Receive m) values.Nothing old first mid)
   receives_by m true is does =
       supported_tells m is (on_tells m is (unless_out {A = Done} (fault_if (not (message_fits m)) faults.PayloadTooLarge) (On old m) (first, mid) does))
   receives_by m false is does = (None, rw (is) refl, echo_silent (echo_fits (message_written (messages.Unimplemented (message_written m)))) _ refl does)
 
-  pub receives_tells : (m : Message) → Receives old m (Ok (first, mid)) → TellsItsGift (owning (events.Receive m) values.Nothing old first mid)
+  pub receives_tells : (m : Message) → Receives old m (Ok (first, mid)) → TellsItsFulfillment (owning (events.Receive m) values.Nothing old first mid)
   receives_tells m does = receives_by m (is_supported m) refl does
 
 -- so do all turns of waiting calls
 abbrev AllTell : List Turn → Type 0
-AllTell turns = AllByRecursion TellsItsGift turns
+AllTell turns = AllByRecursion TellsItsFulfillment turns
 
 leave_tells : GoesWithin → {old : State} {all : List Effect} {out : Result State PeerFault} (leave : Leave old all out) (past : List Turn) → Within old None [] → AllTell past
     → AllTell (leaving_turns leave past)

@@ -9,8 +9,8 @@ use Rattle.cp_tables.specs.declared.counted.Counted.{Counted}
 use Rattle.cp_tables.specs.declared.exchange.Exchange.{Exchange}
 use Rattle.cp_tables.specs.declared.exchange.Stage.{Stage}
 use Rattle.cp_tables.specs.declared.exchange.Stage.TheVariants as stages
-use Rattle.cp_messages.specs.declared.disembargo.Context.{Context}
-use Rattle.cp_messages.specs.declared.disembargo.Context.TheVariants as contexts
+use Rattle.cp_messages.specs.declared.disembargo.DisembargoContext.{DisembargoContext}
+use Rattle.cp_messages.specs.declared.disembargo.DisembargoContext.TheVariants as contexts
 use Rattle.cp_messages.specs.declared.exception.Exception.{Exception}
 use Rattle.cp_messages.specs.declared.message.Message.{Message}
 use Rattle.cp_messages.specs.declared.message.Message.TheVariants as messages
@@ -170,7 +170,7 @@ ended_silent : (old : State) (n : ℕ) (o : Option Cap) (done : Done) → Ok don
 ended_silent old n None done is = ok_out is
 ended_silent old n (Some cap) done is = rw (ok_in _ _ is) refl
 
-pub on_disembargo_silent : (old : State) (context : Context) (target : Target) (done : Done) → OnDisembargo old context target (Ok done) → IsSilent done.0
+pub on_disembargo_silent : (old : State) (context : DisembargoContext) (target : Target) (done : Done) → OnDisembargo old context target (Ok done) → IsSilent done.0
 on_disembargo_silent old (contexts.SenderLoopback n) target done does = echoes old n target done (unless_out (target_faults old target) (EchoesTarget old n target) done does)
 on_disembargo_silent old (contexts.ReceiverLoopback n) target done does = ended_silent old n (get old.marks.embargoes n) done does
 on_disembargo_silent old contexts.Accept target done does = absurd does

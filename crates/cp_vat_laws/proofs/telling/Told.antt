@@ -22,13 +22,13 @@ use Rattle.cp_vat_machine.specs.Then.{Done}
 use Rattle.cp_vat_machine.specs.Capacity.{Fresh}
 use Rattle.cp_vat_machine.specs.Writing.{WritesDescriptors, promised}
 use Rattle.cp_vat_machine.specs.Give.{Returns, GiveOwnBy, Give}
-use Rattle.cp_vat_machine.specs.Go.{Underway, finish_after, GoOut, Go, GoTo, IsNext, without_call, underway}
+use Rattle.cp_vat_machine.specs.Go.{PendingCall, finish_after, GoOut, Go, GoTo, IsNext, without_call, underway}
 use Rattle.cp_vat_machine.specs.Doing.{is_settled}
 use Rattle.cp_vat_machine.specs.Local.{IsTicketOf}
 use Rattle.cp_vat_machine.specs.Trace.{Turn}
 use Rattle.cp_vat_machine.specs.Ports.{entry_of_event}
 use Rattle.cp_vat_machine.specs.Exits.{exits_in, given_to, subject_of}
-use Rattle.cp_vat_machine.specs.Telling.{is_finished, Gift, failed_by, failed_with, failed_in, Bears, is_telling, was_finished, QuestionTold, OriginTold, GiftTold, TellsItsGift}
+use Rattle.cp_vat_machine.specs.Telling.{is_finished, Fulfillment, failed_by, failed_with, failed_in, Bears, is_telling, was_finished, QuestionTold, OriginTold, FulfillmentTold, TellsItsFulfillment}
 use Rattle.cp_vat_machine.specs.declared.effect.Effect.{Effect}
 use Rattle.cp_vat_machine.specs.declared.event.Event.{Event}
 use Rattle.cp_vat_machine.specs.declared.event.Value.{Value}
@@ -78,7 +78,7 @@ after_silent q stages.Open = refl
 after_silent q stages.Finished = refl
 after_silent q stages.Returned = refl
 
-out_silent : (s : State) (call : Underway) (target : Target) (origin : Origin) (done : Done) → GoOut s call target origin (Ok done) → filter is_telling done.0 ≡ []
+out_silent : (s : State) (call : PendingCall) (target : Target) (origin : Origin) (done : Done) → GoOut s call target origin (Ok done) → filter is_telling done.0 ≡ []
 out_silent s call target (origins.Answer a) done out =
     let first = then_out {A = ℕ} {B = Done} (Fresh s.entries.questions) _ done out in
     let parts = then_out {A = List Descriptor × State} {B = Done} (WritesDescriptors s call.request.caps) _ done first.2 in
@@ -89,9 +89,9 @@ out_silent s call target (origins.Own q) done out =
 
 -- A call that fails gives its exception, and no other gives anything: what is given is told.
 abbrev pub TellsFailure : Turn → Type 0
-TellsFailure turn = (gift : Option Gift) × (gift ≡ failed_in turn) × GiftTold turn gift (filter is_telling turn.effects)
+TellsFailure turn = (fulfillment : Option Fulfillment) × (fulfillment ≡ failed_in turn) × FulfillmentTold turn fulfillment (filter is_telling turn.effects)
 
-module _ (turn : Turn) (s : State) (call : Underway) (whose : IsTicketOf s call.origin call.ticket) (may : IsUngiven s call.origin) (same : SameStage turn.before s call.origin)
+module _ (turn : Turn) (s : State) (call : PendingCall) (whose : IsTicketOf s call.origin call.ticket) (may : IsUngiven s call.origin) (same : SameStage turn.before s call.origin)
     (subject : subject_of turn ≡ Some (call.ticket, call.origin)) where
   gone_failed : (route : Route) → Go s call route (Ok (turn.effects, turn.after)) → IsGoing route → failed_in turn ≡ failed_by route call.origin
   gone_failed route goes is_going =
@@ -122,12 +122,12 @@ same_without old call (origins.Answer a) = refl
 same_without old call (origins.Own q) = refl
 
 pub going_tells : (old : State) (call : WaitingCall) (cap : Cap) (first : List Effect) (mid : State) → Within old None [] → IsNext old call cap
-    → GoTo (without_call old call) (underway call) cap (Ok (first, mid)) → TellsItsGift (going old call first mid)
+    → GoTo (without_call old call) (underway call) cap (Ok (first, mid)) → TellsItsFulfillment (going old call first mid)
 going_tells old call cap first mid within next goes =
     let may = waiting_ungiven old call within next.waits in
     go_tells (going old call first mid) (without_call old call) (underway call) may.0 may.1 (same_without old call call.origin) refl goes.0 goes.2
 
-pub resting_tells : (s : State) → TellsItsGift (resting s)
+pub resting_tells : (s : State) → TellsItsFulfillment (resting s)
 resting_tells s = (None, refl, refl)
 
 -- An own part that is silent: nothing fails.

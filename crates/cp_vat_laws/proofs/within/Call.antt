@@ -24,7 +24,7 @@ use Rattle.cp_refs.specs.declared.call.Request.{Request}
 use Rattle.cp_vat_machine.specs.State.{State, Marks, gave, none_over}
 use Rattle.cp_vat_machine.specs.Then.{Done, OrFull, fault_if}
 use Rattle.cp_vat_machine.specs.Capacity.{Fresh, has_capacity, has_ticket, cap_fits, request_fits}
-use Rattle.cp_vat_machine.specs.Go.{Underway, held_at, GoTo}
+use Rattle.cp_vat_machine.specs.Go.{PendingCall, held_at, GoTo}
 use Rattle.cp_vat_machine.specs.InUse.{caps_of, is_pipelined_of, is_local_path, is_unfinished, is_own, has_question, has_promise, has_import}
 use Rattle.cp_vat_machine.specs.Local.{IsThere, is_wire, HasWaiting, IsExportable, IsPathMark, path_value, IsImportMark}
 use Rattle.cp_vat_machine.specs.declared.entry.QuestionEntry.{QuestionEntry}
@@ -140,7 +140,7 @@ pipe_route values q path question r there wire unset routed = by routed.0 routed
     by (suc n) is = sym (some_out (subst (λ w. route_by (λ next. route_within n values next) w ≡ Some r) its_way is))
 
 -- with other marks a call in hand stays so
-in_hand_marks : (s : State) (marks : Marks) (call : Underway) → IsInHand s call → IsInHand (record s { marks = marks }) call
+in_hand_marks : (s : State) (marks : Marks) (call : PendingCall) → IsInHand s call → IsInHand (record s { marks = marks }) call
 in_hand_marks s marks call i =
     record { whose = i.whose; given = i.given; free = i.free; sendable = i.sendable; there = i.there; ends = i.ends; unfinished = i.unfinished }
 

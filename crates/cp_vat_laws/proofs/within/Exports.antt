@@ -18,7 +18,7 @@ use Rattle.cp_vat_machine.specs.Capacity.{free}
 use Rattle.cp_vat_machine.specs.Receiving.{times, less_by, lowered_by, lowered, release_exports, released}
 use Rattle.cp_vat_machine.specs.Writing.{Raise, counted, counted_out, opened, has_no_capacity, WritesEnd, WritesDescriptor, WritesDescriptors}
 use Rattle.cp_vat_machine.specs.Give.{ResolvesEnd, Tells}
-use Rattle.cp_vat_machine.specs.Go.{Underway}
+use Rattle.cp_vat_machine.specs.Go.{PendingCall}
 use Rattle.cp_vat_machine.specs.Then.{Done}
 use Rattle.cp_vat_machine.specs.Local.{IsExportable, AreOne, IsThere}
 use Rattle.cp_vat_machine.specs.declared.entry.Tied.{Tied}
@@ -111,11 +111,11 @@ pub only_both : (s mid new : State) (hand : Option Origin) (next : List Tied) �
 only_both s mid new hand next one more = (more.0, more.1 ∙ ap (λ x. with_exports x new.counts.exports) one)
 
 -- a call in hand stays so
-pub in_hand_exports : (s : State) (exports : Table (Counted Cap)) (call : Underway) → IsInHand s call → IsInHand (with_exports s exports) call
+pub in_hand_exports : (s : State) (exports : Table (Counted Cap)) (call : PendingCall) → IsInHand s call → IsInHand (with_exports s exports) call
 in_hand_exports s exports call i =
     record { whose = i.whose; given = i.given; free = i.free; sendable = i.sendable; there = i.there; ends = i.ends; unfinished = i.unfinished }
 
-pub in_hand_only : (s new : State) (call : Underway) → new ≡ with_exports s new.counts.exports → IsInHand s call → IsInHand new call
+pub in_hand_only : (s new : State) (call : PendingCall) → new ≡ with_exports s new.counts.exports → IsInHand s call → IsInHand new call
 in_hand_only s new call only i = rw (only) (in_hand_exports s new.counts.exports call i)
 
 module _ (hand : Option Origin) (next : List Tied) where

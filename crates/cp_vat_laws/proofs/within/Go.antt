@@ -30,7 +30,7 @@ use Rattle.cp_vat_machine.specs.Then.{Done}
 use Rattle.cp_vat_machine.specs.Capacity.{Fresh}
 use Rattle.cp_vat_machine.specs.Writing.{WritesDescriptors, promised, mentions_of}
 use Rattle.cp_vat_machine.specs.Give.{Give}
-use Rattle.cp_vat_machine.specs.Go.{Underway, delivered, forwarding, sent, GoOut, Go, GoTo}
+use Rattle.cp_vat_machine.specs.Go.{PendingCall, delivered, forwarding, sent, GoOut, Go, GoTo}
 use Rattle.cp_vat_machine.specs.InUse.{caps_of, is_pipelined_of, is_at_question}
 use Rattle.cp_vat_machine.specs.Local.{waiting_of, forwarding_of, one_if, IsTicketOf, is_wire, IsSentIf}
 use Rattle.cp_vat_machine.specs.declared.entry.QuestionEntry.{QuestionEntry}
@@ -118,7 +118,7 @@ delivers s (origins.Own q) t h ticket here =
     (own_rests q h entry changed ticket.1 refl refl refl ticket.4 (λ open_. rw (not_sent) (omega (arith, place))) (rw (here) tt))
 
 -- it goes to the peer
-module _ (s mid : State) (call : Underway) (table : List Descriptor) where
+module _ (s mid : State) (call : PendingCall) (table : List Descriptor) where
   goes_on : (a q : ℕ) → call.origin ≡ origins.Answer a → OnlyExports s (Some (origins.Answer a)) [] mid → IsInHand s call → get s.entries.questions q ≡ None
       → Within (with_questions mid (insert mid.entries.questions q (new_exchange (forwarding a call table)))) None []
   goes_on a q is said i fresh =
@@ -139,7 +139,7 @@ module _ (s mid : State) (call : Underway) (table : List Descriptor) where
       (own_rests q said.0 entry changed ticket.1 refl refl refl ticket.4 (λ open_. rw (held_back) (omega (arith, place)))
       (sent_if (is_wire (get mid.values.questions q)) changed.kept refl held_back))
 
-go_out_keeps : (s : State) (call : Underway) (target : Target) (origin : Origin) (done : Done) → call.origin ≡ origin → Within s (Some origin) []
+go_out_keeps : (s : State) (call : PendingCall) (target : Target) (origin : Origin) (done : Done) → call.origin ≡ origin → Within s (Some origin) []
     → IsInHand s call → GoOut s call target origin (Ok done)
     → Within done.1 None []
 go_out_keeps s call target (origins.Answer a) done is h i goes =
@@ -154,7 +154,7 @@ go_out_keeps s call target (origins.Own q) done is h i goes =
     rw (ok_in _ _ said.2) (goes_own s said.0.1 call said.0.0 q is (say_all_keeps (Some (origins.Own q)) [] call.request.caps s said.0 h said.1) i)
 
 -- A call goes by its route.
-pub go_keeps : (s : State) (call : Underway) (route : Route) (done : Done) → Within s (Some call.origin) [] → IsInHand s call → MayGo s call.origin route
+pub go_keeps : (s : State) (call : PendingCall) (route : Route) (done : Done) → Within s (Some call.origin) [] → IsInHand s call → MayGo s call.origin route
     → Go s call route (Ok done)
     → Within done.1 None []
 go_keeps s call (routes.Deliver k) done h i may goes = rw (ok_in _ _ goes) (delivers s call.origin call.ticket h i.whose may)
@@ -309,7 +309,7 @@ may_go {s = s} h origin cap (routes.Wait gate) target here routed = (
 )
 may_go h origin cap (routes.Fail x) target here routed = here
 
-pub go_to_keeps : (s : State) (call : Underway) (cap : Cap) (done : Done) → Within s (Some call.origin) [] → IsInHand s call → IsTarget s cap
+pub go_to_keeps : (s : State) (call : PendingCall) (cap : Cap) (done : Done) → Within s (Some call.origin) [] → IsInHand s call → IsTarget s cap
     → IsHere s call.origin → GoTo s call cap (Ok done)
     → Within done.1 None []
 go_to_keeps s call cap done h i target here goes = go_keeps s call goes.0 done h i (may_go h call.origin cap goes.0 target here goes.1) goes.2

@@ -12,8 +12,8 @@ use Rattle.cp_messages.specs.declared.small.Release.{Release}
 use Rattle.cp_messages.specs.declared.resolve.Resolution.{Resolution}
 use Rattle.cp_messages.specs.declared.resolve.Resolution.TheVariants as resolutions
 use Rattle.cp_messages.specs.declared.resolve.Resolve.{Resolve}
-use Rattle.cp_messages.specs.declared.disembargo.Context.{Context}
-use Rattle.cp_messages.specs.declared.disembargo.Context.TheVariants as contexts
+use Rattle.cp_messages.specs.declared.disembargo.DisembargoContext.{DisembargoContext}
+use Rattle.cp_messages.specs.declared.disembargo.DisembargoContext.TheVariants as contexts
 use Rattle.cp_messages.specs.declared.message.Message.{Message}
 use Rattle.cp_messages.specs.declared.message.Message.TheVariants as messages
 use Rattle.cp_refs.specs.Route.{HasRoute}
@@ -367,7 +367,7 @@ ends_keeps : (s : State) (n : ℕ) (o : Option Cap) (done : Done) → Within s N
 ends_keeps s n None done h was is = ok_out is
 ends_keeps s n (Some value) done h was is = rw (ok_in _ _ is) (embargo_ends h n value was)
 
-pub disembargo_keeps : (s : State) (context : Context) (target : Target) (done : Done) → Within s None [] → OnDisembargo s context target (Ok done)
+pub disembargo_keeps : (s : State) (context : DisembargoContext) (target : Target) (done : Done) → Within s None [] → OnDisembargo s context target (Ok done)
     → Within done.1 None []
 disembargo_keeps s (contexts.SenderLoopback n) target done h does =
     echoes_keeps s n target done h (unless_out {A = Done} {F = PeerFault} (target_faults s target) (EchoesTarget s n target) done does)

@@ -12,7 +12,7 @@ use Rattle.cp_refs.specs.declared.call.Origin.TheVariants as origins
 use Rattle.cp_refs.specs.declared.route.Gate.{Gate}
 use Rattle.cp_refs.specs.declared.values.QuestionState.{QuestionState}
 use Rattle.cp_vat_machine.specs.State.{State, gave, with_questions, with_answers}
-use Rattle.cp_vat_machine.specs.Go.{Underway, held_at}
+use Rattle.cp_vat_machine.specs.Go.{PendingCall, held_at}
 use Rattle.cp_vat_machine.specs.InUse.{is_at_question, is_local_path}
 use Rattle.cp_vat_machine.specs.Local.{is_open_stage, is_origin, is_forwarding, waiting_of, forwarding_of, one_if, IsTicketOf, ForwardsRightly, tied_to, tied_in, HasNoTied, IsThere, AnswerIs, QuestionIs, is_wire, IsSentIf, IsOpenIf, HasWaiting}
 use Rattle.cp_vat_machine.specs.declared.entry.AnswerEntry.{AnswerEntry}
@@ -46,7 +46,7 @@ not_sent true kept is = absurd (true≢false is)
 not_sent false kept is = tt
 
 -- The call in hand waits at a gate.
-module _ {s : State} (call : Underway) (h : Within s (Some call.origin) []) (i : IsInHand s call) (here : IsHere s call.origin) (gate : Gate)
+module _ {s : State} (call : PendingCall) (h : Within s (Some call.origin) []) (i : IsInHand s call) (here : IsHere s call.origin) (gate : Gate)
     (at : IsUngivenIf s (gave s.waiting.over gate) gate)
     (off_gate : (q : ℕ) (entry : Exchange QuestionEntry) → get s.entries.questions q ≡ Some entry → entry.stage ≡ stages.Finished
     → is_at_question q gate ≡ false) where

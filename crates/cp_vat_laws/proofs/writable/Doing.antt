@@ -25,7 +25,7 @@ use Rattle.cp_vat_machine.specs.State.{State}
 use Rattle.cp_vat_machine.specs.Then.{Done, fault_if}
 use Rattle.cp_vat_machine.specs.Capacity.{has_capacity, has_ticket, Fresh, cap_fits, outcome_fits, request_fits}
 use Rattle.cp_vat_machine.specs.Give.{Give, Settle}
-use Rattle.cp_vat_machine.specs.Go.{Underway, finish_of}
+use Rattle.cp_vat_machine.specs.Go.{PendingCall, finish_of}
 use Rattle.cp_vat_machine.specs.InUse.{is_import_used, is_promise_used, is_question_used, is_own_question, is_unsettled, has_question, has_promise, has_import, is_local_path, is_pipelined, caps_of}
 use Rattle.cp_vat_machine.specs.Calling.{Standing, plain, on_wire, came_to, import_reference, path_reference, question_reference, reference_of, called, own_call, mark_of, with_mark, has_mark_capacity, marked, old_target, FirstEmbargoed, GoBack, GoByValue, GoFrom, OwnDone, not_all, call_refusals, DoCall}
 use Rattle.cp_vat_machine.specs.Doing.{DoAnswer, DoRelease, DoForget, awaits, answer_refusals, resolve_refusals, value_refusals, Resolves, Finishes, FinishBy, told_if, without_import, without_promise}
@@ -88,7 +88,7 @@ target_denoted (caps.Object k) h = tt
 target_denoted (caps.Promise p) h = tt
 target_denoted (caps.Broken x) h = tt
 
-module _ (s : State) (f : Fits s) (call : Underway) (request : RequestFits call.request) (cap : Cap) (c : CapFits cap) where
+module _ (s : State) (f : Fits s) (call : PendingCall) (request : RequestFits call.request) (cap : Cap) (c : CapFits cap) where
   embargoed_fits : (value : Cap) (done : Done) → CapFits value → FirstEmbargoed s call cap value (Ok done) → Good done
   embargoed_fits value done v does =
       let parts = then_out {A = ℕ} {B = Done} (Fresh s.marks.embargoes) _ done does in

@@ -14,8 +14,8 @@ use Rattle.cp_messages.specs.Written.{message_written}
 use Rattle.cp_messages.specs.declared.call.Call.{Call}
 use Rattle.cp_messages.specs.declared.descriptor.Descriptor.{Descriptor}
 use Rattle.cp_messages.specs.declared.descriptor.Descriptor.TheVariants as descriptors
-use Rattle.cp_messages.specs.declared.disembargo.Context.{Context}
-use Rattle.cp_messages.specs.declared.disembargo.Context.TheVariants as contexts
+use Rattle.cp_messages.specs.declared.disembargo.DisembargoContext.{DisembargoContext}
+use Rattle.cp_messages.specs.declared.disembargo.DisembargoContext.TheVariants as contexts
 use Rattle.cp_messages.specs.declared.message.Message.{Message}
 use Rattle.cp_messages.specs.declared.message.Message.TheVariants as messages
 use Rattle.cp_messages.specs.declared.resolve.Resolution.{Resolution}
@@ -39,7 +39,7 @@ use Rattle.cp_vat_machine.specs.Then.{Done, Then, fault_if}
 use Rattle.cp_vat_machine.specs.Capacity.{has_capacity, Fresh, cap_fits, caps_fit, content_fits, message_fits, payload_fits, resolution_fits, returned_fits}
 use Rattle.cp_vat_machine.specs.Receiving.{answer_by, answer_of, path_of, unfinished, held_once_more, held_import, less_by, lowered_by, lowered, release_exports, released, times, ReceivesAnswer, taken_export, ReceivesCap, ReceivesCaps}
 use Rattle.cp_vat_machine.specs.Give.{GiveAnswer, without_question}
-use Rattle.cp_vat_machine.specs.Go.{Underway}
+use Rattle.cp_vat_machine.specs.Go.{PendingCall}
 use Rattle.cp_vat_machine.specs.Answering.{with_answer, bootstrap_outcome, is_answering, OnBootstrap, target_faults, GoToExport, GoToAnswer, GoToTarget, peer_call, entered, call_faults, OnCall, AtStage, FinishedBy}
 use Rattle.cp_vat_machine.specs.Asking.{ReceivesReturned, Settles, ReturnBy, is_asked, ReturnOf}
 use Rattle.cp_vat_machine.specs.Resolving.{OnRelease, is_open_promise, TakeResolution, ResolveOf, given_back, releases_of, echo_to, EchoesExport, EchoesAnswer, EchoesTarget, ended_by, OnDisembargo, UnknownToPeer, told}
@@ -173,7 +173,7 @@ caps_taken table n all same few = all_both _ _ (ap (λ m. leb m 1024) same ∙ f
 
 module _ (s : State) (f : Fits s) where
   -- ---- a Call and a Bootstrap that come
-  target_goes : (call : Underway) (target : Target) (done : Done) → RequestFits call.request → GoToTarget s call target (Ok done) → Good done
+  target_goes : (call : PendingCall) (target : Target) (done : Done) → RequestFits call.request → GoToTarget s call target (Ok done) → Good done
   target_goes call (targets.ImportedCap e) done h goes = at_export (get s.counts.exports e) (f.exports_fit e) goes
     where
       at_export : (o : Option (Counted Cap)) → IfSome o (λ entry. CapFits entry.kept) → GoToExport s call o (Ok done) → Good done
@@ -331,7 +331,7 @@ module _ (s : State) (f : Fits s) where
         },
       )
 
-  disembargo_comes : (context : Context) (target : Target) (done : Done) → OnDisembargo s context target (Ok done) → Good done
+  disembargo_comes : (context : DisembargoContext) (target : Target) (done : Done) → OnDisembargo s context target (Ok done) → Good done
   disembargo_comes (contexts.SenderLoopback n) target done does = echoes_by n target done (unless_out {A = Done} {F = PeerFault} (target_faults s target) _ done does).1
   disembargo_comes (contexts.ReceiverLoopback n) target done does = ends_by n (get s.marks.embargoes n) done (f.embargoes_fit n) does
   disembargo_comes contexts.Accept target done does = absurd does

@@ -41,7 +41,7 @@ use Rattle.cp_vat_machine.specs.Then.{Done, Then}
 use Rattle.cp_vat_machine.specs.Capacity.{Fresh, cap_fits, caps_fit, content_fits, exception_fits}
 use Rattle.cp_vat_machine.specs.Writing.{Raise, counted, counted_out, opened, has_no_capacity, WritesEnd, WritesDescriptor, WritesDescriptors, promised}
 use Rattle.cp_vat_machine.specs.Give.{ResolvesEnd, Tells, settled, value_for, last_for, Settle, SettleTied, Returns, given, gone, GiveBy, GiveAnswer, GiveOwnBy, Give}
-use Rattle.cp_vat_machine.specs.Go.{Underway, underway, delivered, finish_after, GoOut, Go, GoTo, Leave, stays, leaves, finds_table_full, without_call}
+use Rattle.cp_vat_machine.specs.Go.{PendingCall, underway, delivered, finish_after, GoOut, Go, GoTo, Leave, stays, leaves, finds_table_full, without_call}
 use Rattle.cp_vat_machine.specs.Texts.{promise_loop}
 use Rattle.cp_vat_machine.specs.declared.effect.Effect.{Effect}
 use Rattle.cp_vat_machine.specs.declared.effect.Effect.TheVariants as effects
@@ -352,7 +352,7 @@ module _ (s : State) (f : Fits s) where
   finish_sent q stages.Finished = (tt, tt)
   finish_sent q stages.Returned = tt
 
-  out_fits : (call : Underway) (target : Target) (origin : Origin) (done : Done) → RequestFits call.request → TargetSaid target → GoOut s call target origin (Ok done) → Good done
+  out_fits : (call : PendingCall) (target : Target) (origin : Origin) (done : Done) → RequestFits call.request → TargetSaid target → GoOut s call target origin (Ok done) → Good done
   out_fits call target (origins.Answer a) done h said goes =
       let first = then_out {A = ℕ} {B = Done} (Fresh s.entries.questions) _ done goes in
       let parts = then_out {A = List Descriptor × State} {B = Done} (WritesDescriptors s call.request.caps) _ done first.2 in
@@ -367,7 +367,7 @@ module _ (s : State) (f : Fits s) where
       let table = table_fits call.request.caps s parts.0 f caps.1 parts.1 in
       rw (ok_in _ _ parts.2) (((said, (sizes.0, subst (λ n. n ≤ 1024) (sym table.1) (at_most _ _ caps.0), table.0), refl), finish_sent q goes.0.stage), table.2)
 
-  pub go_fits : (call : Underway) (route : Route) (done : Done) → RequestFits call.request → RouteFits route → Go s call route (Ok done) → Good done
+  pub go_fits : (call : PendingCall) (route : Route) (done : Done) → RequestFits call.request → RouteFits route → Go s call route (Ok done) → Good done
   go_fits call (routes.Deliver k) done h r goes = rw (ok_in _ _ goes) ((tt, tt), delivered_fits call.origin)
   go_fits call (routes.Import i) done h r goes = out_fits call (targets.ImportedCap i) call.origin done h tt goes
   go_fits call (routes.Pipe q path) done h r goes = out_fits call (targets.PromisedAnswer (promised q path)) call.origin done h (rw (length-map path (λ field. ops.GetPointerField field)) r) goes
@@ -376,7 +376,7 @@ module _ (s : State) (f : Fits s) where
       (tt, record { values_fit = f.values_fit; exports_fit = f.exports_fit; calls_fit = every-insert (λ call. RequestFits call.request) s.waiting.calls call.ticket _ f.calls_fit h; over_fits = f.over_fits; embargoes_fit = f.embargoes_fit })
   go_fits call (routes.Fail x) done h r goes = give_fits call.origin (outcomes.Failed x) done r goes
 
-  pub goes_fit : (call : Underway) (cap : Cap) (done : Done) → RequestFits call.request → CapFits cap → GoTo s call cap (Ok done) → Good done
+  pub goes_fit : (call : PendingCall) (cap : Cap) (done : Done) → RequestFits call.request → CapFits cap → GoTo s call cap (Ok done) → Good done
   goes_fit call cap done h c goes = go_fits call goes.0 done h (route_fits s.values f.values_fit cap goes.0 c goes.1) goes.2
 
 -- ---- calls that leave

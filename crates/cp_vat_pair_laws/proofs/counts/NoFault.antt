@@ -11,8 +11,8 @@ use Rattle.cp_tables.specs.declared.exchange.Exchange.{Exchange}
 use Rattle.cp_tables.specs.declared.exchange.Stage.{Stage}
 use Rattle.cp_tables.specs.declared.exchange.Stage.TheVariants as stages
 use Rattle.cp_messages.specs.declared.call.Call.{Call}
-use Rattle.cp_messages.specs.declared.disembargo.Context.{Context}
-use Rattle.cp_messages.specs.declared.disembargo.Context.TheVariants as contexts
+use Rattle.cp_messages.specs.declared.disembargo.DisembargoContext.{DisembargoContext}
+use Rattle.cp_messages.specs.declared.disembargo.DisembargoContext.TheVariants as contexts
 use Rattle.cp_messages.specs.declared.message.Message.{Message}
 use Rattle.cp_messages.specs.declared.message.Message.TheVariants as messages
 use Rattle.cp_messages.specs.declared.resolve.Resolution.{Resolution}
@@ -238,7 +238,7 @@ ended_spared : (old : State) (n : ℕ) (o : Option Cap) → IsSpared (ended_by o
 ended_spared old n None = tt
 ended_spared old n (Some cap) = tt
 
-disembargo_spared : (old : State) (context : Context) (target : Target) (out : Result Done PeerFault) → OnDisembargo old context target out → IsSpared out
+disembargo_spared : (old : State) (context : DisembargoContext) (target : Target) (out : Result Done PeerFault) → OnDisembargo old context target out → IsSpared out
 disembargo_spared old (contexts.SenderLoopback n) target out does =
     unless_spared (target_faults old target) _ out (target_other old target) (echoes_spared old n target out) does
 disembargo_spared old (contexts.ReceiverLoopback n) target out does = is_spared out _ does (ended_spared old n (get old.marks.embargoes n))

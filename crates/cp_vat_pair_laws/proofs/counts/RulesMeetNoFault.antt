@@ -30,7 +30,7 @@ use Rattle.cp_vat_machine.specs.Capacity.{has_capacity, Fresh, free, full}
 use Rattle.cp_vat_machine.specs.Writing.{Raise, counted, counted_out, opened, has_no_capacity, WritesEnd, WritesDescriptor, WritesDescriptors, promised}
 use Rattle.cp_vat_machine.specs.Receiving.{answer_of, path_of, held_once_more, held_import, ReceivesAnswer, taken_export, ReceivesCap, ReceivesCaps}
 use Rattle.cp_vat_machine.specs.Give.{ResolvesEnd, Tells, settled, value_for, last_for, Settle, SettleTied, Returns, given, gone, GiveBy, GiveAnswer, GiveOwnBy, GiveOwn, Give}
-use Rattle.cp_vat_machine.specs.Go.{Underway, GoOut, Go}
+use Rattle.cp_vat_machine.specs.Go.{PendingCall, GoOut, Go}
 use Rattle.cp_vat_machine.specs.Answering.{GoToExport, GoToAnswer, GoToTarget}
 use Rattle.cp_vat_machine.specs.declared.entry.AnswerEntry.{AnswerEntry}
 use Rattle.cp_vat_machine.specs.declared.entry.ImportKind.{ImportKind}
@@ -144,30 +144,30 @@ give_spared old (origins.Answer a) outcome out does = answer_spared old a outcom
 give_spared old (origins.Own q) outcome out does = own_spared old q outcome out does
 
 -- calls that go
-out_spared : (old : State) (call : Underway) (target : Target) (origin : Origin) (out : Result Done PeerFault) → GoOut old call target origin out → IsSpared out
+out_spared : (old : State) (call : PendingCall) (target : Target) (origin : Origin) (out : Result Done PeerFault) → GoOut old call target origin out → IsSpared out
 out_spared old call target (origins.Answer a) out goes =
     then_spared (Fresh old.entries.questions) _ out (fresh_spared old.entries.questions)
     (λ q first. then_spared (WritesDescriptors old call.request.caps) _ out (table_spared old call.request.caps) (λ said also end. ok_spared out _ end)) goes
 out_spared old call target (origins.Own q) out goes =
     then_spared (WritesDescriptors old call.request.caps) _ out (table_spared old call.request.caps) (λ said also end. ok_spared out _ end) goes.2
 
-go_spared : (old : State) (call : Underway) (route : Route) (out : Result Done PeerFault) → Go old call route out → IsSpared out
+go_spared : (old : State) (call : PendingCall) (route : Route) (out : Result Done PeerFault) → Go old call route out → IsSpared out
 go_spared old call (routes.Deliver k) out goes = ok_spared out _ goes
 go_spared old call (routes.Import i) out goes = out_spared old call (targets.ImportedCap i) call.origin out goes
 go_spared old call (routes.Pipe q path) out goes = out_spared old call (targets.PromisedAnswer (promised q path)) call.origin out goes
 go_spared old call (routes.Wait gate) out goes = ok_spared out _ goes
 go_spared old call (routes.Fail x) out goes = give_spared old call.origin (outcomes.Failed x) out goes
 
-export_spared : (old : State) (call : Underway) (o : Option (Counted Cap)) (out : Result Done PeerFault) → GoToExport old call o out → IsSpared out
+export_spared : (old : State) (call : PendingCall) (o : Option (Counted Cap)) (out : Result Done PeerFault) → GoToExport old call o out → IsSpared out
 export_spared old call None out goes = absurd goes
 export_spared old call (Some entry) out goes = go_spared old call goes.0 out goes.2
 
-asked_spared : (old : State) (call : Underway) (a : ℕ) (path : List ℕ) (o : Option (Option Outcome)) (out : Result Done PeerFault) → GoToAnswer old call a path o out → IsSpared out
+asked_spared : (old : State) (call : PendingCall) (a : ℕ) (path : List ℕ) (o : Option (Option Outcome)) (out : Result Done PeerFault) → GoToAnswer old call a path o out → IsSpared out
 asked_spared old call a path None out goes = absurd goes
 asked_spared old call a path (Some None) out goes = go_spared old call (routes.Wait (gates.Answer a path)) out goes
 asked_spared old call a path (Some (Some outcome)) out goes = go_spared old call goes.0 out goes.2
 
-pub target_spared : (old : State) (call : Underway) (target : Target) (out : Result Done PeerFault) → GoToTarget old call target out → IsSpared out
+pub target_spared : (old : State) (call : PendingCall) (target : Target) (out : Result Done PeerFault) → GoToTarget old call target out → IsSpared out
 target_spared old call (targets.ImportedCap e) out goes = export_spared old call (get old.counts.exports e) out goes
 target_spared old call (targets.PromisedAnswer answer) out goes =
     asked_spared old call answer.question_id (path_of answer.transform) (answer_of old answer.question_id) out goes

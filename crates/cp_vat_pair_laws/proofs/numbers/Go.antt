@@ -27,7 +27,7 @@ use Rattle.cp_vat_machine.specs.Then.{Done, Then}
 use Rattle.cp_vat_machine.specs.Capacity.{Fresh, free}
 use Rattle.cp_vat_machine.specs.Writing.{Raise, counted, counted_out, opened, has_no_capacity, WritesEnd, WritesDescriptor, WritesDescriptors}
 use Rattle.cp_vat_machine.specs.Give.{ResolvesEnd, Tells, settled, value_for, last_for, Settle, SettleTied, Returns, given, gone, GiveBy, GiveAnswer, GiveOwnBy, Give}
-use Rattle.cp_vat_machine.specs.Go.{Underway, underway, delivered, GoOut, Go, GoTo, Leave, stays, leaves, finds_table_full, without_call}
+use Rattle.cp_vat_machine.specs.Go.{PendingCall, underway, delivered, GoOut, Go, GoTo, Leave, stays, leaves, finds_table_full, without_call}
 use Rattle.cp_vat_machine.specs.Calling.{Standing, plain, on_wire, came_to, reference_of, called, own_call, mark_of, with_mark, has_mark_capacity, marked, FirstEmbargoed, GoBack, GoByValue, GoFrom, OwnDone, call_refusals, DoCall}
 use Rattle.cp_vat_machine.specs.declared.effect.Effect.{Effect}
 use Rattle.cp_vat_machine.specs.declared.entry.Tied.{Tied}
@@ -140,7 +140,7 @@ module _ (start : Counts) where
   delivered_to old (origins.Answer a) to = to
   delivered_to old (origins.Own q) to = to
 
-  out_to : (old : State) (call : Underway) (target : Target) (origin : Origin) (done : Done) → To old → GoOut old call target origin (Ok done) → To done.1
+  out_to : (old : State) (call : PendingCall) (target : Target) (origin : Origin) (done : Done) → To old → GoOut old call target origin (Ok done) → To done.1
   out_to old call target (origins.Answer a) done to goes =
       let first = then_out {A = ℕ} {B = Done} (Fresh old.entries.questions) _ done goes in
       let parts = then_out {A = List Descriptor × State} {B = Done} (WritesDescriptors old call.request.caps) _ done first.2 in
@@ -149,14 +149,14 @@ module _ (start : Counts) where
       let parts = then_out {A = List Descriptor × State} {B = Done} (WritesDescriptors old call.request.caps) _ done goes.2 in
       rw (ok_in _ _ parts.2) (table_to call.request.caps old parts.0 to parts.1)
 
-  pub go_to : (old : State) (call : Underway) (route : Route) (done : Done) → To old → Go old call route (Ok done) → To done.1
+  pub go_to : (old : State) (call : PendingCall) (route : Route) (done : Done) → To old → Go old call route (Ok done) → To done.1
   go_to old call (routes.Deliver k) done to goes = rw (ok_in _ _ goes) (delivered_to old call.origin to)
   go_to old call (routes.Import i) done to goes = out_to old call (targets.ImportedCap i) call.origin done to goes
   go_to old call (routes.Pipe q path) done to goes = out_to old call _ call.origin done to goes
   go_to old call (routes.Wait gate) done to goes = rw (ok_in _ _ goes) to
   go_to old call (routes.Fail x) done to goes = give_to old call.origin (outcomes.Failed x) done to goes
 
-  pub goes_to : (old : State) (call : Underway) (cap : Cap) (done : Done) → To old → GoTo old call cap (Ok done) → To done.1
+  pub goes_to : (old : State) (call : PendingCall) (cap : Cap) (done : Done) → To old → GoTo old call cap (Ok done) → To done.1
   goes_to old call cap done to goes = go_to old call goes.0 done to goes.2
 
   abbrev LeftTo : Result State PeerFault → Type 0
@@ -186,13 +186,13 @@ module _ (start : Counts) where
       by true e = rw (ok_in _ _ e) (mark_to s cap None to)
       by false e = ok_out e
 
-  embargoed_to : (s : State) (call : Underway) (cap value : Cap) (done : Done) → To s → FirstEmbargoed s call cap value (Ok done) → To done.1
+  embargoed_to : (s : State) (call : PendingCall) (cap value : Cap) (done : Done) → To s → FirstEmbargoed s call cap value (Ok done) → To done.1
   embargoed_to s call cap value done to does =
       let parts = then_out {A = ℕ} {B = Done} (Fresh s.marks.embargoes) _ done does in
       let there : State = record s { marks = record s.marks { embargoes = insert s.marks.embargoes parts.0 value } } in
       rw (ok_in _ _ parts.2) (mark_to there cap (Some parts.0) to)
 
-  back_to : (s : State) (call : Underway) (cap value : Cap) (o : Option (Option ℕ)) (done : Done) → To s → GoBack s call cap value o (Ok done) → To done.1
+  back_to : (s : State) (call : PendingCall) (cap value : Cap) (o : Option (Option ℕ)) (done : Done) → To s → GoBack s call cap value o (Ok done) → To done.1
   back_to s call cap value None done to does = goes_to s call value done to does
   back_to s call cap value (Some None) done to does = embargoed_to s call cap value done to does
   back_to s call cap value (Some (Some n)) done to does = go_to s call (routes.Wait (gates.Embargo n)) done to does

@@ -11,8 +11,8 @@ use Rattle.cp_tables.specs.declared.exchange.Stage.TheVariants as stages
 use Rattle.cp_messages.specs.declared.call.Call.{Call}
 use Rattle.cp_messages.specs.declared.descriptor.Descriptor.{Descriptor}
 use Rattle.cp_messages.specs.declared.descriptor.Descriptor.TheVariants as descriptors
-use Rattle.cp_messages.specs.declared.disembargo.Context.{Context}
-use Rattle.cp_messages.specs.declared.disembargo.Context.TheVariants as contexts
+use Rattle.cp_messages.specs.declared.disembargo.DisembargoContext.{DisembargoContext}
+use Rattle.cp_messages.specs.declared.disembargo.DisembargoContext.TheVariants as contexts
 use Rattle.cp_messages.specs.declared.message.Message.{Message}
 use Rattle.cp_messages.specs.declared.message.Message.TheVariants as messages
 use Rattle.cp_messages.specs.declared.resolve.Resolution.{Resolution}
@@ -37,7 +37,7 @@ use Rattle.cp_vat_machine.specs.Capacity.{has_capacity, Fresh, message_fits}
 use Rattle.cp_vat_machine.specs.Supported.{is_supported}
 use Rattle.cp_vat_machine.specs.Receiving.{answer_of, path_of, held_once_more, held_import, ReceivesAnswer, taken_export, ReceivesCap, ReceivesCaps, release_exports, released}
 use Rattle.cp_vat_machine.specs.Give.{GiveAnswer, without_question}
-use Rattle.cp_vat_machine.specs.Go.{Underway}
+use Rattle.cp_vat_machine.specs.Go.{PendingCall}
 use Rattle.cp_vat_machine.specs.Answering.{with_answer, bootstrap_outcome, is_answering, OnBootstrap, target_faults, GoToExport, GoToAnswer, GoToTarget, peer_call, entered, call_faults, OnCall, AtStage, FinishedBy}
 use Rattle.cp_vat_machine.specs.Asking.{ReceivesReturned, Settles, ReturnBy, is_asked, ReturnOf}
 use Rattle.cp_vat_machine.specs.Resolving.{OnRelease, is_open_promise, TakeResolution, ResolveOf, echo_to, EchoesExport, EchoesAnswer, EchoesTarget, ended_by, OnDisembargo}
@@ -116,7 +116,7 @@ module _ (start : Counts) where
       rw (ok_in _ _ rest.2) (take_all_to table first.0.1 rest.0 (take_to old d first.0 to first.1) rest.1)
 
   -- a Call and a Bootstrap that come
-  target_to : (s : State) (call : Underway) (target : Target) (done : Done) → To start s → GoToTarget s call target (Ok done) → To start done.1
+  target_to : (s : State) (call : PendingCall) (target : Target) (done : Done) → To start s → GoToTarget s call target (Ok done) → To start done.1
   target_to s call (targets.ImportedCap e) done to goes = at_export (get s.counts.exports e) goes
     where
       at_export : (o : Option (Counted Cap)) → GoToExport s call o (Ok done) → To start done.1
@@ -220,7 +220,7 @@ module _ (start : Counts) where
   ends_by old n None done to is = ok_out is
   ends_by old n (Some cap) done to is = rw (ok_in _ _ is) to
 
-  disembargo_to : (old : State) (context : Context) (target : Target) (done : Done) → To start old → OnDisembargo old context target (Ok done) → To start done.1
+  disembargo_to : (old : State) (context : DisembargoContext) (target : Target) (done : Done) → To start old → OnDisembargo old context target (Ok done) → To start done.1
   disembargo_to old (contexts.SenderLoopback n) target done to does =
       echoes_by old n target done to (unless_out {A = Done} {F = PeerFault} (target_faults old target) _ done does)
   disembargo_to old (contexts.ReceiverLoopback n) target done to does = ends_by old n (get old.marks.embargoes n) done to does

@@ -9,8 +9,8 @@ use Rattle.cp_tables.specs.declared.exchange.Exchange.{Exchange}
 use Rattle.cp_tables.specs.declared.exchange.Stage.{Stage}
 use Rattle.cp_tables.specs.declared.exchange.Stage.TheVariants as stages
 use Rattle.cp_messages.specs.declared.call.Call.{Call}
-use Rattle.cp_messages.specs.declared.disembargo.Context.{Context}
-use Rattle.cp_messages.specs.declared.disembargo.Context.TheVariants as contexts
+use Rattle.cp_messages.specs.declared.disembargo.DisembargoContext.{DisembargoContext}
+use Rattle.cp_messages.specs.declared.disembargo.DisembargoContext.TheVariants as contexts
 use Rattle.cp_messages.specs.declared.message.Message.{Message}
 use Rattle.cp_messages.specs.declared.message.Message.TheVariants as messages
 use Rattle.cp_messages.specs.declared.resolve.Resolve.{Resolve}
@@ -35,7 +35,7 @@ use Rattle.cp_vat_machine.specs.Capacity.{Fresh, has_capacity, message_fits}
 use Rattle.cp_vat_machine.specs.Supported.{is_supported}
 use Rattle.cp_vat_machine.specs.Receiving.{answer_of, path_of, ReceivesCaps, release_exports}
 use Rattle.cp_vat_machine.specs.Give.{Give, GiveAnswer, Settle, without_question}
-use Rattle.cp_vat_machine.specs.Go.{Underway, GoTo, Leave, stays, leaves, finds_table_full, without_call, underway}
+use Rattle.cp_vat_machine.specs.Go.{PendingCall, GoTo, Leave, stays, leaves, finds_table_full, without_call, underway}
 use Rattle.cp_vat_machine.specs.Answering.{with_answer, bootstrap_outcome, is_answering, GoToExport, GoToAnswer, GoToTarget, peer_call, entered, call_faults, target_faults, OnCall, AtStage, FinishedBy}
 use Rattle.cp_vat_machine.specs.Asking.{ReceivesReturned, Settles, ReturnBy, is_asked, ReturnOf}
 use Rattle.cp_vat_machine.specs.Resolving.{is_open_promise, TakeResolution, ResolveOf, echo_to, EchoesExport, EchoesAnswer, EchoesTarget, ended_by, OnDisembargo}
@@ -171,7 +171,7 @@ does_below s (events.Forget p) done h none still does = absurd still
 does_below s events.Idle done h none still does = rw (ok_in _ _ does) tt
 
 -- a message
-target_below : (n : ℕ) (s : State) (call : Underway) (target : Target) (done : Done) → NoneFinished s → IsBelow n call.origin call.ticket
+target_below : (n : ℕ) (s : State) (call : PendingCall) (target : Target) (done : Done) → NoneFinished s → IsBelow n call.origin call.ticket
     → GoToTarget s call target (Ok done) → AllBelow n done.0
 target_below n s call (targets.ImportedCap e) done none below goes = at_export (get s.counts.exports e) goes
   where
@@ -267,7 +267,7 @@ ended_below : (n : ℕ) (s : State) (m : ℕ) (o : Option Cap) (done : Done) →
 ended_below n s m None done is = ok_out is
 ended_below n s m (Some cap) done is = rw (ok_in _ _ is) tt
 
-disembargo_below : (n : ℕ) (s : State) (context : Context) (target : Target) (done : Done) → OnDisembargo s context target (Ok done) → AllBelow n done.0
+disembargo_below : (n : ℕ) (s : State) (context : DisembargoContext) (target : Target) (done : Done) → OnDisembargo s context target (Ok done) → AllBelow n done.0
 disembargo_below n s (contexts.SenderLoopback m) target done does =
     echoes_below n s m target done (unless_out {A = Done} {F = PeerFault} (target_faults s target) _ done does)
 disembargo_below n s (contexts.ReceiverLoopback m) target done does = ended_below n s m (get s.marks.embargoes m) done does

@@ -27,7 +27,7 @@ use Rattle.cp_vat_machine.specs.Then.{Done, fault_if, OrFull}
 use Rattle.cp_vat_machine.specs.Capacity.{Fresh, outcome_fits}
 use Rattle.cp_vat_machine.specs.Writing.{IsExport}
 use Rattle.cp_vat_machine.specs.Give.{Give, Settle}
-use Rattle.cp_vat_machine.specs.Go.{Underway, held_at, GoTo}
+use Rattle.cp_vat_machine.specs.Go.{PendingCall, held_at, GoTo}
 use Rattle.cp_vat_machine.specs.InUse.{has_question, has_promise, has_import, is_pipelined, caps_of}
 use Rattle.cp_vat_machine.specs.Calling.{plain, on_wire, came_to, import_reference, path_reference, question_reference, reference_of, asked, called, own_call, mark_of, with_mark, has_mark_capacity, marked, disembargo_of, FirstEmbargoed, GoBack, GoByValue, GoFrom, OwnDone, call_refusals, not_all, DoCall}
 use Rattle.cp_vat_machine.specs.Calling as calling
@@ -185,7 +185,7 @@ loop_of n m cap embargoes value true t none =
     rw (put_at embargoes n m value true t, there, t) (omega arith)
 loop_of n m cap embargoes value false t none = rw (put_at embargoes n m value false t, t) (omega arith)
 
-pub embargoed_grows : (s : State) (call : Underway) (cap value : Cap) (done : Done) → FirstEmbargoed s call cap value (Ok done) → Grown s done.0 done.1
+pub embargoed_grows : (s : State) (call : PendingCall) (cap value : Cap) (done : Done) → FirstEmbargoed s call cap value (Ok done) → Grown s done.0 done.1
 embargoed_grows s call cap value done does =
     let parts = then_out {A = ℕ} {B = Done} (Fresh s.marks.embargoes) _ done does in
     let n = parts.0 in

@@ -24,7 +24,7 @@ use Rattle.cp_vat_machine.specs.State.{State, with_questions}
 use Rattle.cp_vat_machine.specs.Then.{Done}
 use Rattle.cp_vat_machine.specs.Capacity.{Fresh}
 use Rattle.cp_vat_machine.specs.Writing.{WritesDescriptors, promised, mentions_of}
-use Rattle.cp_vat_machine.specs.Go.{Underway, held_at, delivered, call_of, forwarding, finish_after, GoOut, Go, GoTo, Leave, stays, leaves, finds_table_full, IsNext, without_call, underway}
+use Rattle.cp_vat_machine.specs.Go.{PendingCall, held_at, delivered, call_of, forwarding, finish_after, GoOut, Go, GoTo, Leave, stays, leaves, finds_table_full, IsNext, without_call, underway}
 use Rattle.cp_vat_machine.specs.Local.{AreOne, is_open_stage, is_origin, one_if, IsTicketOf, AnswerIs, OwnIs, QuestionIs, is_wire, is_wire_kind, IsSentIf}
 use Rattle.cp_vat_machine.specs.declared.effect.Effect.{Effect}
 use Rattle.cp_vat_machine.specs.declared.effect.Effect.TheVariants as effects
@@ -113,7 +113,7 @@ delivered_grows s (origins.Answer a) =
 delivered_grows s (origins.Own q) = changed_grows s q (λ x. record x { kept = record x.kept { is_delivered = true } }) (λ x. (refl, refl, refl))
 
 -- a delivery is no message
-deliver_grows : (k : ℕ) (call : Underway) (s new : State) → Grown s [] new → Grown s (effects.Deliver k call.origin call.ticket call.request ∷ []) new
+deliver_grows : (k : ℕ) (call : PendingCall) (s new : State) → Grown s [] new → Grown s (effects.Deliver k call.origin call.ticket call.request ∷ []) new
 deliver_grows k call s new h = record { places = h.places; refs = h.refs; tickets = h.tickets; mails = mail h.mails; loops = loop h.loops }
   where
     mail : Mails s [] new → Mails s (effects.Deliver k call.origin call.ticket call.request ∷ []) new
@@ -163,7 +163,7 @@ finish_follows s q entry stages.Finished is at =
     }
 
 -- a question that forwards is opened
-forwarding_grows : (s : State) (q a : ℕ) (call : Underway) (table : List Descriptor)
+forwarding_grows : (s : State) (q a : ℕ) (call : PendingCall) (table : List Descriptor)
     → Grown s [] (with_questions s (insert s.entries.questions q (new_exchange (forwarding a call table))))
 forwarding_grows s q a call table =
     record {
@@ -184,7 +184,7 @@ forwarding_grows s q a call table =
           | inr old ↦ (entry, old.1, refl, own)
         ]
 
-pub out_grows : (old : State) (call : Underway) (target : Target) (origin : Origin) (done : Done) → AreOne old → GoOut old call target origin (Ok done)
+pub out_grows : (old : State) (call : PendingCall) (target : Target) (origin : Origin) (done : Done) → AreOne old → GoOut old call target origin (Ok done)
     → Grown old done.0 done.1
 out_grows old call target (origins.Answer a) done one goes =
     let fresh = then_out {A = ℕ} {B = Done} (Fresh old.entries.questions) _ done goes in
@@ -207,7 +207,7 @@ abbrev pub MayFail : State → Origin → Route → Type 0
 MayFail s origin (routes.Fail x) = MayGive s origin
 MayFail s origin other = Unit {0}
 
-pub go_grows : (old : State) (call : Underway) (route : Route) (done : Done) → AreOne old → MayFail old call.origin route → Go old call route (Ok done)
+pub go_grows : (old : State) (call : PendingCall) (route : Route) (done : Done) → AreOne old → MayFail old call.origin route → Go old call route (Ok done)
     → Grown old done.0 done.1
 go_grows old call (routes.Deliver k) done one may goes =
     rw (ok_in _ _ goes) (deliver_grows k call old (delivered old call.origin) (delivered_grows old call.origin))
@@ -223,7 +223,7 @@ may_fail s origin (routes.Pipe q path) may = tt
 may_fail s origin (routes.Wait gate) may = tt
 may_fail s origin (routes.Fail x) may = may
 
-pub goes_grow : (old : State) (call : Underway) (cap : Cap) (done : Done) → AreOne old → MayGive old call.origin → GoTo old call cap (Ok done)
+pub goes_grow : (old : State) (call : PendingCall) (cap : Cap) (done : Done) → AreOne old → MayGive old call.origin → GoTo old call cap (Ok done)
     → Grown old done.0 done.1
 goes_grow old call cap done one may goes = go_grows old call goes.0 done one (may_fail old call.origin goes.0 may) goes.2
 

@@ -13,8 +13,8 @@ use Rattle.cp_tables.specs.declared.exchange.Stage.TheVariants as stages
 use Rattle.cp_messages.specs.declared.call.Call.{Call}
 use Rattle.cp_messages.specs.declared.descriptor.Descriptor.{Descriptor}
 use Rattle.cp_messages.specs.declared.descriptor.Descriptor.TheVariants as descriptors
-use Rattle.cp_messages.specs.declared.disembargo.Context.{Context}
-use Rattle.cp_messages.specs.declared.disembargo.Context.TheVariants as contexts
+use Rattle.cp_messages.specs.declared.disembargo.DisembargoContext.{DisembargoContext}
+use Rattle.cp_messages.specs.declared.disembargo.DisembargoContext.TheVariants as contexts
 use Rattle.cp_messages.specs.declared.message.Message.{Message}
 use Rattle.cp_messages.specs.declared.message.Message.TheVariants as messages
 use Rattle.cp_messages.specs.declared.resolve.Resolution.{Resolution}
@@ -41,7 +41,7 @@ use Rattle.cp_vat_machine.specs.Capacity.{has_capacity, Fresh, message_fits}
 use Rattle.cp_vat_machine.specs.Supported.{is_supported}
 use Rattle.cp_vat_machine.specs.Receiving.{answer_of, path_of, held_once_more, held_import, tie, tied, ReceivesAnswer, taken_export, ReceivesCap, ReceivesCaps, release_exports}
 use Rattle.cp_vat_machine.specs.Give.{GiveAnswer, GiveOwn, GiveOwnBy, question_settled, without_question}
-use Rattle.cp_vat_machine.specs.Go.{Underway, finish_of}
+use Rattle.cp_vat_machine.specs.Go.{PendingCall, finish_of}
 use Rattle.cp_vat_machine.specs.Answering.{with_answer, bootstrap_outcome, is_answering, OnBootstrap, GoToExport, GoToAnswer, GoToTarget, peer_call, entered, call_faults, OnCall, without_answer, AtStage, FinishedBy, target_faults}
 use Rattle.cp_vat_machine.specs.Asking.{ReceivesReturned, Settles, ReturnBy, is_asked, ReturnOf}
 use Rattle.cp_vat_machine.specs.Resolving.{is_open_promise, TakeResolution, resolved, ResolveOf, echo_to, EchoesExport, EchoesAnswer, EchoesTarget, ended_by, OnDisembargo}
@@ -254,7 +254,7 @@ moved_both one tickets two =
     }
 
 -- A call that came goes by its target.
-target_grows : (s : State) (call : Underway) (target : Target) (done : Done) → AreOne s → MayGive s call.origin → GoToTarget s call target (Ok done)
+target_grows : (s : State) (call : PendingCall) (target : Target) (done : Done) → AreOne s → MayGive s call.origin → GoToTarget s call target (Ok done)
     → Grown s done.0 done.1
 target_grows s call (targets.ImportedCap e) done one may goes = at_export (get s.counts.exports e) goes
   where
@@ -552,7 +552,7 @@ ended_moved s n target (Some cap) done at is =
       loops = record { embargoes = λ m. ended_at s.marks.embargoes n m target cap (n == m) refl at; echoes = λ m. refl };
     })
 
-disembargo_moved : (s : State) (context : Context) (target : Target) (done : Done) → OnDisembargo s context target (Ok done)
+disembargo_moved : (s : State) (context : DisembargoContext) (target : Target) (done : Done) → OnDisembargo s context target (Ok done)
     → Moved (messages.Disembargo (record { context = context; target = target }) ∷ []) s done.0 done.1
 disembargo_moved s (contexts.SenderLoopback n) target done does =
     echoes_moved s n target done (unless_out {A = Done} {F = PeerFault} (target_faults s target) _ done does)

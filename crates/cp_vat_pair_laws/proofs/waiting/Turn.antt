@@ -19,7 +19,7 @@ use Rattle.cp_vat_machine.specs.State.{State, gave}
 use Rattle.cp_vat_machine.specs.Then.{Done}
 use Rattle.cp_vat_machine.specs.Capacity.{Fresh}
 use Rattle.cp_vat_machine.specs.Writing.{WritesDescriptors, promised}
-use Rattle.cp_vat_machine.specs.Go.{Underway, held_at, delivered, GoOut, Go, IsNext, without_call, underway}
+use Rattle.cp_vat_machine.specs.Go.{PendingCall, held_at, delivered, GoOut, Go, IsNext, without_call, underway}
 use Rattle.cp_vat_machine.specs.Waits.{Port, on, on_answer, LeadsBy, PortRoutes, WaitsBy, WaitsAt, WaitRightly}
 use Rattle.cp_vat_machine.specs.declared.effect.Effect.{Effect}
 use Rattle.cp_vat_machine.proofs.Basics.{some_out, none_out, is_equal, ok_in, then_out, put_at, gone_at}
@@ -94,7 +94,7 @@ gone_calls old mid ports ticket u false t same calls h =
     each None k = tt
     each (Some call) k = waits_at old mid (get ports u) call.gate same k
 
-pub out_same : (s : State) (call : Underway) (target : Target) (origin : Origin) (done : Done) → GoOut s call target origin (Ok done)
+pub out_same : (s : State) (call : PendingCall) (target : Target) (origin : Origin) (done : Done) → GoOut s call target origin (Ok done)
     → SameBut s done.1 × (done.1.waiting.calls ≡ s.waiting.calls)
 out_same s call target (origins.Answer a) done goes =
     let first = then_out {A = ℕ} {B = Done} (Fresh s.entries.questions) _ done goes in

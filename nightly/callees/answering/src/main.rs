@@ -6,7 +6,7 @@ use anyhow::anyhow;
 use cp_client::{Client, ClientFault, Question, word_at};
 use cp_frame::Mode;
 use cp_refs::{Cap, Outcome, Request};
-use cp_servants::{Ask, Cell, Content, Reply, Servant, Settled};
+use cp_servants::{OutgoingCall, Cell, PayloadBuilder, Reply, Servant, Settled};
 use cp_vat_machine::Ids;
 use cp_words::Limits;
 use std::alloc::{AllocError, Global};
@@ -41,21 +41,21 @@ impl Servant for Through {
         Ok(self.answers.pop())
     }
 
-    fn again(&self) -> bool {
+    fn has_more(&self) -> bool {
         !self.answers.is_empty()
     }
 
-    fn ask(&mut self) -> Result<Option<Ask>, AllocError> {
-        let Some((mark, request)) = self.asks.pop() else {
+    fn next_call(&mut self) -> Result<Option<OutgoingCall>, AllocError> {
+        let Some((call_id, request)) = self.asks.pop() else {
             return Ok(None);
         };
         let cap = Cap::Import(self.import);
-        Ok(Some(Ask { cap, request, mark }))
+        Ok(Some(OutgoingCall { cap, request, call_id }))
     }
 
-    fn told(&mut self, mark: u64, outcome: Outcome) -> Result<(), AllocError> {
+    fn on_response(&mut self, call_id: u64, outcome: Outcome) -> Result<(), AllocError> {
         self.answers.push(Settled {
-            ticket: mark,
+            ticket: call_id,
             outcome,
             gives_up: Ids::new(Vec::new(self.alloc)),
         })?;
@@ -72,8 +72,8 @@ struct Peer<'a, R, W> {
 }
 
 impl<'a, R: Read + Drop, W: Write + Drop> Peer<'a, R, W> {
-    fn content(&self) -> Content {
-        Content::new(self.alloc)
+    fn content(&self) -> PayloadBuilder {
+        PayloadBuilder::new(self.alloc)
     }
 
     fn export_cell(&mut self) -> anyhow::Result<Cap> {
@@ -179,7 +179,7 @@ fn came_of(rt: &HostRuntime, port: u16, trial: &str) -> anyhow::Result<u64> {
     let stream = TcpStream::connect(rt, address)?;
     stream.set_nodelay(true)?;
     let (mode, limits) = (Mode::Plain, Limits::standard());
-    let mut client = Client::with_objects(alloc, &stream, &stream, mode, limits, None);
+    let mut client = Client::with_servants(alloc, &stream, &stream, mode, limits, None);
     let bootstrap = client.bootstrap();
     let mut peer = Peer {
         alloc,

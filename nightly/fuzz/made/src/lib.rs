@@ -9,8 +9,8 @@ mod trial;
 
 use crate::cell::Cell;
 use crate::trial::Trial;
-use cp_makers::Any2;
+use cp_objects::Either;
 pub use play::mp_serve;
 
 /// The objects of a session: its Trial, and the Cells that this made.
-type Served = Any2<Trial, Cell>;
+type Served = Either<Trial, Cell>;

@@ -3,7 +3,7 @@
 use crate::Served;
 use crate::trial::Trial;
 use cp_frame::Mode;
-use cp_makers::Family;
+use cp_objects::Objects;
 use cp_session::{Session, SessionLimits, SessionOptions};
 use cp_words::Limits;
 use std::alloc::{AllocError, Global};
@@ -39,14 +39,14 @@ pub extern "C" fn mp_serve(
 
 #[derive(Drop)]
 struct Play {
-    session: Session<Family<Served>>,
+    session: Session<Objects<Served>>,
     now: u64,
     got: Vec<u8>,
 }
 
-fn new_objects(alloc: Global) -> Result<Family<Served>, AllocError> {
-    let mut objects = Family::new(alloc);
-    objects.add(Served::First(Trial::new(alloc)?))?;
+fn new_objects(alloc: Global) -> Result<Objects<Served>, AllocError> {
+    let mut objects = Objects::new(alloc);
+    objects.add(Served::Left(Trial::new(alloc)?))?;
     Ok(objects)
 }
 
@@ -72,7 +72,7 @@ impl Play {
         if ends {
             self.end()?;
         }
-        self.got.push(self.session.hall().len().min(255) as u8)?;
+        self.got.push(self.session.object_table().len().min(255) as u8)?;
         Ok(())
     }
 

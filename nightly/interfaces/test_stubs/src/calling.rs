@@ -1,10 +1,10 @@
 //! Typed clients, and what their calls come to.
 
-use cp_builder::DraftFault;
+use cp_builder::BuildError;
 use cp_refs::{Cap, Caps, Outcome, Request, failed};
-use cp_stubs::{Caller, NoResults, payload_of};
+use cp_interfaces::{Caller, NoResults, payload_of};
 use cp_tree::Whole;
-use directory::{DirectoryClient, DirectoryFindResultsPromise, FriendClient};
+use directory::{DirectoryClient, DirectoryFindResultsPipeline, FriendClient};
 use std::alloc::Global;
 use std::process::Abort;
 
@@ -17,11 +17,11 @@ struct Log {
 }
 
 impl Caller for Log {
-    type Fault = DraftFault;
+    type Fault = BuildError;
 
-    ghost asks = { λ _ _ _ _ _. Unit {0} };
+    ghost sends = { λ _ _ _ _ _. Unit {0} };
 
-    fn ask(&mut self, alloc: Global, cap: &Cap, request: Request) -> Result<u32, DraftFault> {
+    fn send(&mut self, alloc: Global, cap: &Cap, request: Request) -> Result<u32, BuildError> {
         self.asked.push((cap.copy(alloc)?, request))?;
         self.last = self.last.saturating_add(1);
         Ok(self.last)
@@ -29,12 +29,12 @@ impl Caller for Log {
 }
 
 /// A call of `find` on import 7.
-fn find(alloc: Global, log: &mut Log) -> Result<DirectoryFindResultsPromise, DraftFault> {
+fn find(alloc: Global, log: &mut Log) -> Result<DirectoryFindResultsPipeline, BuildError> {
     DirectoryClient::new(alloc, Cap::Import(7)).find(log, "")
 }
 
 /// Who speaks for the person that a call will find.
-fn friend(rt: &impl Abort, found: &DirectoryFindResultsPromise) -> FriendClient {
+fn friend(rt: &impl Abort, found: &DirectoryFindResultsPipeline) -> FriendClient {
     let person = found.person().expect(rt, "memory");
     person.friend().expect(rt, "memory")
 }

@@ -1,11 +1,11 @@
 //! A watcher with a relation of its own.
 
-use cp_makers::Here;
-use cp_services::{MethodResult, ServiceObject};
-use directory::{WatcherAddedCall, WatcherServant, WatcherServer};
+use cp_objects::Context;
+use cp_interface_objects::{MethodResult, ServiceObject};
+use directory::{WatcherAddedCall, WatcherDispatch, WatcherServer};
 
 /// All objects of the test.
-pub type Counting = WatcherServant<Counter>;
+pub type Counting = WatcherDispatch<Counter>;
 
 /// Counts of whom it is told.
 #[derive(Drop)]
@@ -26,7 +26,7 @@ impl WatcherServer for Counter {
     fn added(
         &mut self,
         call: &mut WatcherAddedCall<'_>,
-        _here: &mut Here<Counting>,
+        _context: &mut Context<Counting>,
     ) -> MethodResult {
         let _person = call.params.person()?;
         self.count = self.count.saturating_add(1);

@@ -1,4 +1,4 @@
-//! Tests of cp_stubs, by what the plugin made of directory.capnp: objects that are called through the glue, and typed clients.
+//! Tests of cp_interfaces, by what the plugin made of directory.capnp: objects that are called through the glue, and typed clients.
 #![tactic(auto)]
 
 /// Ends the test unless the condition holds, with the condition's text.

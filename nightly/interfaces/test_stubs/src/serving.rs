@@ -1,31 +1,31 @@
 //! Objects that are called through the glue.
 
 ghost use Rattle.std.specs.Prelude.{IfOk};
-ghost use Rattle.cp_services.specs.Services.{at};
+ghost use Rattle.cp_interface_objects.specs.Services.{at};
 ghost use Rattle.directory.specs.Watcher.{WatcherTakes};
 
 use crate::counter::{Counter, Counting};
 use crate::shelf::{Shelf, Shelved};
-use cp_builder::DraftFault;
-use cp_makers::{Family, Hall, Here};
+use cp_builder::BuildError;
+use cp_objects::{Objects, ObjectTable, Context};
 use cp_refs::{Cap, Caps, Outcome, Request};
 use cp_rpc::{Exception, ExceptionKind};
 use cp_servants::Reply;
-use cp_services::Dispatch;
-use cp_stubs::MethodCall;
+use cp_interface_objects::Dispatch;
+use cp_interfaces::MethodCall;
 use cp_tree::{Tree, Whole};
 use cp_vat_machine::Ids;
 use directory::{
-    DirectoryAddParamsBuilder, DirectoryClient, DirectoryServant, FriendClient, NamedClient,
-    PersonBuilder, WatcherAddedParamsBuilder, WatcherClient, WatcherServant,
+    DirectoryAddParamsBuilder, DirectoryClient, DirectoryDispatch, FriendClient, NamedClient,
+    PersonBuilder, WatcherAddedParamsBuilder, WatcherClient, WatcherDispatch,
 };
 use std::alloc::{AllocError, Global};
 use std::process::Abort;
 
 /// A Shelf that is served.
-fn shelf(alloc: Global) -> Result<Family<Shelved>, AllocError> {
-    let mut objects = Family::new(alloc);
-    objects.add(DirectoryServant::new(Shelf {
+fn shelf(alloc: Global) -> Result<Objects<Shelved>, AllocError> {
+    let mut objects = Objects::new(alloc);
+    objects.add(DirectoryDispatch::new(Shelf {
         count: 0,
         sought: None,
     }))?;
@@ -33,7 +33,7 @@ fn shelf(alloc: Global) -> Result<Family<Shelved>, AllocError> {
 }
 
 /// What the first object answers, once it was polled too.
-fn reply_of<H: Hall>(objects: &mut H, request: Request) -> Result<Option<Reply>, AllocError> {
+fn reply_of<H: ObjectTable>(objects: &mut H, request: Request) -> Result<Option<Reply>, AllocError> {
     if !objects.has(0) {
         return Ok(None);
     }
@@ -110,12 +110,12 @@ fn directory(alloc: Global) -> DirectoryClient {
 }
 
 /// A call of `find`.
-fn find(alloc: Global) -> Result<Request, DraftFault> {
+fn find(alloc: Global) -> Result<Request, BuildError> {
     directory(alloc).find_request("")
 }
 
 /// A call of `add`, of a person for whom import 4 speaks.
-fn add(alloc: Global) -> Result<Request, DraftFault> {
+fn add(alloc: Global) -> Result<Request, BuildError> {
     let mut params = DirectoryAddParamsBuilder::new(alloc)?;
     let mut person = PersonBuilder::new(alloc)?;
     person.set_friend(&mut params.table, FriendClient::new(alloc, Cap::Import(4)))?;
@@ -124,12 +124,12 @@ fn add(alloc: Global) -> Result<Request, DraftFault> {
 }
 
 /// A call of `watch`, with import 5.
-fn watch(alloc: Global) -> Result<Request, DraftFault> {
+fn watch(alloc: Global) -> Result<Request, BuildError> {
     directory(alloc).watch_request(WatcherClient::new(alloc, Cap::Import(5)))
 }
 
 /// A call of `name`.
-fn name(alloc: Global) -> Result<Request, DraftFault> {
+fn name(alloc: Global) -> Result<Request, BuildError> {
     NamedClient::new(alloc, Cap::None).name_request()
 }
 
@@ -158,18 +158,18 @@ fn methods_answer_now_or_later(rt: HostRuntime) {
 fn count(
     counter: &mut Counter,
     call: &MethodCall,
-    here: &mut Here<Counting>,
+    context: &mut Context<Counting>,
 ) -> Result<Reply, AllocError>
-    ensures { IfOk result (λ reply. WatcherTakes ⟦<Counter as WatcherServer>⟧.watcher_kind (at counter.old here.old) call.now reply (at counter.new here.new)) }
+    ensures { IfOk result (λ reply. WatcherTakes ⟦<Counter as WatcherServer>⟧.watcher_kind (at counter.old context.old) call.now reply (at counter.new context.new)) }
 {
-    WatcherClient::dispatch(counter, call, here)
+    WatcherClient::dispatch(counter, call, context)
 }
 
 #[test]
 fn streams_are_called(rt: HostRuntime) {
     let alloc = rt.alloc();
-    let mut objects: Family<Counting> = Family::new(alloc);
-    let added = objects.add(WatcherServant::new(Counter { count: 0 }));
+    let mut objects: Objects<Counting> = Objects::new(alloc);
+    let added = objects.add(WatcherDispatch::new(Counter { count: 0 }));
     drop(added.expect(&rt, "memory"));
     let params = WatcherAddedParamsBuilder::new(alloc).expect(&rt, "memory");
     let request = WatcherClient::new(alloc, Cap::None).added_request(params);

@@ -1,16 +1,16 @@
 //! A directory for tests: it finds nobody, counts whom it is told of, and keeps the watcher that it is given.
 
-use cp_makers::Here;
+use cp_objects::Context;
 use cp_servants::Settled;
-use cp_services::{LaterCall, MethodResult, ServiceObject};
-use cp_stubs::MethodFault;
+use cp_interface_objects::{LaterCall, MethodResult, ServiceObject};
+use cp_interfaces::MethodFault;
 use directory::{
-    DirectoryAddCall, DirectoryFindCall, DirectoryServant, DirectoryServer, DirectoryWatchCall,
+    DirectoryAddCall, DirectoryFindCall, DirectoryDispatch, DirectoryServer, DirectoryWatchCall,
     NamedNameCall, NamedServer,
 };
 
 /// All objects of the test.
-pub type Shelved = DirectoryServant<Shelf>;
+pub type Shelved = DirectoryDispatch<Shelf>;
 
 /// The directory.
 #[derive(Drop)]
@@ -23,37 +23,37 @@ pub struct Shelf {
 impl ServiceObject for Shelf {
     type Makes = Shelved;
 
-    fn poll(&mut self, _here: &mut Here<Shelved>) -> Result<Option<Settled>, MethodFault> {
+    fn poll(&mut self, _context: &mut Context<Shelved>) -> Result<Option<Settled>, MethodFault> {
         Ok(None)
     }
 }
 
 impl NamedServer for Shelf {
-    fn name(&mut self, call: &mut NamedNameCall<'_>, here: &mut Here<Shelved>) -> MethodResult {
-        Ok(call.results.set_name(here.alloc(), "a shelf")?)
+    fn name(&mut self, call: &mut NamedNameCall<'_>, context: &mut Context<Shelved>) -> MethodResult {
+        Ok(call.results.set_name(context.alloc(), "a shelf")?)
     }
 }
 
 impl DirectoryServer for Shelf {
-    fn find(&mut self, call: &mut DirectoryFindCall<'_>, here: &mut Here<Shelved>) -> MethodResult {
-        let _name = call.params.name()?.text(here.alloc())?;
+    fn find(&mut self, call: &mut DirectoryFindCall<'_>, context: &mut Context<Shelved>) -> MethodResult {
+        let _name = call.params.name()?.text(context.alloc())?;
         self.sought = Some(call.later()?);
         Ok(())
     }
 
-    fn add(&mut self, call: &mut DirectoryAddCall<'_>, here: &mut Here<Shelved>) -> MethodResult {
+    fn add(&mut self, call: &mut DirectoryAddCall<'_>, context: &mut Context<Shelved>) -> MethodResult {
         let _friend = call
             .params
             .person()?
-            .friend_client(here.alloc(), call.caps())?;
+            .friend_client(context.alloc(), call.caps())?;
         self.count = self.count.saturating_add(1);
         call.results.set_count(self.count);
         Ok(())
     }
 
-    fn watch(&mut self, call: &mut DirectoryWatchCall<'_>, here: &mut Here<Shelved>) -> MethodResult {
-        let watcher = call.params.watcher_client(here.alloc(), call.caps())?;
-        call.keep(&watcher.target, here)
+    fn watch(&mut self, call: &mut DirectoryWatchCall<'_>, context: &mut Context<Shelved>) -> MethodResult {
+        let watcher = call.params.watcher_client(context.alloc(), call.caps())?;
+        call.keep(&watcher.target, context)
             .map_err(|fault| MethodFault::from(fault))
     }
 }

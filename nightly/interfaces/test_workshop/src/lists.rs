@@ -1,9 +1,9 @@
 //! Lists that are built are read again.
 
-use cp_builder::DraftFault;
+use cp_builder::BuildError;
 use cp_refs::{Caps, Outcome};
-use cp_services::{DataListBuilder, ListsBuilder, TextListBuilder};
-use cp_stubs::{ResultPayload, payload_of};
+use cp_interface_objects::{DataListBuilder, ListsBuilder, TextListBuilder};
+use cp_interfaces::{ResultPayload, payload_of};
 use std::alloc::Global;
 use workshop::{Colour, StockBuilder, StockReader, ToolBuilder, ToolListBuilder};
 
@@ -17,7 +17,7 @@ fn came(alloc: Global, stock: StockBuilder) -> Option<ResultPayload> {
 }
 
 /// A list of these texts.
-fn texts(alloc: Global, items: &[&str]) -> Result<TextListBuilder, DraftFault> {
+fn texts(alloc: Global, items: &[&str]) -> Result<TextListBuilder, BuildError> {
     let mut texts = TextListBuilder::new(alloc);
     for item in items {
         texts.push(item)?;
@@ -26,7 +26,7 @@ fn texts(alloc: Global, items: &[&str]) -> Result<TextListBuilder, DraftFault> {
 }
 
 /// A list of a tool of this name.
-fn tools(alloc: Global, name: &str) -> Result<ToolListBuilder, DraftFault> {
+fn tools(alloc: Global, name: &str) -> Result<ToolListBuilder, BuildError> {
     let mut tool = ToolBuilder::new(alloc)?;
     tool.set_name(alloc, name)?;
     tool.set_labels(texts(alloc, &["sharp", "old"])?)?;
@@ -36,7 +36,7 @@ fn tools(alloc: Global, name: &str) -> Result<ToolListBuilder, DraftFault> {
 }
 
 /// Lists of what pointers stand for.
-fn fill_pointers(alloc: Global, stock: &mut StockBuilder) -> Result<(), DraftFault> {
+fn fill_pointers(alloc: Global, stock: &mut StockBuilder) -> Result<(), BuildError> {
     stock.set_texts(texts(alloc, &["saw", "", "axe"])?)?;
     let mut pictures = DataListBuilder::new(alloc);
     pictures.push(vec![in alloc; 1, 2]?)?;
@@ -53,7 +53,7 @@ fn fill_pointers(alloc: Global, stock: &mut StockBuilder) -> Result<(), DraftFau
 }
 
 /// Lists of numbers.
-fn fill_numbers(alloc: Global, stock: &mut StockBuilder) -> Result<(), DraftFault> {
+fn fill_numbers(alloc: Global, stock: &mut StockBuilder) -> Result<(), BuildError> {
     stock.set_signed_bytes(alloc, &[-1, 2])?;
     stock.set_signed_halves(alloc, &[-300])?;
     stock.set_signed_quads(alloc, &[-70_000, 7])?;

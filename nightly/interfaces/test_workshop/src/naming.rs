@@ -1,13 +1,13 @@
 //! Results and params hold the table of the capabilities that they name, for their parts too.
 
-use cp_builder::DraftFault;
+use cp_builder::BuildError;
 use cp_refs::Cap;
-use cp_stubs::{Results, Table};
+use cp_interfaces::{Results, CapTableBuilder};
 use std::alloc::Global;
 use workshop::{MakerClient, MakerMakeParamsBuilder, MakerMakeResultsBuilder, ToolBuilder};
 
 /// Results with a tool of import 3 that import 4 owns, made by import 5.
-fn made(alloc: Global) -> Result<MakerMakeResultsBuilder, DraftFault> {
+fn made(alloc: Global) -> Result<MakerMakeResultsBuilder, BuildError> {
     let mut results = MakerMakeResultsBuilder::new(alloc)?;
     let mut tool = ToolBuilder::new(alloc)?;
     tool.set_maker(&mut results.table, MakerClient::new(alloc, Cap::Import(3)))?;
@@ -19,7 +19,7 @@ fn made(alloc: Global) -> Result<MakerMakeResultsBuilder, DraftFault> {
 }
 
 /// Params with import 7.
-fn asked(alloc: Global) -> Result<MakerMakeParamsBuilder, DraftFault> {
+fn asked(alloc: Global) -> Result<MakerMakeParamsBuilder, BuildError> {
     let mut params = MakerMakeParamsBuilder::new(alloc)?;
     params.set_for(MakerClient::new(alloc, Cap::Import(7)))?;
     params.set_name(alloc, "plane")?;
@@ -27,7 +27,7 @@ fn asked(alloc: Global) -> Result<MakerMakeParamsBuilder, DraftFault> {
 }
 
 /// Whether a table has these imports.
-fn has(table: Table, imports: &[u32]) -> bool {
+fn has(table: CapTableBuilder, imports: &[u32]) -> bool {
     let caps = table.into_caps();
     if caps.caps().len() != imports.len() {
         return false;

@@ -1,6 +1,6 @@
 //! One end of a connection, and what it does.
 
-use cp_connection::{Connection, ConnectionFault, Happening, Held};
+use cp_connection::{Connection, ConnectionFault, ConnectionEvent, Held};
 use cp_frame::Mode;
 use cp_rpc::Message;
 use cp_scripts::{Lines, event_of};
@@ -187,9 +187,9 @@ fn push_happened(effects: &mut Vec<Effect>, connection: &mut Connection) {
     }
 }
 
-fn effect_of(happening: Happening) -> Effect {
+fn effect_of(happening: ConnectionEvent) -> Effect {
     match happening {
-        Happening::Delivered {
+        ConnectionEvent::Delivered {
             object,
             origin,
             ticket,
@@ -200,8 +200,8 @@ fn effect_of(happening: Happening) -> Effect {
             ticket,
             call,
         },
-        Happening::Settled { question, outcome } => Effect::Settled { question, outcome },
-        Happening::Closed(reason) => Effect::Closed(reason),
+        ConnectionEvent::Settled { question, outcome } => Effect::Settled { question, outcome },
+        ConnectionEvent::Closed(reason) => Effect::Closed(reason),
     }
 }
 

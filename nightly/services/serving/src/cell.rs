@@ -1,10 +1,10 @@
 //! A number, as an object.
 
 use crate::Served;
-use cp_makers::{Here, Maker};
+use cp_objects::{Context, ServedObject};
 use cp_refs::{Outcome, Request};
 use cp_servants::{
-    Ask, Content, Reply, Settled, named_imports, no_such_method, outcome_of, word_in,
+    OutgoingCall, PayloadBuilder, Reply, Settled, named_imports, no_such_method, outcome_of, word_in,
 };
 use std::alloc::{AllocError, Global};
 use std::rc::Rc;
@@ -23,41 +23,41 @@ impl Cell {
         match (request.interface, request.method) {
             (CELL, 0) => {
                 self.held = self.held.wrapping_add(word_in(&request.content, 0));
-                outcome_of(alloc, Content::new(alloc).word(self.held))
+                outcome_of(alloc, PayloadBuilder::new(alloc).word(self.held))
             }
-            (CELL, 1) => outcome_of(alloc, Content::new(alloc).word(self.held)),
+            (CELL, 1) => outcome_of(alloc, PayloadBuilder::new(alloc).word(self.held)),
             _ => no_such_method(alloc),
         }
     }
 }
 
-impl Maker for Cell {
+impl ServedObject for Cell {
     type Makes = Served;
 
     fn call(
         &mut self,
         _ticket: u64,
         request: Request,
-        here: &mut Here<Served>,
+        context: &mut Context<Served>,
     ) -> Result<Reply, AllocError> {
-        let outcome = self.outcome(here.alloc(), &request)?;
-        let gives_up = named_imports(here.alloc(), &request.caps)?;
+        let outcome = self.outcome(context.alloc(), &request)?;
+        let gives_up = named_imports(context.alloc(), &request.caps)?;
         Ok(Reply::Now { outcome, gives_up })
     }
 
-    fn poll(&mut self, _here: &mut Here<Served>) -> Result<Option<Settled>, AllocError> {
+    fn poll(&mut self, _context: &mut Context<Served>) -> Result<Option<Settled>, AllocError> {
         Ok(None)
     }
 
-    fn ask(&mut self, _here: &mut Here<Served>) -> Result<Option<Ask>, AllocError> {
+    fn next_call(&mut self, _context: &mut Context<Served>) -> Result<Option<OutgoingCall>, AllocError> {
         Ok(None)
     }
 
-    fn told(
+    fn on_response(
         &mut self,
         _mark: u64,
         outcome: Outcome,
-        _here: &mut Here<Served>,
+        _context: &mut Context<Served>,
     ) -> Result<(), AllocError> {
         drop(outcome);
         Ok(())

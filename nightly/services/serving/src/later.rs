@@ -1,6 +1,6 @@
 //! What waits: calls and promises for their times, and calls for the outcomes of others.
 
-use cp_makers::Resolver;
+use cp_objects::Resolver;
 use cp_refs::Cap;
 use cp_rpc::{Exception, Text};
 use cp_vat_machine::Ids;

@@ -9,19 +9,19 @@ mod trial;
 use crate::cell::Cell;
 use crate::trial::Trial;
 use anyhow::anyhow;
-use cp_makers::{Any2, Family};
-use net_host::{Host, HostPlan, News};
+use cp_objects::{Either, Objects};
+use net_host::{Host, HostConfig, HostEvent};
 use net_sockets::Listener;
 use std::alloc::Global;
 use std::env;
 use std::net::{Ipv4Addr, SocketAddr};
 
 /// The objects of a connection: its Trial, and the Cells that this made.
-type Served = Any2<Trial, Cell>;
+type Served = Either<Trial, Cell>;
 
 fn main(rt: HostRuntime) -> anyhow::Result<()> {
     let words: Vec<String> = env::args(&rt)?.collect(rt.alloc())?;
-    let mut plan = HostPlan::standard();
+    let mut plan = HostConfig::standard();
     let port = match words.as_slice() {
         [_, port] => port,
         [_, port, count] => {
@@ -33,25 +33,25 @@ fn main(rt: HostRuntime) -> anyhow::Result<()> {
     serve(&rt, plan, port.as_str().parse::<u16>()?)
 }
 
-fn serve(rt: &HostRuntime, plan: HostPlan, port: u16) -> anyhow::Result<()> {
+fn serve(rt: &HostRuntime, plan: HostConfig, port: u16) -> anyhow::Result<()> {
     let listener = Listener::bind(rt, SocketAddr::from((Ipv4Addr::LOCALHOST, port)))?;
     let mut host = Host::new(rt, plan, listener)?;
     for _ in 0..u64::MAX {
         match host.next(rt)? {
-            Some(News::Came { .. }) => {
+            Some(HostEvent::Connected { .. }) => {
                 host.admit(new_objects(rt.alloc())?)?;
             }
-            Some(News::Ended { number, end, .. }) => println!(rt; "{number} ended: {end}")?,
-            Some(News::Refused { .. }) => println!(rt; "one more was refused")?,
-            Some(News::Woken) => (),
+            Some(HostEvent::Ended { number, end, .. }) => println!(rt; "{number} ended: {end}")?,
+            Some(HostEvent::Refused { .. }) => println!(rt; "one more was refused")?,
+            Some(HostEvent::Woken) => (),
             None => break,
         }
     }
     Ok(())
 }
 
-fn new_objects(alloc: Global) -> anyhow::Result<Family<Served>> {
-    let mut objects = Family::new(alloc);
-    objects.add(Served::First(Trial::new(alloc)?))?;
+fn new_objects(alloc: Global) -> anyhow::Result<Objects<Served>> {
+    let mut objects = Objects::new(alloc);
+    objects.add(Served::Left(Trial::new(alloc)?))?;
     Ok(objects)
 }

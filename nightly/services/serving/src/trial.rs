@@ -3,10 +3,10 @@
 use crate::Served;
 use crate::cell::{CELL, Cell};
 use crate::later::{Answer, Asked, Vow, Wait, passed_on};
-use cp_makers::{Here, Maker};
+use cp_objects::{Context, ServedObject};
 use cp_refs::{Cap, Outcome, Request, failed};
 use cp_servants::{
-    Ask, Content, Reply, Settled, named_imports, no_such_method, outcome_of, word_in,
+    OutgoingCall, PayloadBuilder, Reply, Settled, named_imports, no_such_method, outcome_of, word_in,
 };
 use cp_vat_machine::Ids;
 use std::alloc::{AllocError, Global};
@@ -27,7 +27,7 @@ pub struct Trial {
     alive: Rc<()>,
     waits: Vec<Wait>,
     vows: Vec<Vow>,
-    asks: VecDeque<Ask>,
+    asks: VecDeque<OutgoingCall>,
     asked: Vec<Asked>,
 }
 
@@ -39,8 +39,8 @@ fn first_of(alloc: Global, request: &Request) -> Result<Cap, AllocError> {
     }
 }
 
-fn now(outcome: Outcome, request: &Request, here: &Here<Served>) -> Result<Reply, AllocError> {
-    let gives_up = named_imports(here.alloc(), &request.caps)?;
+fn now(outcome: Outcome, request: &Request, context: &Context<Served>) -> Result<Reply, AllocError> {
+    let gives_up = named_imports(context.alloc(), &request.caps)?;
     Ok(Reply::Now { outcome, gives_up })
 }
 
@@ -55,9 +55,9 @@ impl Trial {
         })
     }
 
-    fn cell(&self, held: u64, here: &mut Here<Served>) -> Result<Cap, AllocError> {
+    fn cell(&self, held: u64, context: &mut Context<Served>) -> Result<Cap, AllocError> {
         let alive = self.alive.clone()?;
-        here.make(Served::Second(Cell { held, alive }))
+        context.make(Served::Right(Cell { held, alive }))
     }
 
     /// How many Cells there are.
@@ -65,14 +65,14 @@ impl Trial {
         Rc::strong_count(&self.alive).saturating_sub(1) as u64
     }
 
-    fn answered(&self, answer: Answer, here: &mut Here<Served>) -> Result<Outcome, AllocError> {
-        let content = Content::new(here.alloc());
+    fn answered(&self, answer: Answer, context: &mut Context<Served>) -> Result<Outcome, AllocError> {
+        let content = PayloadBuilder::new(context.alloc());
         let results = match answer {
-            Answer::Gives(held) => content.cap(self.cell(held, here)?),
+            Answer::Gives(held) => content.cap(self.cell(held, context)?),
             Answer::Says(number) => content.word(number),
             Answer::Fails(exception) => return Ok(Outcome::Failed(exception)),
         };
-        outcome_of(here.alloc(), results)
+        outcome_of(context.alloc(), results)
     }
 
     /// Answers so many milliseconds later.
@@ -82,13 +82,13 @@ impl Trial {
         milliseconds: u64,
         answer: Answer,
         request: &Request,
-        here: &mut Here<Served>,
+        context: &mut Context<Served>,
     ) -> Result<Reply, AllocError> {
         self.waits.push(Wait {
-            at: here.now().saturating_add(milliseconds),
+            at: context.now().saturating_add(milliseconds),
             ticket,
             answer,
-            gives_up: named_imports(here.alloc(), &request.caps)?,
+            gives_up: named_imports(context.alloc(), &request.caps)?,
         })?;
         Ok(Reply::Later)
     }
@@ -100,15 +100,15 @@ impl Trial {
         call: Request,
         gives: bool,
         request: &Request,
-        here: &mut Here<Served>,
+        context: &mut Context<Served>,
     ) -> Result<Reply, AllocError> {
-        let alloc = here.alloc();
+        let alloc = context.alloc();
         let cap = first_of(alloc, request)?;
-        here.keep(&cap)?;
-        self.asks.push_back(Ask {
+        context.keep(&cap)?;
+        self.asks.push_back(OutgoingCall {
             cap: cap.copy(alloc)?,
             request: call,
-            mark: ticket,
+            call_id: ticket,
         })?;
         self.asked.push(Asked {
             ticket,
@@ -124,30 +124,30 @@ impl Trial {
         &mut self,
         ticket: u64,
         request: &Request,
-        here: &mut Here<Served>,
+        context: &mut Context<Served>,
     ) -> Result<Reply, AllocError> {
-        if let Cap::None = first_of(here.alloc(), request)? {
-            let outcome = self.answered(Answer::Gives(0), here)?;
-            return now(outcome, request, here);
+        if let Cap::None = first_of(context.alloc(), request)? {
+            let outcome = self.answered(Answer::Gives(0), context)?;
+            return now(outcome, request, context);
         }
-        let Ok(content) = Content::new(here.alloc()).word(5) else {
+        let Ok(content) = PayloadBuilder::new(context.alloc()).word(5) else {
             return Err(AllocError);
         };
-        self.pass(ticket, content.request(CELL, 0), true, request, here)
+        self.pass(ticket, content.request(CELL, 0), true, request, context)
     }
 
     /// Gives a promise, which comes to what is given so much later.
-    fn vow(&mut self, request: &Request, here: &mut Here<Served>) -> Result<Reply, AllocError> {
-        let alloc = here.alloc();
+    fn vow(&mut self, request: &Request, context: &mut Context<Served>) -> Result<Reply, AllocError> {
+        let alloc = context.alloc();
         let value = match first_of(alloc, request)? {
             Cap::None => Cap::Broken(failed(alloc, "it came to nothing")?),
             value => value,
         };
-        here.keep(&value)?;
-        let resolver = here.promise()?;
-        let outcome = outcome_of(alloc, Content::new(alloc).cap(resolver.cap()))?;
+        context.keep(&value)?;
+        let resolver = context.promise()?;
+        let outcome = outcome_of(alloc, PayloadBuilder::new(alloc).cap(resolver.cap()))?;
         self.vows.push(Vow {
-            at: here.now().saturating_add(word_in(&request.content, 0)),
+            at: context.now().saturating_add(word_in(&request.content, 0)),
             resolver,
             value,
         })?;
@@ -159,47 +159,47 @@ impl Trial {
         &mut self,
         ticket: u64,
         request: &Request,
-        here: &mut Here<Served>,
+        context: &mut Context<Served>,
     ) -> Result<Reply, AllocError> {
-        let alloc = here.alloc();
+        let alloc = context.alloc();
         let (first, second) = (word_in(&request.content, 0), word_in(&request.content, 1));
         match (request.interface, request.method) {
-            (DESK, 0) => self.give(ticket, request, here),
-            (DESK, 1) => self.wait(ticket, LATER, Answer::Gives(LATER), request, here),
+            (DESK, 0) => self.give(ticket, request, context),
+            (DESK, 1) => self.wait(ticket, LATER, Answer::Gives(LATER), request, context),
             (DESK, 2) => {
                 let no = Outcome::Failed(failed(alloc, "no")?);
-                now(no, request, here)
+                now(no, request, context)
             }
             (TRIAL, 0) => {
                 let outcome = Outcome::Results {
                     content: request.content.copy(alloc)?,
                     caps: request.caps.copy(alloc)?,
                 };
-                now(outcome, request, here)
+                now(outcome, request, context)
             }
-            (TRIAL, 1) => self.wait(ticket, first, Answer::Says(second), request, here),
-            (TRIAL, 2) => self.vow(request, here),
+            (TRIAL, 1) => self.wait(ticket, first, Answer::Says(second), request, context),
+            (TRIAL, 2) => self.vow(request, context),
             (TRIAL, 3) => {
-                let get = Content::new(alloc).request(CELL, 1);
-                self.pass(ticket, get, false, request, here)
+                let get = PayloadBuilder::new(alloc).request(CELL, 1);
+                self.pass(ticket, get, false, request, context)
             }
             (TRIAL, 4) => {
-                let outcome = self.answered(Answer::Says(self.cells()), here)?;
-                now(outcome, request, here)
+                let outcome = self.answered(Answer::Says(self.cells()), context)?;
+                now(outcome, request, context)
             }
-            _ => now(no_such_method(alloc)?, request, here),
+            _ => now(no_such_method(alloc)?, request, context),
         }
     }
 
     /// Each promise comes to its value whose time has come.
-    fn keep_vows(&mut self, here: &mut Here<Served>) -> Result<(), AllocError> {
-        let mut later = Vec::new(here.alloc());
-        for vow in mem::replace(&mut self.vows, Vec::new(here.alloc())) {
-            if vow.at > here.now() {
+    fn keep_vows(&mut self, context: &mut Context<Served>) -> Result<(), AllocError> {
+        let mut later = Vec::new(context.alloc());
+        for vow in mem::replace(&mut self.vows, Vec::new(context.alloc())) {
+            if vow.at > context.now() {
                 later.push(vow)?;
             } else {
-                here.give_up(&vow.value)?;
-                here.resolve(vow.resolver, vow.value)?;
+                context.give_up(&vow.value)?;
+                context.resolve(vow.resolver, vow.value)?;
             }
         }
         self.vows = later;
@@ -222,7 +222,7 @@ impl Trial {
     }
 
     /// Is woken at the first time that is to come.
-    fn rest(&self, here: &mut Here<Served>) -> Result<(), AllocError> {
+    fn rest(&self, context: &mut Context<Served>) -> Result<(), AllocError> {
         let mut first = u64::MAX;
         for wait in &self.waits {
             first = first.min(wait.at);
@@ -231,7 +231,7 @@ impl Trial {
             first = first.min(vow.at);
         }
         if first < u64::MAX {
-            here.wake_after(first.saturating_sub(here.now()))?;
+            context.wake_after(first.saturating_sub(context.now()))?;
         }
         Ok(())
     }
@@ -251,25 +251,25 @@ impl Trial {
     }
 }
 
-impl Maker for Trial {
+impl ServedObject for Trial {
     type Makes = Served;
 
     fn call(
         &mut self,
         ticket: u64,
         request: Request,
-        here: &mut Here<Served>,
+        context: &mut Context<Served>,
     ) -> Result<Reply, AllocError> {
-        self.reply(ticket, &request, here)
+        self.reply(ticket, &request, context)
     }
 
-    fn poll(&mut self, here: &mut Here<Served>) -> Result<Option<Settled>, AllocError> {
-        self.keep_vows(here)?;
-        let Some(wait) = self.take(here.now()) else {
-            self.rest(here)?;
+    fn poll(&mut self, context: &mut Context<Served>) -> Result<Option<Settled>, AllocError> {
+        self.keep_vows(context)?;
+        let Some(wait) = self.take(context.now()) else {
+            self.rest(context)?;
             return Ok(None);
         };
-        let outcome = self.answered(wait.answer, here)?;
+        let outcome = self.answered(wait.answer, context)?;
         Ok(Some(Settled {
             ticket: wait.ticket,
             outcome,
@@ -277,32 +277,32 @@ impl Maker for Trial {
         }))
     }
 
-    fn ask(&mut self, _here: &mut Here<Served>) -> Result<Option<Ask>, AllocError> {
+    fn next_call(&mut self, _context: &mut Context<Served>) -> Result<Option<OutgoingCall>, AllocError> {
         Ok(self.asks.pop_front())
     }
 
-    fn told(
+    fn on_response(
         &mut self,
-        mark: u64,
+        call_id: u64,
         outcome: Outcome,
-        here: &mut Here<Served>,
+        context: &mut Context<Served>,
     ) -> Result<(), AllocError> {
-        let Some(asked) = self.take_asked(mark) else {
+        let Some(asked) = self.take_asked(call_id) else {
             return Ok(());
         };
         // (An import is given up with the answer.)
         if let Cap::Object(_) = &asked.cap {
-            here.give_up(&asked.cap)?;
+            context.give_up(&asked.cap)?;
         }
         let answer = match &outcome {
             Outcome::Results { content, .. } if asked.gives => Answer::Gives(word_in(content, 0)),
             Outcome::Results { content, .. } => Answer::Says(word_in(content, 0)),
-            Outcome::Failed(of) => Answer::Fails(passed_on(here.alloc(), of)?),
-            Outcome::Canceled => Answer::Fails(failed(here.alloc(), "it was given up")?),
+            Outcome::Failed(of) => Answer::Fails(passed_on(context.alloc(), of)?),
+            Outcome::Canceled => Answer::Fails(failed(context.alloc(), "it was given up")?),
         };
         self.waits.push(Wait {
             at: 0,
-            ticket: mark,
+            ticket: call_id,
             answer,
             gives_up: asked.gives_up,
         })?;

@@ -2,11 +2,11 @@
 #![tactic(auto)]
 
 use anyhow::anyhow;
-use cp_builder::DraftFault;
+use cp_builder::BuildError;
 use cp_client::{Client, Question, word_at};
 use cp_frame::Mode;
 use cp_refs::{Cap, Outcome, Request};
-use cp_servants::{Ask, Cell, Content, Reply, Servant, Settled, no_such_method, outcome_of};
+use cp_servants::{OutgoingCall, Cell, PayloadBuilder, Reply, Servant, Settled, no_such_method, outcome_of};
 use cp_vat_machine::Ids;
 use cp_words::Limits;
 use std::alloc::{AllocError, Global};
@@ -25,7 +25,7 @@ const TAILS: u64 = 0xe5a1_0000_0000_00c2;
 struct Keeper {
     alloc: Global,
     held: Cap,
-    asks: Vec<Ask>,
+    asks: Vec<OutgoingCall>,
     answers: Vec<Settled>,
 }
 
@@ -34,15 +34,15 @@ impl Keeper {
         Ids::new(Vec::new(self.alloc))
     }
 
-    fn now(&self, results: Result<Content, DraftFault>) -> Result<Reply, AllocError> {
+    fn now(&self, results: Result<PayloadBuilder, BuildError>) -> Result<Reply, AllocError> {
         Ok(Reply::Now {
             outcome: outcome_of(self.alloc, results)?,
             gives_up: self.none(),
         })
     }
 
-    fn asked(&mut self, mark: u64, cap: Cap, request: Request) -> Result<Reply, AllocError> {
-        self.asks.push(Ask { cap, request, mark })?;
+    fn asked(&mut self, call_id: u64, cap: Cap, request: Request) -> Result<Reply, AllocError> {
+        self.asks.push(OutgoingCall { cap, request, call_id })?;
         Ok(Reply::Later)
     }
 }
@@ -56,8 +56,8 @@ fn first_of(alloc: Global, request: &Request) -> Result<Cap, AllocError> {
 
 impl Servant for Keeper {
     fn call(&mut self, ticket: u64, request: Request) -> Result<Reply, AllocError> {
-        let content = Content::new(self.alloc);
-        let get = Content::new(self.alloc).request(CELL, 1);
+        let content = PayloadBuilder::new(self.alloc);
+        let get = PayloadBuilder::new(self.alloc).request(CELL, 1);
         let first = first_of(self.alloc, &request)?;
         match (request.interface, request.method) {
             (MAKER, 0) => self.now(content.cap(Cap::Object(1))),
@@ -87,18 +87,18 @@ impl Servant for Keeper {
         Ok(self.answers.pop())
     }
 
-    fn again(&self) -> bool {
+    fn has_more(&self) -> bool {
         !self.answers.is_empty()
     }
 
-    fn ask(&mut self) -> Result<Option<Ask>, AllocError> {
+    fn next_call(&mut self) -> Result<Option<OutgoingCall>, AllocError> {
         Ok(self.asks.pop())
     }
 
-    fn told(&mut self, mark: u64, outcome: Outcome) -> Result<(), AllocError> {
+    fn on_response(&mut self, call_id: u64, outcome: Outcome) -> Result<(), AllocError> {
         let gives_up = self.none();
         self.answers.push(Settled {
-            ticket: mark,
+            ticket: call_id,
             outcome,
             gives_up,
         })?;
@@ -147,8 +147,8 @@ struct Peer<'a, R, W> {
 }
 
 impl<'a, R: Read + Drop, W: Write + Drop> Peer<'a, R, W> {
-    fn content(&self) -> Content {
-        Content::new(self.alloc)
+    fn content(&self) -> PayloadBuilder {
+        PayloadBuilder::new(self.alloc)
     }
 
     fn call(&mut self, request: Request) -> anyhow::Result<Question> {
@@ -341,7 +341,7 @@ fn came_of(rt: &HostRuntime, port: u16, trial: &str) -> anyhow::Result<()> {
     let stream = TcpStream::connect(rt, address)?;
     stream.set_nodelay(true)?;
     let (mode, limits) = (Mode::Plain, Limits::standard());
-    let mut client = Client::with_objects(alloc, &stream, &stream, mode, limits, None);
+    let mut client = Client::with_servants(alloc, &stream, &stream, mode, limits, None);
     export(alloc, &mut client)?;
     let bootstrap = client.bootstrap();
     let mut peer = Peer {
@@ -369,7 +369,7 @@ fn serve(rt: &HostRuntime, port: u16, count: u64) -> anyhow::Result<()> {
         let (stream, _) = listener.accept()?;
         stream.set_nodelay(true)?;
         let (mode, limits) = (Mode::Plain, Limits::standard());
-        let mut client = Client::with_objects(alloc, &stream, &stream, mode, limits, Some(0));
+        let mut client = Client::with_servants(alloc, &stream, &stream, mode, limits, Some(0));
         export(alloc, &mut client)?;
         match client.serve() {
             Ok(()) => println!(rt; "served")?,

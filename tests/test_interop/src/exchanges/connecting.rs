@@ -4,7 +4,7 @@
 
 use crate::exchanges::playing::{is_reported, said};
 use crate::exchanges::script::{UNREAD, push_text};
-use cp_connection::{Connection, ConnectionFault, Happening, Tally};
+use cp_connection::{Connection, ConnectionFault, ConnectionEvent, ConnectionStats};
 use cp_frame::Mode;
 use cp_rpc::Message;
 use cp_scripts::{Lines, event_of};
@@ -170,11 +170,11 @@ impl Wire {
 
     /// Adds what was taken and sent, and why the connection ended, if it did.
     fn push_tally(&mut self) {
-        let Tally {
+        let ConnectionStats {
             bytes,
             messages,
             sent,
-        } = self.connection.tally();
+        } = self.connection.stats();
         let came = self.connection.held().came;
         let text = format!(in self.alloc;
             "= bytes {bytes} messages {messages} sent {sent} came {came}\n"
@@ -269,9 +269,9 @@ fn happened(alloc: Global, connection: &mut Connection) -> Effects {
     Effects::new(effects)
 }
 
-fn effect_of(happening: Happening) -> Effect {
+fn effect_of(happening: ConnectionEvent) -> Effect {
     match happening {
-        Happening::Delivered {
+        ConnectionEvent::Delivered {
             object,
             origin,
             ticket,
@@ -282,8 +282,8 @@ fn effect_of(happening: Happening) -> Effect {
             ticket,
             call,
         },
-        Happening::Settled { question, outcome } => Effect::Settled { question, outcome },
-        Happening::Closed(reason) => Effect::Closed(reason),
+        ConnectionEvent::Settled { question, outcome } => Effect::Settled { question, outcome },
+        ConnectionEvent::Closed(reason) => Effect::Closed(reason),
     }
 }
 

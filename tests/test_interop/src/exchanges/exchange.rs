@@ -9,7 +9,7 @@ use crate::exchanges::script::UNREAD;
 use crate::exchanges::sessions::{in_session, read, reported, served};
 use crate::exchanges::written::calls_read;
 use cp_frame::Mode;
-use cp_objects::Objects;
+use cp_dispatch::Dispatcher;
 use cp_scripts::{Lines, Taken};
 use std::alloc::Global;
 
@@ -124,7 +124,7 @@ impl Players {
 fn answered(alloc: Global, mode: Mode, way: Way, script: &str) -> Lines {
     match way {
         Way::Served => served(alloc, mode, script),
-        _ => in_session(alloc, mode, Objects::new(alloc), way.lends(), script),
+        _ => in_session(alloc, mode, Dispatcher::new(alloc), way.lends(), script),
     }
 }
 
@@ -142,11 +142,11 @@ fn bootstrap(object: Option<&str>) -> Option<u32> {
 }
 
 /// What objects owe that may call or may not.
-fn objects(alloc: Global, may_call: bool) -> Objects {
+fn objects(alloc: Global, may_call: bool) -> Dispatcher {
     if may_call {
-        Objects::that_call(alloc)
+        Dispatcher::that_call(alloc)
     } else {
-        Objects::new(alloc)
+        Dispatcher::new(alloc)
     }
 }
 

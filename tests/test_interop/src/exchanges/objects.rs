@@ -3,7 +3,7 @@
 use cp_lines::outcome_of;
 use cp_refs::{Cap, Outcome, Request};
 use cp_scripts::event_of;
-use cp_servants::{Ask, Cell, Desk, Reply, Script, Servant, Settled, named_imports};
+use cp_servants::{OutgoingCall, Cell, Desk, Reply, Script, Servant, Settled, named_imports};
 use cp_vat_machine::{Event, Ids};
 use std::alloc::{AllocError, Global};
 use std::mem;
@@ -72,24 +72,24 @@ impl Servant for Object {
         }
     }
 
-    fn again(&self) -> bool {
+    fn has_more(&self) -> bool {
         match self {
-            Object::Desk(desk) => desk.again(),
-            Object::Script(script) => script.again(),
+            Object::Desk(desk) => desk.has_more(),
+            Object::Script(script) => script.has_more(),
             _ => false,
         }
     }
 
-    fn ask(&mut self) -> Result<Option<Ask>, AllocError> {
+    fn next_call(&mut self) -> Result<Option<OutgoingCall>, AllocError> {
         match self {
-            Object::Asker(asker) => asker.ask(),
+            Object::Asker(asker) => asker.next_call(),
             _ => Ok(None),
         }
     }
 
-    fn told(&mut self, mark: u64, outcome: Outcome) -> Result<(), AllocError> {
+    fn on_response(&mut self, call_id: u64, outcome: Outcome) -> Result<(), AllocError> {
         match self {
-            Object::Asker(asker) => asker.told(mark, outcome),
+            Object::Asker(asker) => asker.on_response(call_id, outcome),
             _ => Ok(()),
         }
     }
@@ -148,17 +148,17 @@ impl Servant for Asker {
         Ok(self.settled.take())
     }
 
-    fn ask(&mut self) -> Result<Option<Ask>, AllocError> {
-        let Some(mark) = self.to_call.take() else {
+    fn next_call(&mut self) -> Result<Option<OutgoingCall>, AllocError> {
+        let Some(call_id) = self.to_call.take() else {
             return Ok(None);
         };
         let call = call_of(self.alloc, self.line.as_str());
-        Ok(call.map(|(cap, request)| Ask { cap, request, mark }))
+        Ok(call.map(|(cap, request)| OutgoingCall { cap, request, call_id }))
     }
 
-    fn told(&mut self, mark: u64, outcome: Outcome) -> Result<(), AllocError> {
+    fn on_response(&mut self, call_id: u64, outcome: Outcome) -> Result<(), AllocError> {
         let settled = Settled {
-            ticket: mark,
+            ticket: call_id,
             outcome,
             gives_up: numbers_of(self.alloc, self.gives_up.as_str()),
         };

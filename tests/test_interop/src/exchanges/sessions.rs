@@ -6,9 +6,9 @@ use crate::exchanges::playing::is_reported;
 use crate::exchanges::script::{UNREAD, push_text};
 use cp_connection::Connection;
 use cp_frame::Mode;
-use cp_objects::{Notice, Objects};
+use cp_dispatch::{DispatchEvent, Dispatcher};
 use cp_scripts::{Lines, event_of};
-use cp_servants::any_again;
+use cp_servants::any_has_more;
 use cp_serve::{Report, ServeFault, serve_each};
 use cp_stream::{Tap, read_message};
 use cp_words::Limits;
@@ -77,7 +77,7 @@ struct Session {
     /// Whether calls are lent to the objects, out of bytes that come at once.
     lends: bool,
     connection: Connection,
-    owed: Objects,
+    owed: Dispatcher,
     objects: Vec<Object>,
     fault: Option<ServeFault>,
     lines: Lines,
@@ -101,7 +101,7 @@ impl Drop for Session {
 
 impl Session {
     /// A session of the objects of a script.
-    fn new(alloc: Global, mode: Mode, owed: Objects, lends: bool, script: &str) -> Session {
+    fn new(alloc: Global, mode: Mode, owed: Dispatcher, lends: bool, script: &str) -> Session {
         Session {
             alloc,
             mode,
@@ -202,7 +202,7 @@ impl Session {
 
     /// Says whether an object may go on by itself.
     fn say_again(&mut self) {
-        let again = any_again(&self.objects);
+        let again = any_has_more(&self.objects);
         let text = format!(in self.alloc; "= again {again}\n");
         push_text(&mut self.lines, text.ok());
     }
@@ -236,9 +236,9 @@ impl Session {
     }
 
     fn report(&mut self) -> Report {
-        let tally = self.connection.tally();
+        let tally = self.connection.stats();
         let closed = match self.owed.next() {
-            Some(Notice::Closed(reason)) => Some(reason),
+            Some(DispatchEvent::Closed(reason)) => Some(reason),
             other => {
                 drop(other);
                 None
@@ -260,7 +260,7 @@ impl Session {
 }
 
 /// The lines of a script, and of what follows each in a session of its objects.
-pub fn in_session(alloc: Global, mode: Mode, owed: Objects, lends: bool, script: &str) -> Lines {
+pub fn in_session(alloc: Global, mode: Mode, owed: Dispatcher, lends: bool, script: &str) -> Lines {
     let mut session = Session::new(alloc, mode, owed, lends, script);
     session.play(script);
     let lines = mem::replace(&mut session.lines, Lines::new(alloc));

@@ -3,14 +3,14 @@
 use crate::client::peer::{Scene, call_twice, play};
 use crate::frames::{DESK, FAILED, NEXT_SUM, SUM};
 use cp_client::{Client, ClientFault, Question, request_of, word_at};
-use cp_makers::Hall;
+use cp_objects::ObjectTable;
 use cp_refs::Outcome;
 use std::alloc::Global;
 use std::io::{Read, Write};
 use std::process::Abort;
 
 /// The word of an outcome that comes.
-fn word<R: Read + Drop, W: Write + Drop, H: Hall>(
+fn word<R: Read + Drop, W: Write + Drop, H: ObjectTable>(
     rt: &impl Abort,
     client: &mut Client<R, W, H>,
     question: Question,
@@ -22,7 +22,7 @@ fn word<R: Read + Drop, W: Write + Drop, H: Hall>(
 }
 
 /// An outcome that comes for another question is kept for it, and each is given once.
-pub(crate) fn expect_kept<R: Read + Drop, W: Write + Drop, H: Hall>(
+pub(crate) fn expect_kept<R: Read + Drop, W: Write + Drop, H: ObjectTable>(
     rt: &impl Abort,
     alloc: Global,
     client: &mut Client<R, W, H>,
@@ -33,7 +33,7 @@ pub(crate) fn expect_kept<R: Read + Drop, W: Write + Drop, H: Hall>(
     check!(rt; client.wait(first).err() == Some(ClientFault::NotAsked));
     check!(rt; client.finish(second).is_ok());
     check!(rt; client.flush().is_ok());
-    check!(rt; client.tally().sent == 4);
+    check!(rt; client.stats().sent == 4);
 }
 
 #[test]
@@ -43,7 +43,7 @@ fn outcomes_are_kept_and_given_once(rt: HostRuntime) {
 }
 
 /// Whether a call of method 0 of the peer's object, made and finished, has results.
-fn has_results<R: Read + Drop, W: Write + Drop, H: Hall>(
+fn has_results<R: Read + Drop, W: Write + Drop, H: ObjectTable>(
     rt: &impl Abort,
     alloc: Global,
     client: &mut Client<R, W, H>,
@@ -51,7 +51,7 @@ fn has_results<R: Read + Drop, W: Write + Drop, H: Hall>(
 ) -> bool {
     let request = request_of(alloc, 1, 0, &[]).expect(rt, "memory");
     let outcome = client
-        .ask(desk.cap(alloc), request)
+        .call_and_wait(desk.cap(alloc), request)
         .expect(rt, "an outcome");
     let has_results = matches!(&outcome, Outcome::Results { .. });
     drop(outcome);
@@ -59,7 +59,7 @@ fn has_results<R: Read + Drop, W: Write + Drop, H: Hall>(
 }
 
 /// A call has results, and a second one fails; then what was held is given up, and the peer ends.
-pub(crate) fn expect_whole<R: Read + Drop, W: Write + Drop, H: Hall>(
+pub(crate) fn expect_whole<R: Read + Drop, W: Write + Drop, H: ObjectTable>(
     rt: &impl Abort,
     alloc: Global,
     client: &mut Client<R, W, H>,

@@ -1,15 +1,15 @@
 //! Contents that are made field by field, and read.
 
-use cp_builder::DraftFault;
+use cp_builder::BuildError;
 use cp_refs::{Cap, Outcome, Request, failed};
-use cp_servants::{Content, data_in, outcome_of, results_of, text_in, word_in};
-use cp_stubs::Table;
+use cp_servants::{PayloadBuilder, data_in, outcome_of, results_of, text_in, word_in};
+use cp_interfaces::CapTableBuilder;
 use cp_tree::{Tree, Whole};
 use std::alloc::Global;
 
 /// A call with two words, a text, data and a capability.
-fn call(alloc: Global) -> Result<Request, DraftFault> {
-    let words = Content::new(alloc).word(7)?.word(u64::MAX)?;
+fn call(alloc: Global) -> Result<Request, BuildError> {
+    let words = PayloadBuilder::new(alloc).word(7)?.word(u64::MAX)?;
     let named = words.text("Grüße")?.data(&[1, 2])?.cap(Cap::Import(3))?;
     Ok(named.request(9, 2))
 }
@@ -28,9 +28,9 @@ fn a_call_has_its_fields(rt: HostRuntime) {
 }
 
 /// A call that names a null capability, a broken one and an import.
-fn naming(alloc: Global) -> Result<Request, DraftFault> {
+fn naming(alloc: Global) -> Result<Request, BuildError> {
     let broken = Cap::Broken(failed(alloc, "lost")?);
-    let content = Content::new(alloc).cap(Cap::None)?.cap(broken)?;
+    let content = PayloadBuilder::new(alloc).cap(Cap::None)?.cap(broken)?;
     Ok(content.cap(Cap::Import(3))?.request(9, 2))
 }
 
@@ -53,7 +53,7 @@ fn a_null_or_broken_capability_is_a_null_pointer(rt: HostRuntime) {
 
 #[test]
 fn a_table_has_no_null_capability(rt: HostRuntime) {
-    let mut table = Table::new(rt.alloc());
+    let mut table = CapTableBuilder::new(rt.alloc());
     let null = table.add(Cap::None).expect(&rt, "memory");
     let named = table.add(Cap::Import(3)).expect(&rt, "memory");
     let caps = table.into_caps();
@@ -63,7 +63,7 @@ fn a_table_has_no_null_capability(rt: HostRuntime) {
 
 #[test]
 fn results_have_their_content(rt: HostRuntime) {
-    let made = Content::new(rt.alloc()).word(5);
+    let made = PayloadBuilder::new(rt.alloc()).word(5);
     let outcome = made.expect(&rt, "memory").results();
     let word = results_of(&outcome).map(|content| word_in(content, 0));
     drop(outcome);
@@ -72,8 +72,8 @@ fn results_have_their_content(rt: HostRuntime) {
 }
 
 /// How many words a struct gets, and why it gets no further one.
-fn most_words(alloc: Global) -> (u32, Option<DraftFault>) {
-    let mut content = Content::new(alloc);
+fn most_words(alloc: Global) -> (u32, Option<BuildError>) {
+    let mut content = PayloadBuilder::new(alloc);
     for count in 0..0x1_0001 {
         match content.word(0) {
             Ok(longer) => content = longer,
@@ -85,8 +85,8 @@ fn most_words(alloc: Global) -> (u32, Option<DraftFault>) {
 }
 
 /// The same of pointers.
-fn most_pointers(alloc: Global) -> (u32, Option<DraftFault>) {
-    let mut content = Content::new(alloc);
+fn most_pointers(alloc: Global) -> (u32, Option<BuildError>) {
+    let mut content = PayloadBuilder::new(alloc);
     for count in 0..0x1_0001 {
         match content.pointer(Whole::null()) {
             Ok(longer) => content = longer,
@@ -99,7 +99,7 @@ fn most_pointers(alloc: Global) -> (u32, Option<DraftFault>) {
 
 #[test]
 fn a_struct_has_at_most_65_535_words_and_pointers(rt: HostRuntime) {
-    let most = (0xffff, Some(DraftFault::TooLong));
+    let most = (0xffff, Some(BuildError::TooLong));
     check!(&rt; most_words(rt.alloc()) == most);
     check!(&rt; most_pointers(rt.alloc()) == most);
 }
@@ -114,10 +114,10 @@ fn reason_in(outcome: &Outcome) -> Option<&str> {
 
 #[test]
 fn a_call_whose_results_are_too_long_fails(rt: HostRuntime) {
-    let failed = outcome_of(rt.alloc(), Err(DraftFault::TooLong)).expect(&rt, "memory");
+    let failed = outcome_of(rt.alloc(), Err(BuildError::TooLong)).expect(&rt, "memory");
     check!(&rt; reason_in(&failed) == Some("the results are too long"));
     drop(failed);
-    let made = outcome_of(rt.alloc(), Content::new(rt.alloc()).word(5)).expect(&rt, "memory");
+    let made = outcome_of(rt.alloc(), PayloadBuilder::new(rt.alloc()).word(5)).expect(&rt, "memory");
     let word = results_of(&made).map(|content| word_in(content, 0));
     drop(made);
     check!(&rt; word == Some(5));

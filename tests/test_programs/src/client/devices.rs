@@ -4,13 +4,13 @@ use crate::client::peer::{Scene, call_twice, play, play_over};
 use crate::devices::Fails;
 use crate::frames::{DESK, NEXT_SUM, SUM, bytes_of};
 use cp_client::{Client, ClientFault, Question, word_at};
-use cp_makers::Hall;
+use cp_objects::ObjectTable;
 use std::alloc::Global;
 use std::io::{Read, Write};
 use std::process::Abort;
 
 /// Waits until a question's outcome comes, whatever the devices do, and gives its word and how often one failed.
-fn insist<R: Read + Drop, W: Write + Drop, H: Hall>(
+fn insist<R: Read + Drop, W: Write + Drop, H: ObjectTable>(
     client: &mut Client<R, W, H>,
     question: Question,
 ) -> (Option<u64>, u64) {
@@ -30,7 +30,7 @@ fn insist<R: Read + Drop, W: Write + Drop, H: Hall>(
 }
 
 /// Calls twice. The second outcome comes, though a device failed more than ten times, or none failed.
-pub(crate) fn expect_insisted<R: Read + Drop, W: Write + Drop, H: Hall>(
+pub(crate) fn expect_insisted<R: Read + Drop, W: Write + Drop, H: ObjectTable>(
     rt: &impl Abort,
     alloc: Global,
     client: &mut Client<R, W, H>,
@@ -62,7 +62,7 @@ fn nothing_is_lost_where_devices_fail(rt: HostRuntime) {
 }
 
 /// A Bootstrap is written, and flushed.
-pub(crate) fn expect_flushed<R: Read + Drop, W: Write + Drop, H: Hall>(
+pub(crate) fn expect_flushed<R: Read + Drop, W: Write + Drop, H: ObjectTable>(
     rt: &impl Abort,
     client: &mut Client<R, W, H>,
 ) {

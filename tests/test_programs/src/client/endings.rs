@@ -6,7 +6,7 @@ use crate::frames::{ABORT, DESK, bytes_of};
 use cp_client::{Client, ClientFault};
 use cp_connection::ConnectionFault;
 use cp_frame::FrameFault;
-use cp_makers::Hall;
+use cp_objects::ObjectTable;
 use cp_stream::Refusal;
 use std::alloc::Global;
 use std::io::{Read, Write};
@@ -20,7 +20,7 @@ pub(crate) struct End {
     is_closed: bool,
 }
 
-pub(crate) fn expect_end<R: Read + Drop, W: Write + Drop, H: Hall>(
+pub(crate) fn expect_end<R: Read + Drop, W: Write + Drop, H: ObjectTable>(
     rt: &impl Abort,
     client: &mut Client<R, W, H>,
     end: End,

@@ -4,7 +4,7 @@ use crate::frames::{BOOTSTRAP, CALL_BOOTSTRAP, DESK, NEXT_SUM, SUM, bytes_of};
 use cp_client::{Client, word_at};
 use cp_frame::Mode;
 use cp_refs::{Cap, Outcome, Request};
-use cp_servants::{Ask, Cell, Content, Reply, Servant, Settled};
+use cp_servants::{OutgoingCall, Cell, PayloadBuilder, Reply, Servant, Settled};
 use cp_vat_machine::Ids;
 use cp_words::Limits;
 use std::alloc::{AllocError, Global};
@@ -25,7 +25,7 @@ struct Through {
     alloc: Global,
     cell: Option<Cell>,
     /// A call that is to be asked, by its ticket.
-    ask: Option<(u64, Request)>,
+    next_call: Option<(u64, Request)>,
     answer: Option<Settled>,
 }
 
@@ -34,7 +34,7 @@ impl Through {
         Through {
             alloc,
             cell,
-            ask: None,
+            next_call: None,
             answer: None,
         }
     }
@@ -45,7 +45,7 @@ impl Servant for Through {
         if let Some(cell) = &mut self.cell {
             return cell.call(ticket, request);
         }
-        drop(mem::replace(&mut self.ask, Some((ticket, request))));
+        drop(mem::replace(&mut self.next_call, Some((ticket, request))));
         Ok(Reply::Later)
     }
 
@@ -53,17 +53,17 @@ impl Servant for Through {
         Ok(self.answer.take())
     }
 
-    fn ask(&mut self) -> Result<Option<Ask>, AllocError> {
-        let Some((mark, request)) = self.ask.take() else {
+    fn next_call(&mut self) -> Result<Option<OutgoingCall>, AllocError> {
+        let Some((call_id, request)) = self.next_call.take() else {
             return Ok(None);
         };
         let cap = Cap::Import(0);
-        Ok(Some(Ask { cap, request, mark }))
+        Ok(Some(OutgoingCall { cap, request, call_id }))
     }
 
-    fn told(&mut self, mark: u64, outcome: Outcome) -> Result<(), AllocError> {
+    fn on_response(&mut self, call_id: u64, outcome: Outcome) -> Result<(), AllocError> {
         let settled = Settled {
-            ticket: mark,
+            ticket: call_id,
             outcome,
             gives_up: Ids::new(Vec::new(self.alloc)),
         };
@@ -80,7 +80,7 @@ fn call_with<R: Read + Drop, W: Write + Drop, O: Servant>(
     object: O,
 ) -> Option<u64> {
     let cap = client.export(object).expect(rt, "a capability");
-    let params = Content::new(alloc).cap(cap).expect(rt, "params");
+    let params = PayloadBuilder::new(alloc).cap(cap).expect(rt, "params");
     let desk = client.bootstrap().expect(rt, "a bootstrap");
     let question = client.call(desk.cap(alloc), params.request(1, 0));
     let question = question.expect(rt, "a call");
@@ -133,7 +133,7 @@ fn expect_used<R: Read + Drop, W: Write + Drop, O: Servant>(
         serve_with(rt, client, object);
     }
     check!(rt; client.objects().is_empty() != has_object);
-    check!(rt; client.tally().sent == trial.sent);
+    check!(rt; client.stats().sent == trial.sent);
 }
 
 /// A client with this object, or none, which is what its peer gets for its Bootstrap, does what the trial says.
@@ -141,7 +141,7 @@ fn expect_trial(rt: &impl Abort, alloc: Global, object: Option<Through>, trial: 
     let bytes = bytes_of(rt, alloc, trial.frames);
     let (from, to) = (bytes.as_slice(), Vec::new(alloc));
     let limits = Limits::standard();
-    let mut client = Client::with_objects(alloc, from, to, Mode::Plain, limits, Some(0));
+    let mut client = Client::with_servants(alloc, from, to, Mode::Plain, limits, Some(0));
     expect_used(rt, alloc, &mut client, (object, trial));
     let (left, written) = client.into_devices();
     check!(rt; left.is_empty());

@@ -4,13 +4,13 @@ use crate::client::peer::{Scene, play};
 use crate::frames::{DESK, SUM};
 use cp_client::{Client, ClientFault, Question, request_of, word_at};
 use cp_connection::ConnectionFault;
-use cp_makers::Hall;
+use cp_objects::ObjectTable;
 use std::alloc::Global;
 use std::io::{Read, Write};
 use std::process::Abort;
 
 /// Asks what a field of the peer's object will give.
-fn ask<R: Read + Drop, W: Write + Drop, H: Hall>(
+fn ask<R: Read + Drop, W: Write + Drop, H: ObjectTable>(
     alloc: Global,
     client: &mut Client<R, W, H>,
 ) -> Result<Question, ClientFault> {
@@ -26,7 +26,7 @@ fn ask<R: Read + Drop, W: Write + Drop, H: Hall>(
 }
 
 /// The word that it gives.
-fn call<R: Read + Drop, W: Write + Drop, H: Hall>(
+fn call<R: Read + Drop, W: Write + Drop, H: ObjectTable>(
     alloc: Global,
     client: &mut Client<R, W, H>,
 ) -> Result<Option<u64>, ClientFault> {
@@ -38,7 +38,7 @@ fn call<R: Read + Drop, W: Write + Drop, H: Hall>(
 }
 
 /// The word comes, or memory ran out. The writer's own allocations fail its writes.
-pub(crate) fn expect_called_or_memory<R: Read + Drop, W: Write + Drop, H: Hall>(
+pub(crate) fn expect_called_or_memory<R: Read + Drop, W: Write + Drop, H: ObjectTable>(
     rt: &impl Abort,
     alloc: Global,
     client: &mut Client<R, W, H>,

@@ -9,7 +9,7 @@ use crate::devices::{Device, Fails};
 use crate::frames::bytes_of;
 use cp_client::{Client, Question, request_of};
 use cp_frame::Mode;
-use cp_makers::Hall;
+use cp_objects::ObjectTable;
 use cp_words::Limits;
 use std::alloc::Global;
 use std::io::{Read, Write};
@@ -69,7 +69,7 @@ pub fn play_over(
     left
 }
 
-fn play_with<R: Read + Drop, W: Write + Drop, H: Hall>(
+fn play_with<R: Read + Drop, W: Write + Drop, H: ObjectTable>(
     rt: &impl Abort,
     alloc: Global,
     client: &mut Client<R, W, H>,
@@ -88,7 +88,7 @@ fn play_with<R: Read + Drop, W: Write + Drop, H: Hall>(
 }
 
 /// Asks for the peer's object, and calls it twice before it is known.
-pub fn call_twice<R: Read + Drop, W: Write + Drop, H: Hall>(
+pub fn call_twice<R: Read + Drop, W: Write + Drop, H: ObjectTable>(
     rt: &impl Abort,
     alloc: Global,
     client: &mut Client<R, W, H>,

@@ -2,15 +2,15 @@
 
 use crate::client::peer::{Scene, play};
 use crate::frames::{DESK, FAILED, NEXT_SUM, SUM};
-use cp_client::{Client, Stream, StreamingFault, request_of};
-use cp_makers::Hall;
-use cp_stubs::{CallTarget, NoResults};
+use cp_client::{Client, CallWindow, CallError, request_of};
+use cp_objects::ObjectTable;
+use cp_interfaces::{CallTarget, NoResults};
 use std::alloc::Global;
 use std::io::{Read, Write};
 use std::process::Abort;
 
 /// The peer's object.
-fn desk<R: Read + Drop, W: Write + Drop, H: Hall>(
+fn desk<R: Read + Drop, W: Write + Drop, H: ObjectTable>(
     rt: &impl Abort,
     alloc: Global,
     client: &mut Client<R, W, H>,
@@ -20,32 +20,32 @@ fn desk<R: Read + Drop, W: Write + Drop, H: Hall>(
 }
 
 /// Calls method 0 of an object, in a stream.
-fn send<R: Read + Drop, W: Write + Drop, H: Hall>(
+fn send<R: Read + Drop, W: Write + Drop, H: ObjectTable>(
     rt: &impl Abort,
     alloc: Global,
-    stream: &mut Stream,
+    stream: &mut CallWindow,
     client: &mut Client<R, W, H>,
     target: &CallTarget,
-) -> Result<(), StreamingFault> {
+) -> Result<(), CallError> {
     let request = request_of(alloc, 1, 0, &[]).expect(rt, "memory");
     stream.send(client, target, request)
 }
 
 /// Three calls go, two of them at once, and are waited for.
-pub(crate) fn expect_in_order<R: Read + Drop, W: Write + Drop, H: Hall>(
+pub(crate) fn expect_in_order<R: Read + Drop, W: Write + Drop, H: ObjectTable>(
     rt: &impl Abort,
     alloc: Global,
     client: &mut Client<R, W, H>,
 ) {
     let target = desk(rt, alloc, client);
-    let mut stream = Stream::new(alloc, 2);
+    let mut stream = CallWindow::new(alloc, 2);
     for _ in 0..3 {
         check!(rt; send(rt, alloc, &mut stream, client, &target).is_ok());
     }
     check!(rt; stream.end(client).is_ok());
     check!(rt; client.flush().is_ok());
     // A Bootstrap, and a Call and a Finish for each.
-    check!(rt; client.tally().sent == 7);
+    check!(rt; client.stats().sent == 7);
     drop(stream);
     drop(target);
 }
@@ -57,18 +57,18 @@ fn streams_have_a_window(rt: HostRuntime) {
 }
 
 /// The second of two calls, of which one goes at once, says that the first one failed.
-pub(crate) fn expect_failed<R: Read + Drop, W: Write + Drop, H: Hall>(
+pub(crate) fn expect_failed<R: Read + Drop, W: Write + Drop, H: ObjectTable>(
     rt: &impl Abort,
     alloc: Global,
     client: &mut Client<R, W, H>,
 ) {
     let target = desk(rt, alloc, client);
-    let mut stream = Stream::new(alloc, 1);
+    let mut stream = CallWindow::new(alloc, 1);
     check!(rt; send(rt, alloc, &mut stream, client, &target).is_ok());
     let fault = send(rt, alloc, &mut stream, client, &target).err();
     let has_failed = matches!(
         &fault,
-        Some(StreamingFault::NoResults(NoResults::Failed(_)))
+        Some(CallError::NoResults(NoResults::Failed(_)))
     );
     drop(fault);
     drop(stream);

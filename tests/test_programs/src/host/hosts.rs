@@ -1,10 +1,10 @@
 //! A host of 127.0.0.1, and a client in the same thread.
 
 use cp_frame::Mode;
-use cp_makers::Hall;
+use cp_objects::ObjectTable;
 use cp_servants::Desk;
 use cp_words::Limits;
-use net_host::{End, Host, HostLimits, HostPlan, News};
+use net_host::{End, Host, HostLimits, HostConfig, HostEvent};
 use net_sockets::Listener;
 use std::alloc::Global;
 use std::io::{Read, Write};
@@ -23,8 +23,8 @@ const TWO: [u8; 96] = [
 ];
 
 /// One connection, plain, of which each turn takes one message.
-fn plan() -> HostPlan {
-    HostPlan {
+fn plan() -> HostConfig {
+    HostConfig {
         mode: Mode::Plain,
         messages: Limits::standard(),
         limits: HostLimits {
@@ -50,18 +50,18 @@ where
 #[derive(Clone, Copy)]
 enum Told {
     Nothing,
-    Came,
+    Connected,
     Ended,
     Other,
 }
 
-fn next_told<R: Net + Clock + Abort, H: Hall>(rt: &R, host: &mut Host<H>) -> Told {
+fn next_told<R: Net + Clock + Abort, H: ObjectTable>(rt: &R, host: &mut Host<H>) -> Told {
     let news = host.next(rt).expect(rt, "a host");
     let told = match &news {
         None => Told::Nothing,
-        Some(News::Came { number: 1, .. }) => Told::Came,
+        Some(HostEvent::Connected { number: 1, .. }) => Told::Connected,
         Some(
-            News::Ended {
+            HostEvent::Ended {
                 number: 1,
                 end: End::Ended,
                 ..
@@ -74,8 +74,8 @@ fn next_told<R: Net + Clock + Abort, H: Hall>(rt: &R, host: &mut Host<H>) -> Tol
 }
 
 /// Connection 1 comes, and gets these objects. It ends by itself, and none comes after it.
-fn expect_one<R: Net + Clock + Abort, H: Hall>(rt: &R, host: &mut Host<H>, objects: H) {
-    check!(rt; matches!(next_told(rt, host), Told::Came));
+fn expect_one<R: Net + Clock + Abort, H: ObjectTable>(rt: &R, host: &mut Host<H>, objects: H) {
+    check!(rt; matches!(next_told(rt, host), Told::Connected));
     host.admit(objects).expect(rt, "a connection");
     check!(rt; matches!(next_told(rt, host), Told::Ended));
     check!(rt; matches!(next_told(rt, host), Told::Nothing));
@@ -93,8 +93,8 @@ fn expect_returns(rt: &impl Abort, alloc: Global, mut client: TcpStream) {
 
 #[test]
 fn two_turns_of_one_connection(rt: HostRuntime) {
-    let here = SocketAddr::from((Ipv4Addr::LOCALHOST, 0));
-    let listener = Listener::bind(&rt, here).expect(&rt, "a port");
+    let context = SocketAddr::from((Ipv4Addr::LOCALHOST, 0));
+    let listener = Listener::bind(&rt, context).expect(&rt, "a port");
     let address = listener
         .address()
         .expect(&rt, "a socket")

@@ -1,9 +1,9 @@
 //! A host's program has an object woken while its client is silent, and is told when its time has come.
 
-use cp_makers::{Family, Here, Maker, Waker};
+use cp_objects::{Objects, Context, ServedObject, Waker};
 use cp_refs::{Outcome, Request};
-use cp_servants::{Ask, Reply, Settled};
-use net_host::{Host, HostPlan, News};
+use cp_servants::{OutgoingCall, Reply, Settled};
+use net_host::{Host, HostConfig, HostEvent};
 use net_sockets::Listener;
 use std::alloc::AllocError;
 use std::cell::RefCell;
@@ -21,37 +21,37 @@ struct Bell {
     polled: Polled,
 }
 
-impl Maker for Bell {
+impl ServedObject for Bell {
     type Makes = Bell;
 
     fn call(
         &mut self,
         _ticket: u64,
         request: Request,
-        _here: &mut Here<Bell>,
+        _context: &mut Context<Bell>,
     ) -> Result<Reply, AllocError> {
         drop(request);
         Ok(Reply::Later)
     }
 
-    fn poll(&mut self, here: &mut Here<Bell>) -> Result<Option<Settled>, AllocError> {
+    fn poll(&mut self, context: &mut Context<Bell>) -> Result<Option<Settled>, AllocError> {
         if let Ok(mut polled) = self.polled.try_borrow_mut() {
-            let pushed = polled.push(here.waker());
+            let pushed = polled.push(context.waker());
             drop(polled);
             pushed?;
         }
         Ok(None)
     }
 
-    fn ask(&mut self, _here: &mut Here<Bell>) -> Result<Option<Ask>, AllocError> {
+    fn next_call(&mut self, _context: &mut Context<Bell>) -> Result<Option<OutgoingCall>, AllocError> {
         Ok(None)
     }
 
-    fn told(
+    fn on_response(
         &mut self,
         _mark: u64,
         outcome: Outcome,
-        _here: &mut Here<Bell>,
+        _context: &mut Context<Bell>,
     ) -> Result<(), AllocError> {
         drop(outcome);
         Ok(())
@@ -68,18 +68,18 @@ fn waker_of(rt: &impl Abort, polled: &Polled, polls: usize) -> Waker {
 }
 
 /// The only connection comes.
-fn expect_came<R: Net + Clock + Abort>(rt: &R, host: &mut Host<Family<Bell>>) {
+fn expect_came<R: Net + Clock + Abort>(rt: &R, host: &mut Host<Objects<Bell>>) {
     let news = host.next(rt).expect(rt, "a host");
-    check!(rt; matches!(&news, Some(News::Came { number: 1, .. })));
+    check!(rt; matches!(&news, Some(HostEvent::Connected { number: 1, .. })));
     drop(news);
 }
 
 /// The program names a time, and is told when that has come. A millisecond has begun at both ends.
-fn expect_woken<R: Net + Clock + Abort>(rt: &R, host: &mut Host<Family<Bell>>) {
+fn expect_woken<R: Net + Clock + Abort>(rt: &R, host: &mut Host<Objects<Bell>>) {
     let began = Instant::now(rt).expect(rt, "a clock");
     host.wake_after(rt, 50).expect(rt, "a clock");
     let news = host.next(rt).expect(rt, "a host");
-    check!(rt; matches!(&news, Some(News::Woken)));
+    check!(rt; matches!(&news, Some(HostEvent::Woken)));
     drop(news);
     let now = Instant::now(rt).expect(rt, "a clock");
     check!(rt; now.duration_since(began).as_millis() >= 49);
@@ -87,19 +87,19 @@ fn expect_woken<R: Net + Clock + Abort>(rt: &R, host: &mut Host<Family<Bell>>) {
 
 #[test]
 fn an_object_of_a_silent_client_is_woken(rt: HostRuntime) {
-    let here = SocketAddr::from((Ipv4Addr::LOCALHOST, 0));
-    let listener = Listener::bind(&rt, here).expect(&rt, "a port");
+    let context = SocketAddr::from((Ipv4Addr::LOCALHOST, 0));
+    let listener = Listener::bind(&rt, context).expect(&rt, "a port");
     let address = listener
         .address()
         .expect(&rt, "a socket")
         .expect(&rt, "a port");
     let silent = TcpStream::connect(&rt, address).expect(&rt, "a connection");
-    let mut host = Host::new(&rt, HostPlan::standard(), listener).expect(&rt, "a host");
+    let mut host = Host::new(&rt, HostConfig::standard(), listener).expect(&rt, "a host");
     expect_came(&rt, &mut host);
     let polled: Polled = Rc::new(rt.alloc(), RefCell::new(Vec::new(rt.alloc()))).expect(
         &rt, "memory",
     );
-    let mut family = Family::new(rt.alloc());
+    let mut family = Objects::new(rt.alloc());
     let bell = Bell {
         polled: Rc::clone(&polled).expect(&rt, "memory"),
     };

@@ -6,8 +6,8 @@ ghost use Rattle.cp_servants.specs.declared.servant.Reply.TheVariants.{Later};
 use crate::frames::{AT_ONCE, BOOTSTRAP, LATER, bytes_of};
 use cp_connection::Connection;
 use cp_frame::Mode;
-use cp_makers::Hall;
-use cp_objects::Objects;
+use cp_objects::ObjectTable;
+use cp_dispatch::Dispatcher;
 use cp_refs::{Caps, Request};
 use cp_servants::{Reply, RequestView, Servant, Settled, call_at};
 use cp_tree::Whole;
@@ -81,9 +81,9 @@ fn an_object_does_what_its_kind_says(rt: HostRuntime) {
 const FRAMES: &[&str] = &[BOOTSTRAP, AT_ONCE, LATER];
 
 /// A frame comes to a connection with these objects, to which calls are lent or aren't.
-fn take<H: Hall>(
+fn take<H: ObjectTable>(
     connection: &mut Connection,
-    owed: &mut Objects,
+    owed: &mut Dispatcher,
     objects: &mut H,
     bytes: &[u8],
     lends: bool,
@@ -98,9 +98,9 @@ fn take<H: Hall>(
 }
 
 /// A Bootstrap and two calls come for these objects.
-fn call<H: Hall>(rt: &impl Abort, alloc: Global, objects: &mut H, lends: bool) {
+fn call<H: ObjectTable>(rt: &impl Abort, alloc: Global, objects: &mut H, lends: bool) {
     let mut connection = Connection::new(alloc, Mode::Plain, Limits::standard(), Some(0));
-    let mut owed = Objects::new(alloc);
+    let mut owed = Dispatcher::new(alloc);
     for frame in FRAMES {
         let bytes = bytes_of(rt, alloc, &[*frame]);
         let taken = take(&mut connection, &mut owed, objects, &bytes, lends);

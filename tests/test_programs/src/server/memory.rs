@@ -41,7 +41,7 @@ fn an_allocation_failure_ends_it(rt: HostRuntime) {
     let mut connection = Connection::new(alloc, Mode::Plain, Limits::standard(), Some(0));
     let (done, fault) = play(&mut connection, &frame);
     let outgoing = connection.outgoing().len();
-    let sent = connection.tally().sent;
+    let sent = connection.stats().sent;
     let again = connection.bootstrap();
     let happened = connection.next();
     drop(connection);

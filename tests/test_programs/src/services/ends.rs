@@ -3,9 +3,9 @@
 
 use crate::services::notebook::NOTES;
 use cp_frame::Mode;
-use cp_makers::{Hall, Waker};
+use cp_objects::{ObjectTable, Waker};
 use cp_refs::{Cap, Caps, Outcome, Path, Request};
-use cp_servants::{Content, results_of, word_in};
+use cp_servants::{PayloadBuilder, results_of, word_in};
 use cp_session::{Session, SessionEvent, SessionLimits, SessionOptions};
 use cp_words::Limits;
 use std::alloc::Global;
@@ -89,7 +89,7 @@ pub(crate) struct Got {
     pub(crate) is_failed: bool,
 }
 
-impl<C: Hall, S: Hall> Ends<C, S> {
+impl<C: ObjectTable, S: ObjectTable> Ends<C, S> {
     /// A client with these objects, and a server with those, whose first one the client may ask for. The server's session has this number.
     pub(crate) fn new(alloc: Global, client: C, server: S, session: u64) -> Ends<C, S> {
         let mut server = server;
@@ -202,7 +202,7 @@ fn options(bootstrap: Option<u32>) -> SessionOptions {
 }
 
 /// All bytes that one session sends come to the other. Says whether there were any.
-fn carry<F: Hall, T: Hall>(
+fn carry<F: ObjectTable, T: ObjectTable>(
     rt: &impl Abort,
     from: &mut Session<F>,
     to: &mut Session<T>,
@@ -217,7 +217,7 @@ fn carry<F: Hall, T: Hall>(
 }
 
 /// Gives bytes to a session, and has it do all that they lead to.
-fn give<H: Hall>(rt: &impl Abort, session: &mut Session<H>, bytes: &[u8], now: u64) {
+fn give<H: ObjectTable>(rt: &impl Abort, session: &mut Session<H>, bytes: &[u8], now: u64) {
     let mut left = bytes;
     for _ in 0..bytes.len() {
         if left.is_empty() {
@@ -238,7 +238,7 @@ fn give<H: Hall>(rt: &impl Abort, session: &mut Session<H>, bytes: &[u8], now: u
 
 /// A call of a method.
 fn request(rt: &impl Abort, alloc: Global, method: u16, with: With) -> Request {
-    let params = Content::new(alloc);
+    let params = PayloadBuilder::new(alloc);
     let params = match with {
         With::Word(word) => params.word(word),
         With::Import(import) => params.cap(Cap::Import(import)),

@@ -1,11 +1,11 @@
 //! Calls of services are answered later, by their own handles, in another order than they came.
 
 use crate::services::ends::{Ends, Seen, Step, With};
-use cp_makers::{Family, Here, Maker};
+use cp_objects::{Objects, Context, ServedObject};
 use cp_refs::{Outcome, Request};
-use cp_servants::{Ask, Reply, Settled};
-use cp_services::{LaterCall, MethodResult, ServiceCall};
-use cp_stubs::{MethodCall, MethodFault, NoFieldsBuilder};
+use cp_servants::{OutgoingCall, Reply, Settled};
+use cp_interface_objects::{LaterCall, MethodResult, ServiceCall};
+use cp_interfaces::{MethodCall, MethodFault, NoFieldsBuilder};
 use std::alloc::AllocError;
 use std::process::Abort;
 
@@ -26,23 +26,23 @@ impl Slow {
     }
 }
 
-impl Maker for Slow {
+impl ServedObject for Slow {
     type Makes = Slow;
 
     fn call(
         &mut self,
         ticket: u64,
         request: Request,
-        here: &mut Here<Slow>,
+        context: &mut Context<Slow>,
     ) -> Result<Reply, AllocError> {
         let call = MethodCall { ticket, request };
-        let results = NoFieldsBuilder::new(here.alloc())?;
-        let mut passed = ServiceCall::new(here.alloc(), &call, (), results);
+        let results = NoFieldsBuilder::new(context.alloc())?;
+        let mut passed = ServiceCall::new(context.alloc(), &call, (), results);
         let done = self.put_off(&mut passed);
         passed.reply(&call, done)
     }
 
-    fn poll(&mut self, here: &mut Here<Slow>) -> Result<Option<Settled>, AllocError> {
+    fn poll(&mut self, context: &mut Context<Slow>) -> Result<Option<Settled>, AllocError> {
         if !self.is_ready {
             return Ok(None);
         }
@@ -50,28 +50,28 @@ impl Maker for Slow {
             return Ok(None);
         };
         if self.calls.is_empty() {
-            return Ok(Some(call.fail(here.alloc(), MethodFault::InUse)?));
+            return Ok(Some(call.fail(context.alloc(), MethodFault::InUse)?));
         }
-        let results = NoFieldsBuilder::new(here.alloc())?;
-        Ok(Some(call.answer(here.alloc(), results)))
+        let results = NoFieldsBuilder::new(context.alloc())?;
+        Ok(Some(call.answer(context.alloc(), results)))
     }
 
-    fn ask(&mut self, _here: &mut Here<Slow>) -> Result<Option<Ask>, AllocError> {
+    fn next_call(&mut self, _context: &mut Context<Slow>) -> Result<Option<OutgoingCall>, AllocError> {
         Ok(None)
     }
 
-    fn told(
+    fn on_response(
         &mut self,
         _mark: u64,
         outcome: Outcome,
-        _here: &mut Here<Slow>,
+        _context: &mut Context<Slow>,
     ) -> Result<(), AllocError> {
         drop(outcome);
         Ok(())
     }
 }
 
-type Both = Ends<Family<Slow>, Family<Slow>>;
+type Both = Ends<Objects<Slow>, Objects<Slow>>;
 
 /// Does a step.
 fn act(rt: &impl Abort, ends: &mut Both, step: Step) -> Seen {
@@ -87,7 +87,7 @@ fn expect_outcome(rt: &impl Abort, ends: &mut Both, asked: Option<u32>, is_faile
 #[test]
 fn calls_are_answered_later(rt: HostRuntime) {
     let alloc = rt.alloc();
-    let mut family = Family::new(alloc);
+    let mut family = Objects::new(alloc);
     let calls = Vec::new(alloc);
     let is_ready = false;
     drop(
@@ -95,7 +95,7 @@ fn calls_are_answered_later(rt: HostRuntime) {
             .add(Slow { calls, is_ready })
             .expect(&rt, "an object"),
     );
-    let mut ends = Ends::new(alloc, Family::new(alloc), family, 1);
+    let mut ends = Ends::new(alloc, Objects::new(alloc), family, 1);
     act(&rt, &mut ends, Step::Bootstrap);
     let (_, got) = act(&rt, &mut ends, Step::Take)
         .got

@@ -2,14 +2,14 @@
 
 ghost use Rattle.std.specs.Prelude.{ℕ};
 
-use cp_builder::DraftFault;
+use cp_builder::BuildError;
 use cp_refs::Cap;
-use cp_services::{
+use cp_interface_objects::{
     CapListBuilder, DataListBuilder, Enumerant, ListsBuilder, NamedResults,
     TextListBuilder, enumerants_of, float32_of, float64_of, signed8_of, signed16_of, signed32_of,
     signed64_of,
 };
-use cp_stubs::{CallTarget, NoFieldsBuilder, Results, Table};
+use cp_interfaces::{CallTarget, NoFieldsBuilder, Results, CapTableBuilder};
 use cp_tree::{Tree, Whole};
 use std::alloc::Global;
 
@@ -24,7 +24,7 @@ fn count(list: Whole) -> usize {
 }
 
 /// How many capabilities a table has.
-fn len(table: Table) -> usize {
+fn len(table: CapTableBuilder) -> usize {
     let caps = table.into_caps();
     let len = caps.caps().len();
     drop(caps);
@@ -55,22 +55,22 @@ impl Enumerant for Suit {
     }
 }
 
-fn texts(alloc: Global) -> Result<TextListBuilder, DraftFault> {
+fn texts(alloc: Global) -> Result<TextListBuilder, BuildError> {
     let mut texts = TextListBuilder::new(alloc);
     texts.push("saw")?;
     texts.push("axe")?;
     Ok(texts)
 }
 
-fn pictures(alloc: Global) -> Result<usize, DraftFault> {
+fn pictures(alloc: Global) -> Result<usize, BuildError> {
     let mut pictures = DataListBuilder::new(alloc);
     pictures.push(Vec::new(alloc))?;
     Ok(count(pictures.into_whole()?))
 }
 
 /// How many capabilities a list has, and its table.
-fn caps(alloc: Global) -> Result<(usize, usize), DraftFault> {
-    let mut table = Table::new(alloc);
+fn caps(alloc: Global) -> Result<(usize, usize), BuildError> {
+    let mut table = CapTableBuilder::new(alloc);
     let mut caps = CapListBuilder::new(alloc);
     let pushed = caps.push(&mut table, CallTarget::new(alloc, Cap::Object(4)));
     let named = len(table);
@@ -78,20 +78,20 @@ fn caps(alloc: Global) -> Result<(usize, usize), DraftFault> {
     Ok((count(caps.into_whole()?), named))
 }
 
-fn poems(alloc: Global) -> Result<usize, DraftFault> {
+fn poems(alloc: Global) -> Result<usize, BuildError> {
     let mut poems = ListsBuilder::new(alloc);
     poems.push(texts(alloc)?)?;
     Ok(count(poems.into_whole()?))
 }
 
-fn grid(alloc: Global) -> Result<usize, DraftFault> {
+fn grid(alloc: Global) -> Result<usize, BuildError> {
     let mut grid = ListsBuilder::new(alloc);
     grid.push(vec![in alloc; -1i32; 2]?)?;
     grid.push(vec![in alloc; 5i32; 2]?)?;
     Ok(count(grid.into_whole()?))
 }
 
-fn numbers(alloc: Global) -> Result<[u64; 7], DraftFault> {
+fn numbers(alloc: Global) -> Result<[u64; 7], BuildError> {
     Ok([
         first(signed8_of(alloc, &[-1])?),
         first(signed16_of(alloc, &[-2])?),
@@ -104,7 +104,7 @@ fn numbers(alloc: Global) -> Result<[u64; 7], DraftFault> {
 }
 
 /// How many capabilities results name.
-fn named(alloc: Global) -> Result<usize, DraftFault> {
+fn named(alloc: Global) -> Result<usize, BuildError> {
     let mut results = NamedResults::new(alloc, NoFieldsBuilder::new(alloc)?);
     let added = results.table.add(Cap::Object(2));
     let (content, table) = results.into_parts(alloc);

@@ -1,9 +1,9 @@
 //! A notebook: its pages are objects, and it tells watchers what was added.
 
-use cp_makers::{Any2, Here, Maker, Resolver, Waker};
+use cp_objects::{Either, Context, ServedObject, Resolver, Waker};
 use cp_refs::{Cap, Caps, Outcome, Request};
 use cp_servants::{
-    Ask, Content, Reply, Settled, named_imports, no_such_method, outcome_of, word_in,
+    OutgoingCall, PayloadBuilder, Reply, Settled, named_imports, no_such_method, outcome_of, word_in,
 };
 use cp_vat_machine::Ids;
 use std::alloc::{AllocError, Global};
@@ -59,7 +59,7 @@ pub(crate) const COUNT: u16 = 5;
 pub(crate) const VOW: u16 = 6;
 
 /// All objects of a connection.
-pub(crate) type Served = Any2<Book, Page>;
+pub(crate) type Served = Either<Book, Page>;
 
 /// The notes of all sessions, and whom to wake when there is one more.
 #[derive(Drop)]
@@ -116,7 +116,7 @@ struct Vow {
 
 /// The notebook of a session.
 pub(crate) fn new_book(notes: &Shared) -> Result<Served, AllocError> {
-    Ok(Served::First(Book {
+    Ok(Served::Left(Book {
         notes: Rc::clone(notes)?,
         watcher: None,
         told: 0,
@@ -129,7 +129,7 @@ pub(crate) fn new_book(notes: &Shared) -> Result<Served, AllocError> {
 }
 
 fn new_page(number: u64) -> Served {
-    Served::Second(Page {
+    Served::Right(Page {
         number,
         kept: None,
         counted: 0,
@@ -150,14 +150,14 @@ fn now(alloc: Global, outcome: Outcome, caps: &Caps) -> Result<Reply, AllocError
 
 /// The same without content.
 pub(crate) fn done(alloc: Global, caps: &Caps) -> Result<Reply, AllocError> {
-    now(alloc, outcome_of(alloc, Ok(Content::new(alloc)))?, caps)
+    now(alloc, outcome_of(alloc, Ok(PayloadBuilder::new(alloc)))?, caps)
 }
 
 /// The same of a word.
 fn counted(alloc: Global, word: u64, caps: &Caps) -> Result<Reply, AllocError> {
     now(
         alloc,
-        outcome_of(alloc, Content::new(alloc).word(word))?,
+        outcome_of(alloc, PayloadBuilder::new(alloc).word(word))?,
         caps,
     )
 }
@@ -166,7 +166,7 @@ fn counted(alloc: Global, word: u64, caps: &Caps) -> Result<Reply, AllocError> {
 fn named(alloc: Global, cap: Cap, caps: &Caps) -> Result<Reply, AllocError> {
     now(
         alloc,
-        outcome_of(alloc, Content::new(alloc).cap(cap))?,
+        outcome_of(alloc, PayloadBuilder::new(alloc).cap(cap))?,
         caps,
     )
 }
@@ -177,9 +177,9 @@ fn refused(alloc: Global, caps: &Caps) -> Result<Reply, AllocError> {
 }
 
 /// The time after some milliseconds, when the object is woken.
-fn time_after(milliseconds: u64, here: &mut Here<Served>) -> Result<u64, AllocError> {
-    here.wake_after(milliseconds)?;
-    Ok(here.now().saturating_add(milliseconds))
+fn time_after(milliseconds: u64, context: &mut Context<Served>) -> Result<u64, AllocError> {
+    context.wake_after(milliseconds)?;
+    Ok(context.now().saturating_add(milliseconds))
 }
 
 impl Vow {
@@ -192,20 +192,20 @@ impl Vow {
     }
 
     /// Promises a page, which it makes itself after some milliseconds, if these are more than none.
-    fn make(&mut self, after: u64, here: &mut Here<Served>) -> Result<Cap, AllocError> {
-        let resolver = here.promise()?;
+    fn make(&mut self, after: u64, context: &mut Context<Served>) -> Result<Cap, AllocError> {
+        let resolver = context.promise()?;
         let cap = resolver.cap();
         drop(mem::replace(&mut self.resolver, Some(resolver)));
         if after > 0 {
-            self.at = Some(time_after(after, here)?);
+            self.at = Some(time_after(after, context)?);
         }
         Ok(cap)
     }
 
     /// What was promised comes to this.
-    fn keep(&mut self, value: Cap, here: &mut Here<Served>) -> Result<(), AllocError> {
+    fn keep(&mut self, value: Cap, context: &mut Context<Served>) -> Result<(), AllocError> {
         match self.resolver.take() {
-            Some(resolver) => here.resolve(resolver, value),
+            Some(resolver) => context.resolve(resolver, value),
             None => {
                 drop(value);
                 Ok(())
@@ -214,16 +214,16 @@ impl Vow {
     }
 
     /// What was promised comes to a page, if it is time for that.
-    fn keep_in_time(&mut self, here: &mut Here<Served>) -> Result<(), AllocError> {
+    fn keep_in_time(&mut self, context: &mut Context<Served>) -> Result<(), AllocError> {
         let Some(at) = self.at else {
             return Ok(());
         };
-        if here.now() < at {
+        if context.now() < at {
             return Ok(());
         }
         self.at = None;
-        let page = here.make(new_page(at))?;
-        self.keep(page, here)
+        let page = context.make(new_page(at))?;
+        self.keep(page, context)
     }
 }
 
@@ -237,7 +237,7 @@ fn first_of(alloc: Global, caps: &Caps) -> Result<Cap, AllocError> {
 
 /// A page that keeps this.
 fn new_keeper(kept: Cap) -> Served {
-    Served::Second(Page {
+    Served::Right(Page {
         number: 0,
         kept: Some(kept),
         counted: 0,
@@ -246,14 +246,14 @@ fn new_keeper(kept: Cap) -> Served {
 }
 
 /// Makes a page that keeps the first capability of a table.
-fn join(caps: &Caps, here: &mut Here<Served>) -> Result<Reply, AllocError> {
-    let alloc = here.alloc();
-    let page = here.make(new_keeper(first_of(alloc, caps)?))?;
+fn join(caps: &Caps, context: &mut Context<Served>) -> Result<Reply, AllocError> {
+    let alloc = context.alloc();
+    let page = context.make(new_keeper(first_of(alloc, caps)?))?;
     let kept = match caps.caps().first() {
-        Some(watcher) => here.keep_for(&page, watcher),
+        Some(watcher) => context.keep_for(&page, watcher),
         None => Ok(()),
     };
-    let outcome = outcome_of(alloc, Content::new(alloc).cap(page))?;
+    let outcome = outcome_of(alloc, PayloadBuilder::new(alloc).cap(page))?;
     match kept {
         Ok(()) => Ok(Reply::Now {
             outcome,
@@ -279,10 +279,10 @@ fn broken(alloc: Global) -> Result<Cap, AllocError> {
 
 impl Notes {
     /// Adds a note, and has all woken.
-    fn add(&mut self, word: u64, here: &mut Here<Served>) -> Result<(), AllocError> {
+    fn add(&mut self, word: u64, context: &mut Context<Served>) -> Result<(), AllocError> {
         self.words.push(word)?;
         for waker in &self.wakers {
-            here.wake(*waker)?;
+            context.wake(*waker)?;
         }
         Ok(())
     }
@@ -290,34 +290,34 @@ impl Notes {
 
 impl Book {
     /// What a call comes to.
-    fn reply(&mut self, request: &Request, here: &mut Here<Served>) -> Result<Reply, AllocError> {
-        let (alloc, caps) = (here.alloc(), &request.caps);
+    fn reply(&mut self, request: &Request, context: &mut Context<Served>) -> Result<Reply, AllocError> {
+        let (alloc, caps) = (context.alloc(), &request.caps);
         let word = word_in(&request.content, 0);
         match request.method {
-            OPEN => named(alloc, here.make(new_page(word))?, caps),
-            WATCH => self.watch(caps, here),
-            JOIN => join(caps, here),
+            OPEN => named(alloc, context.make(new_page(word))?, caps),
+            WATCH => self.watch(caps, context),
+            JOIN => join(caps, context),
             ADD => {
-                self.add(word, here)?;
+                self.add(word, context)?;
                 done(alloc, caps)
             }
             REMIND => {
-                self.reminder = Some((time_after(word, here)?, word));
+                self.reminder = Some((time_after(word, context)?, word));
                 done(alloc, caps)
             }
             LEAVE => {
-                self.leaves_at = Some(time_after(word, here)?);
+                self.leaves_at = Some(time_after(word, context)?);
                 done(alloc, caps)
             }
-            PROMISE => named(alloc, self.vow.make(word, here)?, caps),
-            RESOLVE => self.resolve(word, caps, here),
+            PROMISE => named(alloc, self.vow.make(word, context)?, caps),
+            RESOLVE => self.resolve(word, caps, context),
             BREAK => {
-                self.vow.keep(broken(alloc)?, here)?;
+                self.vow.keep(broken(alloc)?, context)?;
                 done(alloc, caps)
             }
             SAME => named(alloc, first_of(alloc, caps)?, caps),
             TELL => {
-                self.tell_four(word, here)?;
+                self.tell_four(word, context)?;
                 done(alloc, caps)
             }
             HEARD => counted(alloc, self.heard, caps),
@@ -330,101 +330,101 @@ impl Book {
         &mut self,
         number: u64,
         caps: &Caps,
-        here: &mut Here<Served>,
+        context: &mut Context<Served>,
     ) -> Result<Reply, AllocError> {
-        let value = match first_of(here.alloc(), caps)? {
-            Cap::None => here.make(new_page(number))?,
+        let value = match first_of(context.alloc(), caps)? {
+            Cap::None => context.make(new_page(number))?,
             other => other,
         };
-        self.vow.keep(value, here)?;
-        done(here.alloc(), caps)
+        self.vow.keep(value, context)?;
+        done(context.alloc(), caps)
     }
 
     /// Keeps a watcher, if one is named.
-    fn watch(&mut self, caps: &Caps, here: &mut Here<Served>) -> Result<Reply, AllocError> {
+    fn watch(&mut self, caps: &Caps, context: &mut Context<Served>) -> Result<Reply, AllocError> {
         if let Some(Cap::Import(import)) = caps.caps().first() {
             self.watcher = Some(*import);
         }
         if let Ok(mut notes) = self.notes.try_borrow_mut() {
-            let pushed = notes.wakers.push(here.waker());
+            let pushed = notes.wakers.push(context.waker());
             drop(notes);
             pushed?;
         }
-        let alloc = here.alloc();
+        let alloc = context.alloc();
         Ok(Reply::Now {
-            outcome: outcome_of(alloc, Ok(Content::new(alloc)))?,
+            outcome: outcome_of(alloc, Ok(PayloadBuilder::new(alloc)))?,
             gives_up: Ids::new(Vec::new(alloc)),
         })
     }
 
     /// Gives its watcher up, if it has one and it is time for that.
-    fn leave_in_time(&mut self, here: &mut Here<Served>) -> Result<(), AllocError> {
+    fn leave_in_time(&mut self, context: &mut Context<Served>) -> Result<(), AllocError> {
         let Some(at) = self.leaves_at else {
             return Ok(());
         };
-        if here.now() < at {
+        if context.now() < at {
             return Ok(());
         }
         self.leaves_at = None;
         match self.watcher.take() {
-            Some(import) => here.give_up(&Cap::Import(import)),
+            Some(import) => context.give_up(&Cap::Import(import)),
             None => Ok(()),
         }
     }
 
     /// Adds a note for all.
-    fn add(&mut self, word: u64, here: &mut Here<Served>) -> Result<(), AllocError> {
+    fn add(&mut self, word: u64, context: &mut Context<Served>) -> Result<(), AllocError> {
         let Ok(mut notes) = self.notes.try_borrow_mut() else {
             return Ok(());
         };
-        let added = notes.add(word, here);
+        let added = notes.add(word, context);
         drop(notes);
         added
     }
 
     /// A call that tells its watcher of a word. Where it has none, it is a call of an import that isn't there.
-    fn telling(&self, alloc: Global, word: u64) -> Result<Ask, AllocError> {
-        let Ok(content) = Content::new(alloc).word(word) else {
+    fn telling(&self, alloc: Global, word: u64) -> Result<OutgoingCall, AllocError> {
+        let Ok(content) = PayloadBuilder::new(alloc).word(word) else {
             return Err(AllocError);
         };
-        Ok(Ask {
+        Ok(OutgoingCall {
             cap: Cap::Import(self.watcher.unwrap_or(u32::MAX)),
             request: content.request(NOTES, ADD),
-            mark: word,
+            call_id: word,
         })
     }
 
     /// Tells its watcher of a word, if it has one.
-    fn tell(&self, word: u64, here: &mut Here<Served>) -> Result<(), AllocError> {
+    fn tell(&self, word: u64, context: &mut Context<Served>) -> Result<(), AllocError> {
         if self.watcher.is_none() {
             return Ok(());
         }
-        let ask = self.telling(here.alloc(), word)?;
-        here.tell(ask)
+        let next_call = self.telling(context.alloc(), word)?;
+        context.send(next_call)
     }
 
     /// Tells a watcher of a word and of the next one at once, and of two more when it is asked.
-    fn tell_four(&mut self, word: u64, here: &mut Here<Served>) -> Result<(), AllocError> {
-        let first = self.telling(here.alloc(), word)?;
-        here.tell(first)?;
-        let second = self.telling(here.alloc(), word.saturating_add(1))?;
-        here.tell(second)?;
+    fn tell_four(&mut self, word: u64, context: &mut Context<Served>) -> Result<(), AllocError> {
+        let first = self.telling(context.alloc(), word)?;
+        context.send(first)?;
+        let second = self.telling(context.alloc(), word.saturating_add(1))?;
+        context.send(second)?;
         self.next = Some(word.saturating_add(2));
         Ok(())
     }
 
     /// Tells its watcher of the notes that it wasn't told of.
-    fn tell_all(&mut self, here: &mut Here<Served>) -> Result<(), AllocError> {
-        let words = self.words_to_tell(here.alloc())?;
-        let told = self.tell_each(&words, here);
+    fn tell_all(&mut self, context: &mut Context<Served>) -> Result<(), AllocError> {
+        let words = self.words_to_tell(context.alloc())?;
+        let told = self.tell_each(&words, context);
         drop(words);
         told
     }
 
-    fn tell_each(&mut self, words: &[u64], here: &mut Here<Served>) -> Result<(), AllocError> {
+    fn tell_each(&mut self, words: &[u64], context: &mut Context<Served>) -> Result<(), AllocError> {
         for word in words {
             self.told = self.told.saturating_add(1);
-            self.tell(*word, here)?;
+            self.tell(*word, context)?;
         }
         Ok(())
     }
@@ -442,47 +442,47 @@ impl Book {
     }
 }
 
-impl Maker for Book {
+impl ServedObject for Book {
     type Makes = Served;
 
     fn call(
         &mut self,
         _ticket: u64,
         request: Request,
-        here: &mut Here<Served>,
+        context: &mut Context<Served>,
     ) -> Result<Reply, AllocError> {
-        let reply = self.reply(&request, here);
+        let reply = self.reply(&request, context);
         drop(request);
         reply
     }
 
-    fn poll(&mut self, here: &mut Here<Served>) -> Result<Option<Settled>, AllocError> {
-        self.tell_all(here)?;
-        self.vow.keep_in_time(here)?;
+    fn poll(&mut self, context: &mut Context<Served>) -> Result<Option<Settled>, AllocError> {
+        self.tell_all(context)?;
+        self.vow.keep_in_time(context)?;
         if let Some((at, word)) = self.reminder {
-            if at <= here.now() {
+            if at <= context.now() {
                 self.reminder = None;
-                self.tell(word, here)?;
+                self.tell(word, context)?;
             }
         }
-        self.leave_in_time(here)?;
+        self.leave_in_time(context)?;
         Ok(None)
     }
 
-    fn ask(&mut self, here: &mut Here<Served>) -> Result<Option<Ask>, AllocError> {
+    fn next_call(&mut self, context: &mut Context<Served>) -> Result<Option<OutgoingCall>, AllocError> {
         let Some(word) = self.next.take() else {
             return Ok(None);
         };
-        let last = self.telling(here.alloc(), word.saturating_add(1))?;
-        here.tell(last)?;
-        Ok(Some(self.telling(here.alloc(), word)?))
+        let last = self.telling(context.alloc(), word.saturating_add(1))?;
+        context.send(last)?;
+        Ok(Some(self.telling(context.alloc(), word)?))
     }
 
-    fn told(
+    fn on_response(
         &mut self,
         _mark: u64,
         outcome: Outcome,
-        _here: &mut Here<Served>,
+        _context: &mut Context<Served>,
     ) -> Result<(), AllocError> {
         self.heard = self.heard.saturating_add(1);
         drop(outcome);
@@ -492,27 +492,27 @@ impl Maker for Book {
 
 impl Page {
     /// What a call comes to.
-    fn reply(&mut self, request: &Request, here: &mut Here<Served>) -> Result<Reply, AllocError> {
-        let (alloc, caps) = (here.alloc(), &request.caps);
+    fn reply(&mut self, request: &Request, context: &mut Context<Served>) -> Result<Reply, AllocError> {
+        let (alloc, caps) = (context.alloc(), &request.caps);
         let word = word_in(&request.content, 0);
         match request.method {
             READ => counted(alloc, self.number, caps),
             KEEP => {
-                self.give_up(here)?;
-                self.keep(word, here)?;
+                self.give_up(context)?;
+                self.keep(word, context)?;
                 done(alloc, caps)
             }
             KEPT => named(alloc, self.kept(alloc)?, caps),
             GIVE_UP => {
-                self.give_up(here)?;
+                self.give_up(context)?;
                 done(alloc, caps)
             }
             NAME => {
-                let cap = here.make(new_page(word))?;
+                let cap = context.make(new_page(word))?;
                 drop(mem::replace(&mut self.kept, Some(cap)));
                 done(alloc, caps)
             }
-            VOW => named(alloc, self.vow.make(word, here)?, caps),
+            VOW => named(alloc, self.vow.make(word, context)?, caps),
             COUNT => {
                 let reply = counted(alloc, self.counted, caps);
                 self.counted = self.counted.saturating_add(1);
@@ -523,19 +523,19 @@ impl Page {
     }
 
     /// Keeps its page no more.
-    fn give_up(&mut self, here: &mut Here<Served>) -> Result<(), AllocError> {
+    fn give_up(&mut self, context: &mut Context<Served>) -> Result<(), AllocError> {
         let Some(kept) = self.kept.take() else {
             return Ok(());
         };
-        let given_up = here.give_up(&kept);
+        let given_up = context.give_up(&kept);
         drop(kept);
         given_up
     }
 
     /// Makes a page that it keeps.
-    fn keep(&mut self, number: u64, here: &mut Here<Served>) -> Result<(), AllocError> {
-        let cap = here.make(new_page(number))?;
-        match here.keep(&cap) {
+    fn keep(&mut self, number: u64, context: &mut Context<Served>) -> Result<(), AllocError> {
+        let cap = context.make(new_page(number))?;
+        match context.keep(&cap) {
             Ok(()) => {
                 drop(mem::replace(&mut self.kept, Some(cap)));
                 Ok(())
@@ -556,34 +556,34 @@ impl Page {
     }
 }
 
-impl Maker for Page {
+impl ServedObject for Page {
     type Makes = Served;
 
     fn call(
         &mut self,
         _ticket: u64,
         request: Request,
-        here: &mut Here<Served>,
+        context: &mut Context<Served>,
     ) -> Result<Reply, AllocError> {
-        let reply = self.reply(&request, here);
+        let reply = self.reply(&request, context);
         drop(request);
         reply
     }
 
-    fn poll(&mut self, here: &mut Here<Served>) -> Result<Option<Settled>, AllocError> {
-        self.vow.keep_in_time(here)?;
+    fn poll(&mut self, context: &mut Context<Served>) -> Result<Option<Settled>, AllocError> {
+        self.vow.keep_in_time(context)?;
         Ok(None)
     }
 
-    fn ask(&mut self, _here: &mut Here<Served>) -> Result<Option<Ask>, AllocError> {
+    fn next_call(&mut self, _context: &mut Context<Served>) -> Result<Option<OutgoingCall>, AllocError> {
         Ok(None)
     }
 
-    fn told(
+    fn on_response(
         &mut self,
         _mark: u64,
         outcome: Outcome,
-        _here: &mut Here<Served>,
+        _context: &mut Context<Served>,
     ) -> Result<(), AllocError> {
         drop(outcome);
         Ok(())

@@ -2,9 +2,9 @@
 
 use crate::services::ends::{Ends, Got, Seen, Step, With};
 use crate::services::notebook::{Served, Shared, new_book, new_notes};
-use cp_makers::Family;
+use cp_objects::Objects;
 use cp_refs::Request;
-use cp_servants::{Content, Reply, Servant, Settled, named_imports, outcome_of, word_in};
+use cp_servants::{PayloadBuilder, Reply, Servant, Settled, named_imports, outcome_of, word_in};
 use std::alloc::{AllocError, Global};
 use std::process::Abort;
 use std::rc::Rc;
@@ -20,7 +20,7 @@ impl Servant for Watcher {
     fn call(&mut self, _ticket: u64, request: Request) -> Result<Reply, AllocError> {
         self.words.push(word_in(&request.content, 0))?;
         Ok(Reply::Now {
-            outcome: outcome_of(self.alloc, Ok(Content::new(self.alloc)))?,
+            outcome: outcome_of(self.alloc, Ok(PayloadBuilder::new(self.alloc)))?,
             gives_up: named_imports(self.alloc, &request.caps)?,
         })
     }
@@ -35,7 +35,7 @@ pub(crate) const WATCHER: With = With::Object(0);
 
 /// A client that has a watcher, and a server of a notebook.
 pub(crate) struct Pair {
-    ends: Ends<Vec<Watcher>, Family<Served>>,
+    ends: Ends<Vec<Watcher>, Objects<Served>>,
     notes: Shared,
     /// The client's capability of the notebook.
     pub(crate) book: u32,
@@ -68,7 +68,7 @@ impl Pair {
     fn of(rt: &impl Abort, alloc: Global, session: u64, notes: Shared) -> Pair {
         let words = Vec::new(alloc);
         let watchers = Vec::from_array(alloc, [Watcher { alloc, words }]).expect(rt, "memory");
-        let mut family = Family::new(alloc);
+        let mut family = Objects::new(alloc);
         let root = new_book(&notes).expect(rt, "a book");
         drop(family.add(root).expect(rt, "a first object"));
         let mut pair = Pair {
@@ -119,7 +119,7 @@ impl Pair {
 
     /// How many objects the server has.
     pub(crate) fn objects(&self) -> usize {
-        self.ends.server.hall().len()
+        self.ends.server.object_table().len()
     }
 
     /// The words that the client's watcher was told of.

@@ -4,9 +4,9 @@ use crate::frames::{BOOTSTRAP, CALL_BOOTSTRAP, bytes_of};
 use crate::services::notebook::done;
 use cp_client::Client;
 use cp_frame::Mode;
-use cp_makers::{Family, Hall, Here, Maker, Waker};
+use cp_objects::{Objects, ObjectTable, Context, ServedObject, Waker};
 use cp_refs::{Caps, Outcome, Request};
-use cp_servants::{Ask, Reply, Settled};
+use cp_servants::{OutgoingCall, Reply, Settled};
 use cp_words::Limits;
 use std::alloc::{AllocError, Global};
 use std::cell::RefCell;
@@ -24,45 +24,45 @@ struct Bell {
 }
 
 /// Both are woken.
-fn rung(here: &mut Here<Bell>, caps: &Caps) -> Result<Reply, AllocError> {
+fn rung(context: &mut Context<Bell>, caps: &Caps) -> Result<Reply, AllocError> {
     for session in [7, 8] {
-        here.wake(Waker { session, object: 1 })?;
+        context.wake(Waker { session, object: 1 })?;
     }
-    done(here.alloc(), caps)
+    done(context.alloc(), caps)
 }
 
-impl Maker for Bell {
+impl ServedObject for Bell {
     type Makes = Bell;
 
     fn call(
         &mut self,
         _ticket: u64,
         request: Request,
-        here: &mut Here<Bell>,
+        context: &mut Context<Bell>,
     ) -> Result<Reply, AllocError> {
-        let reply = rung(here, &request.caps);
+        let reply = rung(context, &request.caps);
         drop(request);
         reply
     }
 
-    fn poll(&mut self, here: &mut Here<Bell>) -> Result<Option<Settled>, AllocError> {
+    fn poll(&mut self, context: &mut Context<Bell>) -> Result<Option<Settled>, AllocError> {
         if let Ok(mut polled) = self.polled.try_borrow_mut() {
-            let pushed = polled.push(here.waker().object);
+            let pushed = polled.push(context.waker().object);
             drop(polled);
             pushed?;
         }
         Ok(None)
     }
 
-    fn ask(&mut self, _here: &mut Here<Bell>) -> Result<Option<Ask>, AllocError> {
+    fn next_call(&mut self, _context: &mut Context<Bell>) -> Result<Option<OutgoingCall>, AllocError> {
         Ok(None)
     }
 
-    fn told(
+    fn on_response(
         &mut self,
         _mark: u64,
         outcome: Outcome,
-        _here: &mut Here<Bell>,
+        _context: &mut Context<Bell>,
     ) -> Result<(), AllocError> {
         drop(outcome);
         Ok(())
@@ -70,8 +70,8 @@ impl Maker for Bell {
 }
 
 /// The two bells of session 7.
-fn bells(rt: &impl Abort, alloc: Global, polled: &Polled) -> Family<Bell> {
-    let mut family = Family::new(alloc);
+fn bells(rt: &impl Abort, alloc: Global, polled: &Polled) -> Objects<Bell> {
+    let mut family = Objects::new(alloc);
     family.set_session(7);
     for _ in 0..2 {
         let polled = Rc::clone(polled).expect(rt, "memory");
@@ -115,14 +115,14 @@ const UNCALLED: Trial<'static> = Trial {
 };
 
 /// A client does what a trial says. If the peer called, the object of another session is handed on.
-fn expect_trial<R: Read + Drop, W: Write + Drop, H: Hall>(
+fn expect_trial<R: Read + Drop, W: Write + Drop, H: ObjectTable>(
     rt: &impl Abort,
     client: &mut Client<R, W, H>,
     polled: &Polled,
     trial: Trial<'_>,
 ) {
     check!(rt; client.serve().is_ok());
-    check!(rt; client.tally().sent == trial.sent);
+    check!(rt; client.stats().sent == trial.sent);
     expect_polled(rt, polled, trial.served);
     if trial.sent > 0 {
         let waker = client.next_wake().expect(rt, "a wake");
@@ -144,7 +144,7 @@ fn objects_of_a_client_are_woken(rt: HostRuntime) {
         let bytes = bytes_of(&rt, alloc, trial.frames);
         let (to, limits) = (Vec::new(alloc), Limits::standard());
         let from = bytes.as_slice();
-        let mut client = Client::with_family(alloc, from, to, Mode::Plain, limits, family);
+        let mut client = Client::with_objects(alloc, from, to, Mode::Plain, limits, family);
         expect_trial(&rt, &mut client, &polled, trial);
         drop(client);
         drop(bytes);

@@ -1,7 +1,7 @@
 //! How much memory contents are counted for.
 
 use crate::frames::{ADD_FIVE, BOOTSTRAP, LATER, bytes_of};
-use cp_connection::{Connection, Happening};
+use cp_connection::{Connection, ConnectionEvent};
 use cp_frame::Mode;
 use cp_refs::{Cap, Caps, Origin, Outcome};
 use cp_tree::{Body, Tree, Whole};
@@ -40,16 +40,16 @@ fn what_waits_and_what_is_kept_is_counted(rt: HostRuntime) {
     let frame = bytes_of(&rt, alloc, &[ADD_FIVE]);
     expect_contents(&rt, &mut connection, &frame, 298);
     let first = connection.next();
-    check!(&rt; matches!(first, Some(Happening::Delivered { object: 0, .. })));
+    check!(&rt; matches!(first, Some(ConnectionEvent::Delivered { object: 0, .. })));
     drop(first);
-    check!(&rt; connection.happened_memory() == 0);
+    check!(&rt; connection.event_memory() == 0);
     let answered = connection.answer(Origin::Answer(1), object_results(&rt, alloc));
     check!(&rt; answered.is_ok());
     // The answer is kept, a pointer and a capability, and the call waits no more.
-    check!(&rt; connection.held().contents == 288 && connection.happened_memory() == 8);
+    check!(&rt; connection.held().contents == 288 && connection.event_memory() == 8);
     let next = connection.next();
-    check!(&rt; matches!(next, Some(Happening::Delivered { object: 1, .. })));
+    check!(&rt; matches!(next, Some(ConnectionEvent::Delivered { object: 1, .. })));
     drop(next);
-    check!(&rt; connection.happened_memory() == 0);
+    check!(&rt; connection.event_memory() == 0);
     drop(connection);
 }

@@ -9,13 +9,13 @@ use Rattle.cp_reading.proofs.view.far_body.Goals as goal
 led : (c : goal.In-Ok-area_of) → pointer_read (words_of c.args.segments.now) c.args.at c.args.pointer ≡ body_by c.args.at (kids_at most_nesting (words_of c.args.segments.now)) (words_of c.args.segments.now) most_traversal c.in-Ok-area_of.area
 led c = rw (← c.in-Ok.ensures.target, ← c.in-Ok-area_of.ensures.area) refl
 
-again : (c : goal.In-Ok-area_of) → (x : Node × ℕ) × (pointer_read (words_of c.args.segments.now) c.args.at c.args.pointer ≡ Ok x) × (budget : ℕ) × (area_read (words_of c.args.segments.now) c.in-Ok-area_of.area ≡ Ok (x.0, budget))
-again c =
+reborrow : (c : goal.In-Ok-area_of) → (x : Node × ℕ) × (pointer_read (words_of c.args.segments.now) c.args.at c.args.pointer ≡ Ok x) × (budget : ℕ) × (area_read (words_of c.args.segments.now) c.in-Ok-area_of.area ≡ Ok (x.0, budget))
+reborrow c =
     let k = ok_of _ c.requires.checked in
     (k.0, k.1, _, body_again (words_of c.args.segments.now) c.args.at most_nesting most_traversal c.in-Ok-area_of.area k.0 (omega arith) (omega arith) c.in-Ok-area_of.ensures.within (sym (led c) ∙ k.1))
 
 pub returns-in-Ok-area_of-clause-node : goal.returns-in-Ok-area_of-clause-node
-returns-in-Ok-area_of-clause-node c = let a = again c in ap node_in a.3 ∙ sym (ap node_in a.1)
+returns-in-Ok-area_of-clause-node c = let a = reborrow c in ap node_in a.3 ∙ sym (ap node_in a.1)
 
 pub returns-in-Ok-area_of-clause-part : goal.returns-in-Ok-area_of-clause-part
-returns-in-Ok-area_of-clause-part c = (c.in-Ok-area_of.ensures.within, c.in-Ok-area_of.ensures.small, ok_is_ok _ _ (again c).3)
+returns-in-Ok-area_of-clause-part c = (c.in-Ok-area_of.ensures.within, c.in-Ok-area_of.ensures.small, ok_is_ok _ _ (reborrow c).3)

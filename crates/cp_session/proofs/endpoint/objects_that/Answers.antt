@@ -1,5 +1,5 @@
 use Rattle.std.proofs.Common.{Bool, sym, ap, ◌∙◌}
-use Rattle.cp_objects.specs.Work.{begun}
+use Rattle.cp_dispatch.specs.Work.{begun}
 use Rattle.cp_session.proofs.endpoint.objects_that.Goals as goal
 
 pub returns-then-may_call : goal.returns-then-may_call

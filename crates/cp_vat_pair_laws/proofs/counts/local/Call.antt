@@ -14,7 +14,7 @@ use Rattle.cp_refs.specs.declared.values.QuestionKind.TheVariants as kinds
 use Rattle.cp_vat_machine.specs.State.{State}
 use Rattle.cp_vat_machine.specs.Then.{Done}
 use Rattle.cp_vat_machine.specs.Capacity.{Fresh}
-use Rattle.cp_vat_machine.specs.Go.{Underway}
+use Rattle.cp_vat_machine.specs.Go.{PendingCall}
 use Rattle.cp_vat_machine.specs.Calling.{Standing, plain, on_wire, came_to, reference_of, called, own_call, mark_of, with_mark, marked, FirstEmbargoed, GoBack, GoByValue, GoFrom, OwnDone, call_refusals, DoCall}
 use Rattle.cp_vat_machine.specs.declared.event.Event.TheVariants as events
 use Rattle.cp_vat_machine.specs.declared.fault.VatFault.{VatFault}
@@ -43,7 +43,7 @@ back_in questions before p same back = rw (same) back
 marked_same : (s mid : State) (cap : Cap) (o : Option (Option ℕ)) → Ok mid ≡ marked s cap o → mid.entries.questions ≡ s.entries.questions
 marked_same s mid cap o is = ap (λ s. s.entries.questions) (marked_is s mid cap o is)
 
-first_match : (from : State) (call : Underway) (cap value : Cap) (done : Done) → FirstEmbargoed from call cap value (Ok done)
+first_match : (from : State) (call : PendingCall) (cap value : Cap) (done : Done) → FirstEmbargoed from call cap value (Ok done)
     → MatchAfter from.entries.questions done.0 done.1.entries.questions
 first_match from call cap value done does =
     let parts = then_out {A = ℕ} {B = Done} (Fresh from.marks.embargoes) _ done does in
@@ -51,7 +51,7 @@ first_match from call cap value done does =
     let same : (with_mark there cap (Some parts.0)).entries.questions ≡ from.entries.questions = ap (λ s. s.entries.questions) (with_mark_is there cap (Some parts.0)) in
     rw (ok_in _ _ parts.2, same) (λ q question is. is)
 
-back_match : (from : State) (call : Underway) (cap value : Cap) (o : Option (Option ℕ)) (done : Done) → IsBack from.entries.questions call.origin → GoBack from call cap value o (Ok done)
+back_match : (from : State) (call : PendingCall) (cap value : Cap) (o : Option (Option ℕ)) (done : Done) → IsBack from.entries.questions call.origin → GoBack from call cap value o (Ok done)
     → MatchAfter from.entries.questions done.0 done.1.entries.questions
 back_match from call cap value None done back does = goto_match from call value done back does
 back_match from call cap value (Some None) done back does = first_match from call cap value done does

@@ -24,7 +24,7 @@ use Rattle.cp_vat_machine.specs.State.{State, with_exports}
 use Rattle.cp_vat_machine.specs.Then.{Done}
 use Rattle.cp_vat_machine.specs.Capacity.{Fresh}
 use Rattle.cp_vat_machine.specs.Writing.{WritesDescriptors, promised, mentions_of}
-use Rattle.cp_vat_machine.specs.Go.{Underway, delivered, call_of, forwarding, sent, finish_after, GoOut, Go, GoTo, IsNext, Leave, stays, leaves, finds_table_full, without_call, underway}
+use Rattle.cp_vat_machine.specs.Go.{PendingCall, delivered, call_of, forwarding, sent, finish_after, GoOut, Go, GoTo, IsNext, Leave, stays, leaves, finds_table_full, without_call, underway}
 use Rattle.cp_vat_machine.specs.declared.effect.Effect.{Effect}
 use Rattle.cp_vat_machine.specs.declared.effect.Effect.TheVariants as effects
 use Rattle.cp_vat_machine.specs.declared.entry.QuestionEntry.{QuestionEntry}
@@ -82,7 +82,7 @@ own_out old mid X p target request ds entry only there =
     (λ q question t. sent_elsewhere entry.stage p q target request ds question t)
     (record entry { kept = record entry.kept { is_sent = true; mentions = mentions_of ds } }) (λ question is. sent_here entry.stage p target request ds question))
 
-peer_out : (old mid : State) (X : Table (Counted Cap)) (p a : ℕ) (target : Target) (call : Underway) (ds : List Descriptor) → mid ≡ with_exports old X
+peer_out : (old mid : State) (X : Table (Counted Cap)) (p a : ℕ) (target : Target) (call : PendingCall) (ds : List Descriptor) → mid ≡ with_exports old X
     → MatchAfter old.entries.questions (call_of p target call.request ds ∷ []) (insert mid.entries.questions p (new_exchange (forwarding a call ds)))
 peer_out old mid X p a target call ds only =
     rw
@@ -90,7 +90,7 @@ peer_out old mid X p a target call ds only =
     (match_put old.entries.questions p (λ q question. after_effects q (call_of p target call.request ds ∷ []) question) (λ q question t. rw (t) refl)
     (new_exchange (forwarding a call ds)) (λ question is. rw (is_itself p) (inl refl)))
 
-out_match : (old : State) (call : Underway) (target : Target) (origin : Origin) (done : Done) → GoOut old call target origin (Ok done)
+out_match : (old : State) (call : PendingCall) (target : Target) (origin : Origin) (done : Done) → GoOut old call target origin (Ok done)
     → MatchAfter old.entries.questions done.0 done.1.entries.questions
 out_match old call target (origins.Answer a) done goes =
     let first = then_out {A = ℕ} {B = Done} (Fresh old.entries.questions) _ done goes in
@@ -103,7 +103,7 @@ out_match old call target (origins.Own q) done goes =
     rw (ok_in _ _ parts.2) (own_out old parts.0.1 parts.0.1.counts.exports q target call.request parts.0.0 goes.0 said.only goes.1)
 
 -- by each route
-pub go_match : (old : State) (call : Underway) (route : Route) (done : Done) → IsBack old.entries.questions call.origin → Go old call route (Ok done)
+pub go_match : (old : State) (call : PendingCall) (route : Route) (done : Done) → IsBack old.entries.questions call.origin → Go old call route (Ok done)
     → MatchAfter old.entries.questions done.0 done.1.entries.questions
 go_match old call (routes.Deliver k) done back goes = rw (ok_in _ _ goes) (deliver_match old call.origin k call.ticket call.request back)
 go_match old call (routes.Import i) done back goes = out_match old call (targets.ImportedCap i) call.origin done goes
@@ -111,7 +111,7 @@ go_match old call (routes.Pipe q path) done back goes = out_match old call (targ
 go_match old call (routes.Wait gate) done back goes = rw (ok_in _ _ goes) (λ q question is. is)
 go_match old call (routes.Fail x) done back goes = give_match old call.origin (outcomes.Failed x) done back goes
 
-pub goto_match : (old : State) (call : Underway) (cap : Cap) (done : Done) → IsBack old.entries.questions call.origin → GoTo old call cap (Ok done)
+pub goto_match : (old : State) (call : PendingCall) (cap : Cap) (done : Done) → IsBack old.entries.questions call.origin → GoTo old call cap (Ok done)
     → MatchAfter old.entries.questions done.0 done.1.entries.questions
 goto_match old call cap done back goes = go_match old call goes.0 done back goes.2
 

@@ -9,8 +9,8 @@ use Rattle.cp_tables.specs.declared.exchange.Exchange.{Exchange}
 use Rattle.cp_tables.specs.declared.exchange.Stage.{Stage}
 use Rattle.cp_tables.specs.declared.exchange.Stage.TheVariants as stages
 use Rattle.cp_messages.specs.declared.call.Call.{Call}
-use Rattle.cp_messages.specs.declared.disembargo.Context.{Context}
-use Rattle.cp_messages.specs.declared.disembargo.Context.TheVariants as contexts
+use Rattle.cp_messages.specs.declared.disembargo.DisembargoContext.{DisembargoContext}
+use Rattle.cp_messages.specs.declared.disembargo.DisembargoContext.TheVariants as contexts
 use Rattle.cp_messages.specs.declared.message.Message.{Message}
 use Rattle.cp_messages.specs.declared.message.Message.TheVariants as messages
 use Rattle.cp_messages.specs.declared.resolve.Resolution.{Resolution}
@@ -34,7 +34,7 @@ use Rattle.cp_vat_machine.specs.Then.{Done, Unless, fault_if}
 use Rattle.cp_vat_machine.specs.Capacity.{has_capacity}
 use Rattle.cp_vat_machine.specs.Receiving.{answer_of, path_of, ReceivesCaps, release_exports, released}
 use Rattle.cp_vat_machine.specs.Give.{GiveAnswer, GiveOwnBy, without_question}
-use Rattle.cp_vat_machine.specs.Go.{Underway}
+use Rattle.cp_vat_machine.specs.Go.{PendingCall}
 use Rattle.cp_vat_machine.specs.Answering.{with_answer, bootstrap_outcome, is_answering, OnBootstrap, target_faults, GoToExport, GoToAnswer, GoToTarget, peer_call, entered, call_faults, OnCall, AtStage, FinishedBy}
 use Rattle.cp_vat_machine.specs.Asking.{ReceivesReturned, Settles, ReturnBy, is_asked, ReturnOf}
 use Rattle.cp_vat_machine.specs.Resolving.{given_back, releases_of, is_open_promise, TakeResolution, ResolveOf, OnRelease, echo_to, EchoesExport, EchoesAnswer, EchoesTarget, ended_by, OnDisembargo, told, UnknownToPeer}
@@ -55,17 +55,17 @@ abbrev pub Told : State → Done → Type 0
 Told old done = MatchAfter old.entries.questions done.0 done.1.entries.questions
 
 -- a call of the peer's goes to its target
-export_match : (s : State) (call : Underway) (o : Option (Counted Cap)) (done : Done) → IsBack s.entries.questions call.origin → GoToExport s call o (Ok done) → Told s done
+export_match : (s : State) (call : PendingCall) (o : Option (Counted Cap)) (done : Done) → IsBack s.entries.questions call.origin → GoToExport s call o (Ok done) → Told s done
 export_match s call None done back goes = absurd goes
 export_match s call (Some entry) done back goes = goto_match s call entry.kept done back goes
 
-path_match : (s : State) (call : Underway) (a : ℕ) (path : List ℕ) (o : Option (Option Outcome)) (done : Done) → IsBack s.entries.questions call.origin
+path_match : (s : State) (call : PendingCall) (a : ℕ) (path : List ℕ) (o : Option (Option Outcome)) (done : Done) → IsBack s.entries.questions call.origin
     → GoToAnswer s call a path o (Ok done) → Told s done
 path_match s call a path None done back goes = absurd goes
 path_match s call a path (Some None) done back goes = go_match s call (routes.Wait (gates.Answer a path)) done back goes
 path_match s call a path (Some (Some outcome)) done back goes = goto_match s call (cap_at outcome path) done back goes
 
-target_match : (s : State) (call : Underway) (target : Target) (done : Done) → IsBack s.entries.questions call.origin → GoToTarget s call target (Ok done) → Told s done
+target_match : (s : State) (call : PendingCall) (target : Target) (done : Done) → IsBack s.entries.questions call.origin → GoToTarget s call target (Ok done) → Told s done
 target_match s call (targets.ImportedCap e) done back goes = export_match s call (get s.counts.exports e) done back goes
 target_match s call (targets.PromisedAnswer answer) done back goes =
     path_match s call answer.question_id (path_of answer.transform) (answer_of s answer.question_id) done back goes
@@ -146,7 +146,7 @@ ends_match : (old : State) (n : ℕ) (o : Option Cap) (done : Done) → Ok done 
 ends_match old n None done is = ok_out is
 ends_match old n (Some cap) done is = rw (ok_in _ _ is) (λ q question is. is)
 
-disembargo_comes : (old : State) (context : Context) (target : Target) (done : Done) → OnDisembargo old context target (Ok done) → Told old done
+disembargo_comes : (old : State) (context : DisembargoContext) (target : Target) (done : Done) → OnDisembargo old context target (Ok done) → Told old done
 disembargo_comes old (contexts.SenderLoopback n) target done does =
     echoes_match old n target done (unless_out {A = Done} {F = PeerFault} (target_faults old target) _ done does)
 disembargo_comes old (contexts.ReceiverLoopback n) target done does = ends_match old n (get old.marks.embargoes n) done does

@@ -7,7 +7,7 @@ use Rattle.cp_tables.specs.Exchange.{new_exchange}
 use Rattle.cp_tables.specs.declared.exchange.Exchange.{Exchange}
 use Rattle.cp_tables.proofs.TableLemmas.{get-insert_same}
 use Rattle.cp_messages.specs.declared.message.Message.TheVariants as messages
-use Rattle.cp_messages.specs.declared.disembargo.Context.TheVariants as contexts
+use Rattle.cp_messages.specs.declared.disembargo.DisembargoContext.TheVariants as contexts
 use Rattle.cp_refs.specs.declared.cap.Cap.{Cap}
 use Rattle.cp_refs.specs.declared.cap.Cap.TheVariants as caps
 use Rattle.cp_refs.specs.declared.call.Origin.TheVariants as origins
@@ -21,7 +21,7 @@ use Rattle.cp_vat_machine.specs.State.{State, Marks}
 use Rattle.cp_vat_machine.specs.Then.{Done}
 use Rattle.cp_vat_machine.specs.Capacity.{Fresh}
 use Rattle.cp_vat_machine.specs.Supported.{is_supported_target}
-use Rattle.cp_vat_machine.specs.Go.{Underway, held_at, GoTo}
+use Rattle.cp_vat_machine.specs.Go.{PendingCall, held_at, GoTo}
 use Rattle.cp_vat_machine.specs.Calling.{Standing, plain, on_wire, came_to, reference_of, asked, called, own_call, mark_of, with_mark, has_mark_capacity, marked, old_target, disembargo_of, FirstEmbargoed, GoBack, GoByValue, GoFrom, OwnDone, call_refusals, DoCall}
 use Rattle.cp_vat_machine.specs.declared.entry.QuestionEntry.{QuestionEntry}
 use Rattle.cp_vat_machine.specs.declared.fault.PeerFault.TheVariants as faults
@@ -123,7 +123,7 @@ target_known (caps.Object k) = refl
 target_known (caps.Promise p) = refl
 target_known (caps.Broken x) = refl
 
-embargoed_goes : (old from mid : State) (q n : ℕ) (M : Marks) (cap : Cap) (call : Underway) (gate : Gate) → mid ≡ record from { marks = M } → MayStart old q from → call.origin ≡ origins.Own q
+embargoed_goes : (old from mid : State) (q n : ℕ) (M : Marks) (cap : Cap) (call : PendingCall) (gate : Gate) → mid ≡ record from { marks = M } → MayStart old q from → call.origin ≡ origins.Own q
     → Goes from (disembargo_of n cap ∷ []) (held_at mid call gate)
 embargoed_goes old from mid q n M cap call gate is start own =
     rw
@@ -147,7 +147,7 @@ embargoed_goes old from mid q n M cap call gate is start own =
       },
     )
 
-first_embargoed : (old from : State) (q : ℕ) (call : Underway) (cap value : Cap) (done : Done) → MayStart old q from → call.origin ≡ origins.Own q
+first_embargoed : (old from : State) (q : ℕ) (call : PendingCall) (cap value : Cap) (done : Done) → MayStart old q from → call.origin ≡ origins.Own q
     → FirstEmbargoed from call cap value (Ok done) → Goes from done.0 done.1
 first_embargoed old from q call cap value done start own does =
     let parts = then_out {A = ℕ} {B = Done} (Fresh from.marks.embargoes) _ done does in
@@ -155,7 +155,7 @@ first_embargoed old from q call cap value done start own does =
     let mid : State = with_mark there cap (Some parts.0) in
     rw (ok_in _ _ parts.2) (embargoed_goes old from mid q parts.0 mid.marks cap call (gates.Embargo parts.0) (with_mark_is there cap (Some parts.0)) start own)
 
-back_goes : (old from : State) (q : ℕ) (call : Underway) (cap value : Cap) (o : Option (Option ℕ)) (done : Done) → MayStart old q from → call.origin ≡ origins.Own q
+back_goes : (old from : State) (q : ℕ) (call : PendingCall) (cap value : Cap) (o : Option (Option ℕ)) (done : Done) → MayStart old q from → call.origin ≡ origins.Own q
     → GoBack from call cap value o (Ok done) → Goes from done.0 done.1
 back_goes old from q call cap value None done start own does = goto_goes from call value done start.orderly (rw (own) start.may) does
 back_goes old from q call cap value (Some None) done start own does = first_embargoed old from q call cap value done start own does

@@ -11,8 +11,8 @@ use Rattle.cp_tables.specs.declared.exchange.Exchange.{Exchange}
 use Rattle.cp_tables.specs.declared.exchange.Stage.{Stage}
 use Rattle.cp_tables.specs.declared.exchange.Stage.TheVariants as stages
 use Rattle.cp_messages.specs.declared.call.Call.{Call}
-use Rattle.cp_messages.specs.declared.disembargo.Context.{Context}
-use Rattle.cp_messages.specs.declared.disembargo.Context.TheVariants as contexts
+use Rattle.cp_messages.specs.declared.disembargo.DisembargoContext.{DisembargoContext}
+use Rattle.cp_messages.specs.declared.disembargo.DisembargoContext.TheVariants as contexts
 use Rattle.cp_messages.specs.declared.disembargo.Disembargo.{Disembargo}
 use Rattle.cp_messages.specs.declared.message.Message.TheVariants as messages
 use Rattle.cp_messages.specs.declared.small.Finish.{Finish}
@@ -31,7 +31,7 @@ use Rattle.cp_vat_machine.specs.Capacity.{has_capacity}
 use Rattle.cp_vat_machine.specs.InUse.{caps_of}
 use Rattle.cp_vat_machine.specs.Receiving.{answer_of, path_of, times, ReceivesCaps, less_by, lowered_by, lowered, release_exports, released}
 use Rattle.cp_vat_machine.specs.Give.{GiveAnswer}
-use Rattle.cp_vat_machine.specs.Go.{Underway}
+use Rattle.cp_vat_machine.specs.Go.{PendingCall}
 use Rattle.cp_vat_machine.specs.Answering.{with_answer, bootstrap_outcome, is_answering, OnBootstrap, target_faults, GoToExport, GoToAnswer, GoToTarget, peer_call, entered, call_faults, OnCall, AtStage, FinishedBy, OnFinish}
 use Rattle.cp_vat_machine.specs.Resolving.{OnRelease, echo_to, EchoesExport, EchoesAnswer, EchoesTarget, ended_by, OnDisembargo}
 use Rattle.cp_vat_machine.specs.declared.entry.AnswerEntry.{AnswerEntry}
@@ -48,17 +48,17 @@ use Rattle.cp_vat_pair_laws.proofs.counts.rules.Go.{go_goes, goto_goes}
 use Rattle.cp_vat_pair_laws.proofs.counts.rules.Take.{TakenIn, take_all_in}
 
 -- a call goes to its target
-export_goes : (s : State) (call : Underway) (o : Option (Counted Cap)) (done : Done) → IsOrderly s → IsHeldAlone s call.origin → GoToExport s call o (Ok done) → Goes s done.0 done.1
+export_goes : (s : State) (call : PendingCall) (o : Option (Counted Cap)) (done : Done) → IsOrderly s → IsHeldAlone s call.origin → GoToExport s call o (Ok done) → Goes s done.0 done.1
 export_goes s call None done orderly may goes = absurd goes
 export_goes s call (Some entry) done orderly may goes = goto_goes s call entry.kept done orderly may goes
 
-asked_goes : (s : State) (call : Underway) (a : ℕ) (path : List ℕ) (o : Option (Option Outcome)) (done : Done) → IsOrderly s → IsHeldAlone s call.origin
+asked_goes : (s : State) (call : PendingCall) (a : ℕ) (path : List ℕ) (o : Option (Option Outcome)) (done : Done) → IsOrderly s → IsHeldAlone s call.origin
     → GoToAnswer s call a path o (Ok done) → Goes s done.0 done.1
 asked_goes s call a path None done orderly may goes = absurd goes
 asked_goes s call a path (Some None) done orderly may goes = go_goes s call (routes.Wait (gates.Answer a path)) done orderly may goes
 asked_goes s call a path (Some (Some outcome)) done orderly may goes = goto_goes s call (cap_at outcome path) done orderly may goes
 
-target_goes : (s : State) (call : Underway) (target : Target) (done : Done) → IsOrderly s → IsHeldAlone s call.origin → GoToTarget s call target (Ok done) → Goes s done.0 done.1
+target_goes : (s : State) (call : PendingCall) (target : Target) (done : Done) → IsOrderly s → IsHeldAlone s call.origin → GoToTarget s call target (Ok done) → Goes s done.0 done.1
 target_goes s call (targets.ImportedCap e) done orderly may goes = export_goes s call (get s.counts.exports e) done orderly may goes
 target_goes s call (targets.PromisedAnswer answer) done orderly may goes =
     asked_goes s call answer.question_id (path_of answer.transform) (answer_of s answer.question_id) done orderly may goes
@@ -260,7 +260,7 @@ ends old d n (Some cap) done orderly is =
       record { held = orderly.held; values = orderly.values; answers = orderly.answers; exports = orderly.exports },
     )
 
-pub disembargo_heeds : (old : State) (d : Disembargo) (context : Context) (done : Done) → IsOrderly old → OnDisembargo old context d.target (Ok done)
+pub disembargo_heeds : (old : State) (d : Disembargo) (context : DisembargoContext) (done : Done) → IsOrderly old → OnDisembargo old context d.target (Ok done)
     → Heeds old (messages.Disembargo d) done.0 done.1
 disembargo_heeds old d (contexts.SenderLoopback n) done orderly does =
     echoes old d n d.target done orderly (unless_out {A = Done} {F = PeerFault} (target_faults old d.target) _ done does)

@@ -22,7 +22,7 @@ use Rattle.cp_vat_machine.specs.Then.{Done}
 use Rattle.cp_vat_machine.specs.Capacity.{Fresh}
 use Rattle.cp_vat_machine.specs.Writing.{WritesDescriptors, promised, mentions_of}
 use Rattle.cp_vat_machine.specs.Supported.{is_supported_target}
-use Rattle.cp_vat_machine.specs.Go.{Underway, held_at, delivered, forwarding, sent, GoOut, Go, GoTo, IsNext, Leave, stays, leaves, finds_table_full, without_call, underway}
+use Rattle.cp_vat_machine.specs.Go.{PendingCall, held_at, delivered, forwarding, sent, GoOut, Go, GoTo, IsNext, Leave, stays, leaves, finds_table_full, without_call, underway}
 use Rattle.cp_vat_machine.specs.declared.effect.Effect.{Effect}
 use Rattle.cp_vat_machine.specs.declared.effect.Effect.TheVariants as effects
 use Rattle.cp_vat_machine.specs.declared.entry.AnswerEntry.{AnswerEntry}
@@ -135,7 +135,7 @@ own_orderly old mid X q entry ds only plain orderly is none undelivered =
 back_of : (o : Option (Exchange QuestionEntry)) (entry : Exchange QuestionEntry) → o ≡ Some entry → IsHeldBack o → IsUnsent entry × (entry.kept.is_delivered ≡ false)
 back_of o entry is back = rw is at back
 
-pub out_goes : (old : State) (call : Underway) (target : Target) (origin : Origin) (done : Done) → IsOrderly old → IsHeldAlone old origin → is_supported_target target ≡ true
+pub out_goes : (old : State) (call : PendingCall) (target : Target) (origin : Origin) (done : Done) → IsOrderly old → IsHeldAlone old origin → is_supported_target target ≡ true
     → GoOut old call target origin (Ok done) → Goes old done.0 done.1
 out_goes old call target (origins.Answer a) done orderly may to goes =
     let first = then_out {A = ℕ} {B = Done} (Fresh old.entries.questions) _ done goes in
@@ -161,7 +161,7 @@ out_goes old call target (origins.Own q) done orderly may to goes =
 pub may_wait : (old : State) (origin : Origin) (q : ℕ) → origin ≡ origins.Own q → IsHeldAlone old origin → IsHeldBack (get old.entries.questions q) × NoneWaits old.waiting.calls q
 may_wait old origin q is may = rw is at may
 
-pub go_goes : (old : State) (call : Underway) (route : Route) (done : Done) → IsOrderly old → IsHeldAlone old call.origin → Go old call route (Ok done) → Goes old done.0 done.1
+pub go_goes : (old : State) (call : PendingCall) (route : Route) (done : Done) → IsOrderly old → IsHeldAlone old call.origin → Go old call route (Ok done) → Goes old done.0 done.1
 go_goes old call (routes.Deliver k) done orderly may goes =
     rw (ok_in _ _ goes) (deliver_goes old call.origin (effects.Deliver k call.origin call.ticket call.request) refl orderly may)
 go_goes old call (routes.Import i) done orderly may goes = out_goes old call (targets.ImportedCap i) call.origin done orderly may refl goes
@@ -183,7 +183,7 @@ go_goes old call (routes.Wait gate) done orderly may goes =
     )
 go_goes old call (routes.Fail x) done orderly may goes = give_goes old call.origin (outcomes.Failed x) done orderly refl may goes
 
-pub goto_goes : (old : State) (call : Underway) (cap : Cap) (done : Done) → IsOrderly old → IsHeldAlone old call.origin → GoTo old call cap (Ok done) → Goes old done.0 done.1
+pub goto_goes : (old : State) (call : PendingCall) (cap : Cap) (done : Done) → IsOrderly old → IsHeldAlone old call.origin → GoTo old call cap (Ok done) → Goes old done.0 done.1
 goto_goes old call cap done orderly may goes = go_goes old call goes.0 done orderly may goes.2
 
 -- waiting calls leave

@@ -22,7 +22,7 @@ use Rattle.cp_vat_machine.specs.State.{State, with_exports, with_questions}
 use Rattle.cp_vat_machine.specs.Then.{Done}
 use Rattle.cp_vat_machine.specs.Receiving.{times}
 use Rattle.cp_vat_machine.specs.Writing.{WritesDescriptors, mentions_of}
-use Rattle.cp_vat_machine.specs.Go.{Underway, GoOut, call_of, forwarding, sent, finish_after}
+use Rattle.cp_vat_machine.specs.Go.{PendingCall, GoOut, call_of, forwarding, sent, finish_after}
 use Rattle.cp_vat_machine.specs.Capacity.{Fresh}
 use Rattle.cp_vat_machine.specs.Supported.{is_supported_target, is_supported_descriptor}
 use Rattle.cp_vat_machine.specs.declared.entry.QuestionEntry.{QuestionEntry}
@@ -117,7 +117,7 @@ own_out old mid X q target request ds kept stages.Finished only counts all is un
     })
 own_out old mid X q target request ds kept stages.Returned only counts all is unsent to = absurd unsent.1
 
-pub own_call_sent : (old : State) (call : Underway) (target : Target) (q : ℕ) (done : Done) → is_supported_target target ≡ true
+pub own_call_sent : (old : State) (call : PendingCall) (target : Target) (q : ℕ) (done : Done) → is_supported_target target ≡ true
     → ((entry : Exchange QuestionEntry) → get old.entries.questions q ≡ Some entry → IsUnsent entry) → GoOut old call target (origins.Own q) (Ok done)
     → Sends old done.0 done.1
 own_call_sent old call target q done to unsent goes =
@@ -142,7 +142,7 @@ own_call_sent old call target q done to unsent goes =
     (unsent goes.0 goes.1)
     to)
 
-forwarded_out : (old : State) (mid : State) (X : Table (Counted Cap)) (q a : ℕ) (target : Target) (call : Underway) (ds : List Descriptor)
+forwarded_out : (old : State) (mid : State) (X : Table (Counted Cap)) (q a : ℕ) (target : Target) (call : PendingCall) (ds : List Descriptor)
     → mid ≡ with_exports old X → ((f : ℕ) → count_of X f ≡ count_of old.counts.exports f + times f (mentions_of ds)) → list_all is_supported_descriptor ds ≡ true
     → get old.entries.questions q ≡ None → is_supported_target target ≡ true
     → Sends old (call_of q target call.request ds ∷ []) (with_questions mid (insert mid.entries.questions q (new_exchange (forwarding a call ds))))
@@ -154,7 +154,7 @@ forwarded_out old mid X q a target call ds only counts all fresh to =
       posts = (_, call_posted old X q target call.request ds (forwarding a call ds) counts (rw (fresh) refl) refl refl, refl);
     })
 
-pub peer_call_sent : (old : State) (call : Underway) (target : Target) (a : ℕ) (done : Done) → is_supported_target target ≡ true
+pub peer_call_sent : (old : State) (call : PendingCall) (target : Target) (a : ℕ) (done : Done) → is_supported_target target ≡ true
     → GoOut old call target (origins.Answer a) (Ok done) → Sends old done.0 done.1
 peer_call_sent old call target a done to goes =
     let first = then_out {A = ℕ} {B = Done} (Fresh old.entries.questions) _ done goes in

@@ -26,7 +26,7 @@ use Rattle.cp_vat_machine.specs.Then.{Done, fault_if}
 use Rattle.cp_vat_machine.specs.Capacity.{Fresh, has_capacity}
 use Rattle.cp_vat_machine.specs.Receiving.{held_once_more, held_import, answer_of, path_of, tie, tied, ReceivesAnswer, taken_export, ReceivesCap, ReceivesCaps}
 use Rattle.cp_vat_machine.specs.Answering.{with_answer, bootstrap_outcome, is_answering, OnBootstrap, GoToTarget, peer_call, entered, call_faults, target_faults, OnCall}
-use Rattle.cp_vat_machine.specs.Go.{Underway, Go}
+use Rattle.cp_vat_machine.specs.Go.{PendingCall, Go}
 use Rattle.cp_vat_machine.specs.Local.{AnswerIs}
 use Rattle.cp_vat_machine.specs.declared.entry.AnswerEntry.{AnswerEntry}
 use Rattle.cp_vat_machine.specs.declared.entry.ImportKind.{ImportKind}
@@ -203,7 +203,7 @@ module _ (here : End) (s final : State) (c : Call) (rest : List Message) (known 
   abbrev new : State
   new = entered t qa
 
-  abbrev call : Underway
+  abbrev call : PendingCall
   call = peer_call t c table
 
   both : Within t None [] × Grows s t

@@ -33,7 +33,7 @@ use Rattle.cp_vat_machine.specs.Writing.{ResolvesTo}
 use Rattle.cp_vat_machine.specs.Receiving.{unfinished, answer_by, answer_of, path_of}
 use Rattle.cp_vat_machine.specs.Answering.{GoToExport, GoToAnswer, GoToTarget}
 use Rattle.cp_vat_machine.specs.Calling.{old_target}
-use Rattle.cp_vat_machine.specs.Go.{Underway, held_at, GoOut, Go, GoTo}
+use Rattle.cp_vat_machine.specs.Go.{PendingCall, held_at, GoOut, Go, GoTo}
 use Rattle.cp_vat_machine.specs.Local.{AreOne}
 use Rattle.cp_vat_machine.specs.declared.entry.AnswerEntry.{AnswerEntry}
 use Rattle.cp_vat_machine.proofs.Basics.{ok_in, all_back}
@@ -60,7 +60,7 @@ use Rattle.cp_vat_pair_laws.proofs.lane.other.Turn.{elsewhere_part, chain_elsewh
 use Rattle.cp_vat_pair_laws.proofs.lane.other.Phase.{WaitsThere, waits_there, GoesBack, goes_told, goes_marked, goes_embargoed}
 
 -- The lists of a lane that a peer's call in hand isn't of.
-module _ (here : End) (old : State) (inbox : List Message) (call : Underway) (made : List ℕ) (a : ℕ) (from : call.origin ≡ origins.Answer a)
+module _ (here : End) (old : State) (inbox : List Message) (call : PendingCall) (made : List ℕ) (a : ℕ) (from : call.origin ≡ origins.Answer a)
     (none : of_lane made (waits_for here.vat (origins.Answer a)) ≡ []) (unheld : get old.waiting.calls call.ticket ≡ None)
     (fresh : (q : ℕ) → get old.entries.questions q ≡ None → IsFreshThere here q) where
   abbrev there : End
@@ -105,7 +105,7 @@ module _ (here : End) (old : State) (inbox : List Message) (call : Underway) (ma
       }
 
 -- A peer's call goes from hand, by whatever route, and isn't of the lane.
-module _ (here : End) (old final : State) (rest : List Message) (known : IsThere here old final rest) (call : Underway) (a : ℕ) (from : call.origin ≡ origins.Answer a)
+module _ (here : End) (old final : State) (rest : List Message) (known : IsThere here old final rest) (call : PendingCall) (a : ℕ) (from : call.origin ≡ origins.Answer a)
     (unheld : get old.waiting.calls call.ticket ≡ None) (fresh : (q : ℕ) → get old.entries.questions q ≡ None → IsFreshThere here q) (one : AreOne old) (none : NoneFinished old)
     (left : NoneLeft old) (may : IsUngiven old (origins.Answer a)) (route : Route) (done : Done) (goes : Go old call route (Ok done)) (stay : PlacesStay old done.1)
     (later : PlacesStay done.1 final) where
@@ -144,7 +144,7 @@ first_or m [] = m
 first_or m (x ∷ xs) = x
 
 -- what a call on a target does
-target_goes : (s : State) (call : Underway) (target : Target) (done : Done) → GoToTarget s call target (Ok done) → (route : Route) × Go s call route (Ok done)
+target_goes : (s : State) (call : PendingCall) (target : Target) (done : Done) → GoToTarget s call target (Ok done) → (route : Route) × Go s call route (Ok done)
 target_goes s call (targets.ImportedCap e) done goes = by (get s.counts.exports e) goes
   where
     by : (o : Option (Counted Cap)) → GoToExport s call o (Ok done) → (route : Route) × Go s call route (Ok done)
@@ -158,7 +158,7 @@ target_goes s call (targets.PromisedAnswer answer) done goes = by (answer_of s a
     by (Some (Some outcome)) goes = (goes.0, goes.2)
 target_goes s call (targets.Unknown n) done goes = absurd goes
 
-pub call_goes : (s : State) (call : Underway) (target : Target) (done : Done) → GoToTarget s call target (Ok done) → (route : Route) × Go s call route (Ok done)
+pub call_goes : (s : State) (call : PendingCall) (target : Target) (done : Done) → GoToTarget s call target (Ok done) → (route : Route) × Go s call route (Ok done)
 call_goes s call target done goes = target_goes s call target done goes
 
 path_again : (path : List ℕ) → path_of (map (λ field. ops.GetPointerField field) path) ≡ path
@@ -177,7 +177,7 @@ answer_there (Some entry) v left = by entry.stage left
     by stages.Finished left = inl refl
 
 -- A call on a reference's own target goes by its place there.
-module _ (s : State) (left : NoneLeft s) (call : Underway) (done : Done) where
+module _ (s : State) (left : NoneLeft s) (call : PendingCall) (done : Done) where
   open_promise : (p : ℕ) → get s.values.promises p ≡ Some None → Routes s.values (caps.Promise p) (routes.Wait (gates.Promise p))
   open_promise p is = (1, rw (is) refl)
 
@@ -220,7 +220,7 @@ module _ (s : State) (left : NoneLeft s) (call : Underway) (done : Done) where
           given_by (get s.values.answers q) at (subst (λ o. GoToAnswer s call q (path_of (map (λ field. ops.GetPointerField field) path)) o (Ok done)) same goes)
 
 -- A Call of the lane is taken: `old` is the vat before its answer was opened, and `s` after that.
-module _ (here : End) (old s : State) (c : Call) (rest : List Message) (call : Underway) (from : call.origin ≡ origins.Answer c.question_id)
+module _ (here : End) (old s : State) (c : Call) (rest : List Message) (call : PendingCall) (from : call.origin ≡ origins.Answer c.question_id)
     (calls : s.waiting.calls ≡ old.waiting.calls) (asked : s.entries.questions ≡ old.entries.questions)
     (opened_stay : PlacesStay old s) (over_stay : OverStays old s) (open_stay : (ref : Reference) (gate : Gate) → IsOpenPlace old ref gate → IsOpenPlace s ref gate)
     (highest : (ticket : ℕ) (held : WaitingCall) → get old.waiting.calls ticket ≡ Some held → ticket < call.ticket)
@@ -395,7 +395,7 @@ module _ (here : End) (old s : State) (c : Call) (rest : List Message) (call : U
     lane_call delivered (local_open p) lane = not_on_way p.no_way
 
 -- A reference that is elsewhere stays so, whatever a peer's call in hand does.
-module _ (here : End) (old : State) (rest : List Message) (call : Underway) (a : ℕ) (from : call.origin ≡ origins.Answer a) (one : AreOne old) (none : NoneFinished old)
+module _ (here : End) (old : State) (rest : List Message) (call : PendingCall) (a : ℕ) (from : call.origin ≡ origins.Answer a) (one : AreOne old) (none : NoneFinished old)
     (left : NoneLeft old) (may : IsUngiven old (origins.Answer a)) (route : Route) (done : Done) (goes : Go old call route (Ok done)) (stay : PlacesStay old done.1) where
   abbrev ElsewhereKept : Type 0
   ElsewhereKept =

@@ -31,7 +31,7 @@ use Rattle.cp_vat_machine.specs.Doing.{awaits, answer_refusals, promise_made, is
 use Rattle.cp_vat_machine.specs.Give.{Settle, Give}
 use Rattle.cp_vat_machine.specs.InUse.{has_promise}
 use Rattle.cp_vat_machine.specs.Step.{Does}
-use Rattle.cp_vat_machine.specs.Go.{Underway, held_at, Go, GoTo}
+use Rattle.cp_vat_machine.specs.Go.{PendingCall, held_at, Go, GoTo}
 use Rattle.cp_vat_machine.specs.Local.{AreOne, Local}
 use Rattle.cp_vat_machine.specs.declared.effect.Effect.{Effect}
 use Rattle.cp_vat_machine.specs.declared.effect.Effect.TheVariants as effects
@@ -158,7 +158,7 @@ marked_chain s mid cap None is = by (has_mark_capacity s cap) is
     by false e = ok_out e
 
 -- An own call goes, from hand.
-module _ (old : State) (q : ℕ) (call : Underway) (from : call.origin ≡ origins.Own q) (gives : answer_forwarded (get old.entries.questions q) ≡ [])
+module _ (old : State) (q : ℕ) (call : PendingCall) (from : call.origin ≡ origins.Own q) (gives : answer_forwarded (get old.entries.questions q) ≡ [])
     (unheld : get old.waiting.calls call.ticket ≡ None) where
   held_level : (new : State) (gate : Gate) (effects : List Effect) → new.waiting.calls ≡ (held_at old call gate).waiting.calls
       → ((r : ℕ) → answer_forwarded (get new.entries.questions r) ≡ answer_forwarded (get old.entries.questions r)) → list_any is_call (messages_sent effects) ≡ false

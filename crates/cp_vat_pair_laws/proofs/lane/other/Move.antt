@@ -5,8 +5,8 @@ use Rattle.std.specs.FinMap.{get}
 use Rattle.std.proofs.Common.{ap, sym, true≢false}
 use Rattle.cp_tables.specs.declared.exchange.Exchange.{Exchange}
 use Rattle.cp_tables.specs.declared.exchange.Stage.TheVariants as stages
-use Rattle.cp_messages.specs.declared.disembargo.Context.{Context}
-use Rattle.cp_messages.specs.declared.disembargo.Context.TheVariants as contexts
+use Rattle.cp_messages.specs.declared.disembargo.DisembargoContext.{DisembargoContext}
+use Rattle.cp_messages.specs.declared.disembargo.DisembargoContext.TheVariants as contexts
 use Rattle.cp_messages.specs.declared.disembargo.Disembargo.{Disembargo}
 use Rattle.cp_messages.specs.declared.message.Message.{Message}
 use Rattle.cp_messages.specs.declared.message.Message.TheVariants as messages
@@ -156,7 +156,7 @@ module _ (here : End) (s last : State) (rest sent : List Message) (here_local : 
         loop_known here s last d n is rest known (messages.Disembargo back) (λ k. refl) (disembargo_untold back) (λ made. refl),
       )
 
-  disembargo_heard : (d : Disembargo) (context : Context) → d.context ≡ context → (done : Done) → IsThere here s last (messages.Disembargo d ∷ rest) → PlacesStay done.1 last
+  disembargo_heard : (d : Disembargo) (context : DisembargoContext) → d.context ≡ context → (done : Done) → IsThere here s last (messages.Disembargo d ∷ rest) → PlacesStay done.1 last
       → OnDisembargo s context d.target (Ok done) → HeardKept here s (messages.Disembargo d ∷ rest) done rest last
   disembargo_heard d (contexts.SenderLoopback n) is done known later does = loop_heard d n is done known does
   disembargo_heard d (contexts.ReceiverLoopback n) is done known later does =

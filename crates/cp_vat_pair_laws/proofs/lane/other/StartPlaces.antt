@@ -8,8 +8,8 @@ use Rattle.cp_tables.specs.declared.exchange.Exchange.{Exchange}
 use Rattle.cp_tables.specs.declared.exchange.Stage.{Stage}
 use Rattle.cp_tables.specs.declared.exchange.Stage.TheVariants as stages
 use Rattle.cp_messages.specs.declared.call.Call.{Call}
-use Rattle.cp_messages.specs.declared.disembargo.Context.{Context}
-use Rattle.cp_messages.specs.declared.disembargo.Context.TheVariants as contexts
+use Rattle.cp_messages.specs.declared.disembargo.DisembargoContext.{DisembargoContext}
+use Rattle.cp_messages.specs.declared.disembargo.DisembargoContext.TheVariants as contexts
 use Rattle.cp_messages.specs.declared.message.Message.{Message}
 use Rattle.cp_messages.specs.declared.message.Message.TheVariants as messages
 use Rattle.cp_messages.specs.declared.returned.Return.{Return}
@@ -153,7 +153,7 @@ module _ (s : State) (w : Within s None []) (still : s.waiting.over ≡ none_ove
           let same = unlowered r.release_param_caps s entry.kept.mentions lowers.0 keeps lowers.1 in
           at_stage entry is entry.stage refl (rw same at lowers.2)
 
-  disembargo_stay : (context : Context) (target : Target) (done : Done) → OnDisembargo s context target (Ok done) → PlacesStay s done.1
+  disembargo_stay : (context : DisembargoContext) (target : Target) (done : Done) → OnDisembargo s context target (Ok done) → PlacesStay s done.1
   disembargo_stay (contexts.SenderLoopback n) target done does = rw ((loop_does s n target done does).0) (places_same refl refl)
   disembargo_stay (contexts.ReceiverLoopback n) target done does = chain_places (echo_chain s n target done still does)
   disembargo_stay contexts.Accept target done does = absurd does

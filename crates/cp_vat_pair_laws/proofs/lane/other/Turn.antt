@@ -34,7 +34,7 @@ use Rattle.cp_vat_machine.specs.Then.{Done}
 use Rattle.cp_vat_machine.specs.Capacity.{Fresh}
 use Rattle.cp_vat_machine.specs.Writing.{IsExport, WritesDescriptors, promised}
 use Rattle.cp_vat_machine.specs.Give.{Give}
-use Rattle.cp_vat_machine.specs.Go.{Underway, IsNext, delivered, call_of, finish_after, forwarding, sent, GoOut, Go, GoTo, without_call, underway}
+use Rattle.cp_vat_machine.specs.Go.{PendingCall, IsNext, delivered, call_of, finish_after, forwarding, sent, GoOut, Go, GoTo, without_call, underway}
 use Rattle.cp_vat_machine.specs.Local.{AreOne, IsTicketOf}
 use Rattle.cp_vat_machine.specs.Calling.{mark_of}
 use Rattle.cp_vat_machine.specs.declared.effect.Effect.{Effect}
@@ -142,7 +142,7 @@ fresh_on old mid new values_ exports fresh i none = by (fresh i none)
     by (inr (inl (p, export_, open_))) = inr (inl (p, (export_.0, ap (λ m. get m i) exports ∙ export_.1), ap (λ v. get v.promises p) values_ ∙ open_))
     by (inr (inr (k, export_))) = inr (inr (k, (export_.0, ap (λ m. get m i) exports ∙ export_.1)))
 
-out_steady : (old : State) (call : Underway) (target : Target) (origin : Origin) (done : Done) → AreOne old → GoOut old call target origin (Ok done) → Steady old done
+out_steady : (old : State) (call : PendingCall) (target : Target) (origin : Origin) (done : Done) → AreOne old → GoOut old call target origin (Ok done) → Steady old done
 out_steady old call target (origins.Answer a) done one goes =
     let fresh = then_out {A = ℕ} {B = Done} (Fresh old.entries.questions) _ done goes in
     let parts = then_out {A = List Descriptor × State} {B = Done} (WritesDescriptors old call.request.caps) _ done fresh.2 in
@@ -174,7 +174,7 @@ out_steady old call target (origins.Own q) done one goes =
       no_echo = λ n. call_echoes q target call.request parts.0.0 goes.0.stage n;
     })
 
-deliver_steady : (old : State) (k : ℕ) (call : Underway) (origin : Origin) → Steady old (effects.Deliver k call.origin call.ticket call.request ∷ [], delivered old origin)
+deliver_steady : (old : State) (k : ℕ) (call : PendingCall) (origin : Origin) → Steady old (effects.Deliver k call.origin call.ticket call.request ∷ [], delivered old origin)
 deliver_steady old k call (origins.Answer a) =
     record { values_ = refl; over = refl; exports = λ e c is. is; fresh = λ i none. inl none; untold = λ ref. refl; no_echo = λ n. refl }
 deliver_steady old k call (origins.Own q) =
@@ -185,7 +185,7 @@ abbrev pub IsNoFailure : Route → Type 0
 IsNoFailure (routes.Fail x) = ⊥
 IsNoFailure other = Unit {0}
 
-pub go_steady : (old : State) (call : Underway) (route : Route) (done : Done) → AreOne old → IsNoFailure route → Go old call route (Ok done) → Steady old done
+pub go_steady : (old : State) (call : PendingCall) (route : Route) (done : Done) → AreOne old → IsNoFailure route → Go old call route (Ok done) → Steady old done
 go_steady old call (routes.Deliver k) done one fine goes = rw (ok_in _ _ goes) (deliver_steady old k call call.origin)
 go_steady old call (routes.Import i) done one fine goes = out_steady old call (targets.ImportedCap i) call.origin done one goes
 go_steady old call (routes.Pipe q path) done one fine goes = out_steady old call (targets.PromisedAnswer (promised q path)) call.origin done one goes
@@ -259,7 +259,7 @@ pub record Forwarded (old : State) (target : Target) (a : ℕ) (done : Done) : T
   pub gives : answer_forwarded (get done.1.entries.questions c.question_id) ≡ a ∷ []
   pub others : (r : ℕ) → (c.question_id == r) ≡ false → get done.1.entries.questions r ≡ get old.entries.questions r
 
-pub out_forwarded : (old : State) (call : Underway) (target : Target) (a : ℕ) (done : Done) → GoOut old call target (origins.Answer a) (Ok done) → Forwarded old target a done
+pub out_forwarded : (old : State) (call : PendingCall) (target : Target) (a : ℕ) (done : Done) → GoOut old call target (origins.Answer a) (Ok done) → Forwarded old target a done
 out_forwarded old call target a done goes =
     let fresh = then_out {A = ℕ} {B = Done} (Fresh old.entries.questions) _ done goes in
     let parts = then_out {A = List Descriptor × State} {B = Done} (WritesDescriptors old call.request.caps) _ done fresh.2 in

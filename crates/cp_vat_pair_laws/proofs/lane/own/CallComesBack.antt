@@ -21,7 +21,7 @@ use Rattle.cp_vat_machine.specs.Writing.{IsExport}
 use Rattle.cp_vat_machine.specs.Receiving.{ReceivesCaps}
 use Rattle.cp_vat_machine.specs.Answering.{GoToTarget, peer_call, entered, call_faults, OnCall}
 use Rattle.cp_vat_machine.specs.Go as going
-use Rattle.cp_vat_machine.specs.Go.{Underway, Go, GoTo}
+use Rattle.cp_vat_machine.specs.Go.{PendingCall, Go, GoTo}
 use Rattle.cp_vat_machine.specs.Local.{Local}
 use Rattle.cp_vat_machine.specs.declared.effect.Effect.{Effect}
 use Rattle.cp_vat_machine.specs.declared.effect.Effect.TheVariants as effects
@@ -109,7 +109,7 @@ module _ (here there : End) (ref : Reference) (made : List ℕ) (x : Message) (r
   elsewhere_heard (hosted_there p) = hosted_there (record { yet = yet_on p.yet; hosted = p.hosted; untold = any_taken (tells ref) x rest (rw was at p.untold) })
 
 -- The call is in hand, with an answer and a ticket: `old` is the vat before the event, and `s` after that.
-module _ (old s : State) (c : Call) (rest : List Message) (there : End) (ref : Reference) (made : List ℕ) (call : Underway) (from : call.origin ≡ origins.Answer c.question_id)
+module _ (old s : State) (c : Call) (rest : List Message) (there : End) (ref : Reference) (made : List ℕ) (call : PendingCall) (from : call.origin ≡ origins.Answer c.question_id)
     (asked : s.entries.questions ≡ old.entries.questions) (unheld : get s.waiting.calls call.ticket ≡ None) (done : Done) (went : Went call s done.0 done.1)
     (calm : Calm s done.0 done.1) (exports : (e : ℕ) (cap : Cap) → IsExport s e cap → IsExport done.1 e cap) (goes : GoToTarget s call c.target (Ok done)) where
   abbrev it : Message
@@ -264,7 +264,7 @@ module _ (s : State) (c : Call) (rest : List Message) (there : End) (ref : Refer
     abbrev new : State
     new = entered t c.question_id
 
-    abbrev hand : Underway
+    abbrev hand : PendingCall
     hand = peer_call t c table
 
     both : Within t None [] × Grows s t

@@ -17,7 +17,7 @@ use Rattle.cp_vat_machine.specs.State.{State}
 use Rattle.cp_vat_machine.specs.Then.{Done}
 use Rattle.cp_vat_machine.specs.Capacity.{Fresh}
 use Rattle.cp_vat_machine.specs.Writing.{WritesDescriptors, promised}
-use Rattle.cp_vat_machine.specs.Go.{Underway, call_of, GoOut, Go}
+use Rattle.cp_vat_machine.specs.Go.{PendingCall, call_of, GoOut, Go}
 use Rattle.cp_vat_machine.specs.Local.{is_wire}
 use Rattle.cp_vat_machine.specs.declared.effect.Effect.{Effect}
 use Rattle.cp_vat_machine.specs.declared.entry.AnswerEntry.{AnswerEntry}
@@ -38,7 +38,7 @@ use Rattle.cp_vat_pair_laws.proofs.lane.parts.Calm.{Calm, NoneOpenOver, calm_onl
 use Rattle.cp_vat_pair_laws.proofs.lane.own.Turn.{lane_delivered, none_delivered, one_delivered, sent_tickets}
 
 -- The lists of a lane that a peer's call in hand isn't of.
-module _ (here there : End) (made : List ℕ) (call : Underway) (a : ℕ) (from : call.origin ≡ origins.Answer a) (none : of_lane made (stands_for here.vat there.vat a) ≡ [])
+module _ (here there : End) (made : List ℕ) (call : PendingCall) (a : ℕ) (from : call.origin ≡ origins.Answer a) (none : of_lane made (stands_for here.vat there.vat a) ≡ [])
     (unheld : get here.vat.waiting.calls call.ticket ≡ None) (rest : List Message)
     (taken : IsFront (λ m. of_lane made (forwarded_for here.vat there.vat m) ≡ []) here.inbox rest) where
   abbrev as_held : Gate → WaitingCall
@@ -109,7 +109,7 @@ module _ (here there : End) (made : List ℕ) (call : Underway) (a : ℕ) (from 
   hand_delivers old not_ mid effects (sent_ q target table is calls for_) = ap (lane_delivered old there.vat made) is
 
 -- A peer's call in hand leaves references, marks and the gates that are over as they are.
-module _ (old : State) (call : Underway) (a : ℕ) (from : call.origin ≡ origins.Answer a) (none_open : NoneOpenOver old) (not_over : get old.waiting.over.answers a ≡ None)
+module _ (old : State) (call : PendingCall) (a : ℕ) (from : call.origin ≡ origins.Answer a) (none_open : NoneOpenOver old) (not_over : get old.waiting.over.answers a ≡ None)
     (tied : (entry : Exchange AnswerEntry) → get old.entries.answers a ≡ Some entry → AreOpen old.values entry.kept.tied)
     (unvalued : (q : ℕ) → get old.entries.questions q ≡ None → get old.values.questions q ≡ None) where
   wire_not : (q r : ℕ) (b : Bool) → (q == r) ≡ b → get old.values.questions q ≡ None → IsTrue (is_wire (get old.values.questions r)) → (q == r) ≡ false

@@ -31,7 +31,7 @@ use Rattle.cp_vat_machine.specs.Then.{Done}
 use Rattle.cp_vat_machine.specs.Capacity.{Fresh}
 use Rattle.cp_vat_machine.specs.Writing.{WritesDescriptors, promised, mentions_of}
 use Rattle.cp_vat_machine.specs.Give.{GiveOwnBy}
-use Rattle.cp_vat_machine.specs.Go.{Underway, held_at, delivered, call_of, sent, GoOut, Go, GoTo}
+use Rattle.cp_vat_machine.specs.Go.{PendingCall, held_at, delivered, call_of, sent, GoOut, Go, GoTo}
 use Rattle.cp_vat_machine.specs.Calling.{plain, on_wire, came_to, reference_of, question_reference, called, own_call, mark_of, with_mark, has_mark_capacity, marked, old_target, disembargo_of, FirstEmbargoed, GoBack, GoByValue, GoFrom}
 use Rattle.cp_vat_machine.specs.Calling as calling
 use Rattle.cp_vat_machine.specs.declared.effect.Effect.{Effect}
@@ -118,7 +118,7 @@ pub record WentOut (q : ℕ) (request : Request) (target : Target) (mid : State)
   pub aside : Aside q mid done.1
 
 module _ (s : State) (q : ℕ) (request : Request) (none : NoneFinished s) (fresh : get s.entries.questions q ≡ None) where
-  abbrev call : Underway
+  abbrev call : PendingCall
   call = own_call s q request
 
   abbrev its_question : QuestionKind → QuestionState

@@ -2,8 +2,8 @@
 use Rattle.std.specs.Prelude.{◌≡◌, refl, ℕ, not, if◌then◌else◌, Bool, true, false, List, [], ◌∷◌, ◌++◌, Result, Ok}
 use Rattle.std.proofs.Common.{ap, sym, append-nil, true≢false}
 use Rattle.std.proofs.lemmas.List.{append_assoc}
-use Rattle.cp_messages.specs.declared.disembargo.Context.{Context}
-use Rattle.cp_messages.specs.declared.disembargo.Context.TheVariants as contexts
+use Rattle.cp_messages.specs.declared.disembargo.DisembargoContext.{DisembargoContext}
+use Rattle.cp_messages.specs.declared.disembargo.DisembargoContext.TheVariants as contexts
 use Rattle.cp_messages.specs.declared.message.Message.{Message}
 use Rattle.cp_messages.specs.declared.message.Message.TheVariants as messages
 use Rattle.cp_messages.specs.declared.target.Target.{Target}
@@ -125,7 +125,7 @@ module _ (s : State) (rest : List Message) (there : End) (ref : Reference) (made
   abbrev HeardThen : Done → Type 0
   HeardThen done = LaneHolds (record { vat = done.1; inbox = rest }) (with_mail there (messages_sent done.0)) ref made (delivered ++ lane_delivered s there.vat made done.0)
 
-  disembargo_comes : (context : Context) (target : Target) (done : Done) → OnDisembargo s context target (Ok done)
+  disembargo_comes : (context : DisembargoContext) (target : Target) (done : Done) → OnDisembargo s context target (Ok done)
       → Before (messages.Disembargo (record { context = context; target = target })) → HeardThen done
   disembargo_comes (contexts.SenderLoopback n) target done does holds = loop_lane s rest there ref made delivered n target done does holds
   disembargo_comes (contexts.ReceiverLoopback n) target done does holds = echo_lane s n target rest there ref made delivered local_ done does holds

@@ -8,8 +8,8 @@ use Rattle.cp_tables.specs.declared.exchange.Exchange.{Exchange}
 use Rattle.cp_tables.specs.declared.exchange.Stage.{Stage}
 use Rattle.cp_tables.specs.declared.exchange.Stage.TheVariants as stages
 use Rattle.cp_messages.specs.declared.call.Call.{Call}
-use Rattle.cp_messages.specs.declared.disembargo.Context.{Context}
-use Rattle.cp_messages.specs.declared.disembargo.Context.TheVariants as contexts
+use Rattle.cp_messages.specs.declared.disembargo.DisembargoContext.{DisembargoContext}
+use Rattle.cp_messages.specs.declared.disembargo.DisembargoContext.TheVariants as contexts
 use Rattle.cp_messages.specs.declared.message.Message.{Message}
 use Rattle.cp_messages.specs.declared.message.Message.TheVariants as messages
 use Rattle.cp_messages.specs.declared.resolve.Resolve.{Resolve}
@@ -28,7 +28,7 @@ use Rattle.cp_vat_machine.specs.Capacity.{Fresh, has_capacity, message_fits}
 use Rattle.cp_vat_machine.specs.Supported.{is_supported}
 use Rattle.cp_vat_machine.specs.Receiving.{ReceivesCaps, release_exports}
 use Rattle.cp_vat_machine.specs.Give.{Give, GiveAnswer, Settle, without_question}
-use Rattle.cp_vat_machine.specs.Go.{Underway}
+use Rattle.cp_vat_machine.specs.Go.{PendingCall}
 use Rattle.cp_vat_machine.specs.Answering.{with_answer, bootstrap_outcome, is_answering, OnBootstrap, peer_call, entered, call_faults, OnCall, AtStage, FinishedBy}
 use Rattle.cp_vat_machine.specs.Asking.{ReceivesReturned, Settles, ReturnBy, is_asked, ReturnOf}
 use Rattle.cp_vat_machine.specs.Resolving.{is_open_promise, TakeResolution, ResolveOf, ended_by, OnDisembargo}
@@ -65,7 +65,7 @@ use Rattle.cp_vat_pair_laws.proofs.lane.other.CallGoes.{call_goes}
 abbrev pub SameOwns : State → State → Type 0
 SameOwns old new = (q : ℕ) → own_ticket (get new.entries.questions q) ≡ own_ticket (get old.entries.questions q)
 
-pub went_owns : {call : Underway} {old new : State} {done : List Effect} → Went call old done new → SameOwns old new
+pub went_owns : {call : PendingCall} {old new : State} {done : List Effect} → Went call old done new → SameOwns old new
 went_owns (failed_ silent) q = silent.bearing.tickets q
 went_owns (delivered_ k is silent) q = silent.bearing.tickets q
 went_owns (waits_ gate is same) q = ap (λ s. own_ticket (get s.entries.questions q)) same
@@ -131,7 +131,7 @@ module _ (s : State) (h : Within s None []) (still : s.waiting.over ≡ none_ove
       let parts = then_out {A = List Cap × State} {B = Done} (ReceivesCaps s c.params.cap_table) _ done (unless_out {A = Done} {F = PeerFault} (call_faults s c) _ done does) in
       let well = take_all_keeps None [] c.params.cap_table s parts.0 h still parts.1 in
       let new : State = entered parts.0.1 c.question_id in
-      let hand : Underway = peer_call parts.0.1 c parts.0.0 in
+      let hand : PendingCall = peer_call parts.0.1 c parts.0.0 in
       let route = call_goes new hand c.target done parts.2 in
       let none_new : NoneFinished new = rw (well.1.asked) none in
       let went = go_went new hand route.0 done none_new route.1 in
@@ -204,7 +204,7 @@ module _ (s : State) (h : Within s None []) (still : s.waiting.over ≡ none_ove
   ended_owns n None done is = ok_out is
   ended_owns n (Some cap) done is = rw (ok_in _ _ is) (λ q. refl)
 
-  disembargo_owns : (context : Context) (target : Target) (done : Done) → OnDisembargo s context target (Ok done) → SameOwns s done.1
+  disembargo_owns : (context : DisembargoContext) (target : Target) (done : Done) → OnDisembargo s context target (Ok done) → SameOwns s done.1
   disembargo_owns (contexts.SenderLoopback n) target done does = rw ((loop_does s n target done does).0) (λ q. refl)
   disembargo_owns (contexts.ReceiverLoopback n) target done does = ended_owns n (get s.marks.embargoes n) done does
   disembargo_owns contexts.Accept target done does = absurd does

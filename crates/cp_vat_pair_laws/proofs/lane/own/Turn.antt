@@ -37,7 +37,7 @@ use Rattle.cp_vat_machine.specs.Capacity.{Fresh}
 use Rattle.cp_vat_machine.specs.Writing.{IsExport, WritesDescriptors, promised}
 use Rattle.cp_vat_machine.specs.Give.{question_settled, GiveOwnBy, Give}
 use Rattle.cp_vat_machine.specs.Go as going
-use Rattle.cp_vat_machine.specs.Go.{Underway, held_at, delivered, sent, finish_after, call_of, GoOut, Go, GoTo, IsNext, without_call, underway}
+use Rattle.cp_vat_machine.specs.Go.{PendingCall, held_at, delivered, sent, finish_after, call_of, GoOut, Go, GoTo, IsNext, without_call, underway}
 use Rattle.cp_vat_machine.specs.InUse.{is_question_here, is_open_here}
 use Rattle.cp_vat_machine.specs.Calling.{mark_of}
 use Rattle.cp_vat_machine.specs.Local.{IsTicketOf, AnswerIs, is_wire, IsImportMark, IsPathMark}
@@ -102,7 +102,7 @@ among_none made (t ∷ ts) k none = by (is_among t made) refl none (among_none m
         let rest : of_lane made ts ≡ [] = rw is at none in
         rw (is) (more rest)
 
-pub one_delivered : (old there : State) (made : List ℕ) (k : ℕ) (call : Underway) (origin : Origin) → call.origin ≡ origin
+pub one_delivered : (old there : State) (made : List ℕ) (k : ℕ) (call : PendingCall) (origin : Origin) → call.origin ≡ origin
     → of_lane made (ticket_borne old there origin call.ticket) ≡ [] → lane_delivered old there made (effects.Deliver k call.origin call.ticket call.request ∷ []) ≡ []
 one_delivered old there made k call origin is none =
     ap (delivered_among made) (append-nil (map (λ own. record { ticket = own; object = k }) (ticket_borne old there call.origin call.ticket)))

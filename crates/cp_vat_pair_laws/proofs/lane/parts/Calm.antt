@@ -19,7 +19,7 @@ use Rattle.cp_refs.specs.declared.route.Gate.TheVariants as gates
 use Rattle.cp_vat_machine.specs.State.{State, gave, with_exports}
 use Rattle.cp_vat_machine.specs.Then.{Done}
 use Rattle.cp_vat_machine.specs.Give.{resolve_of, ResolvesEnd, Tells, settled, value_for, last_for, Settle, SettleTied, Returns, given, gone, return_of, GiveBy, GiveAnswer}
-use Rattle.cp_vat_machine.specs.Go.{Underway, held_at, delivered}
+use Rattle.cp_vat_machine.specs.Go.{PendingCall, held_at, delivered}
 use Rattle.cp_vat_machine.specs.Local.{is_wire}
 use Rattle.cp_vat_machine.specs.declared.effect.Effect.{Effect}
 use Rattle.cp_vat_machine.specs.declared.entry.AnswerEntry.{AnswerEntry}
@@ -235,5 +235,5 @@ pub delivered_calm : (s : State) (origin : Origin) → Calm s [] (delivered s or
 delivered_calm s (origins.Answer a) = record { imports = refl; questions = refl; marks = refl; gave_ = λ gate cap is. is; no_open = λ q is. refl; no_loop = λ n. refl }
 delivered_calm s (origins.Own q) = record { imports = refl; questions = refl; marks = refl; gave_ = λ gate cap is. is; no_open = λ r is. refl; no_loop = λ n. refl }
 
-pub held_calm : (s : State) (call : Underway) (gate : Gate) → Calm s [] (held_at s call gate)
+pub held_calm : (s : State) (call : PendingCall) (gate : Gate) → Calm s [] (held_at s call gate)
 held_calm s call gate = record { imports = refl; questions = refl; marks = refl; gave_ = λ g cap is. is; no_open = λ q is. refl; no_loop = λ n. refl }

@@ -21,7 +21,7 @@ use Rattle.cp_vat_machine.specs.State.{State, with_exports, with_questions}
 use Rattle.cp_vat_machine.specs.Then.{Done}
 use Rattle.cp_vat_machine.specs.Capacity.{Fresh}
 use Rattle.cp_vat_machine.specs.Writing.{WritesDescriptors, promised, mentions_of}
-use Rattle.cp_vat_machine.specs.Go.{Underway, held_at, call_of, forwarding, sent, finish_after, GoOut, Go, GoTo}
+use Rattle.cp_vat_machine.specs.Go.{PendingCall, held_at, call_of, forwarding, sent, finish_after, GoOut, Go, GoTo}
 use Rattle.cp_vat_machine.specs.declared.effect.Effect.{Effect}
 use Rattle.cp_vat_machine.specs.declared.effect.Effect.TheVariants as effects
 use Rattle.cp_vat_machine.specs.declared.entry.QuestionEntry.{QuestionEntry}
@@ -42,7 +42,7 @@ SentFor (origins.Answer a) old q new =
     × ((r : ℕ) → (q == r) ≡ false → get new.entries.questions r ≡ get old.entries.questions r)
 
 -- A call fails, is delivered, waits, or is sent.
-pub data Went (call : Underway) (old : State) : List Effect → State → Type 0 where
+pub data Went (call : PendingCall) (old : State) : List Effect → State → Type 0 where
   failed_ : {done : List Effect} {new : State} → Silent old done new → Went call old done new
   delivered_ : {new : State} {done : List Effect} (k : ℕ) → done ≡ effects.Deliver k call.origin call.ticket call.request ∷ [] → Silent old [] new → Went call old done new
   waits_ : {new : State} {done : List Effect} (gate : Gate) → done ≡ [] → new ≡ held_at old call gate → Went call old done new
@@ -57,7 +57,7 @@ no_finish s q entry stages.Finished none is at =
     let not_ = there_of (λ (x : Exchange QuestionEntry). is_finish_noted x.stage ≡ false) (get s.entries.questions q) entry is (none q) in
     absurd (true≢false (sym (ap is_finish_noted at) ∙ not_))
 
-forwarding_opened : (s mid : State) (q a : ℕ) (call : Underway) (table : List Descriptor) → mid ≡ with_exports s mid.counts.exports → get s.entries.questions q ≡ None
+forwarding_opened : (s mid : State) (q a : ℕ) (call : PendingCall) (table : List Descriptor) → mid ≡ with_exports s mid.counts.exports → get s.entries.questions q ≡ None
     → SentFor (origins.Answer a) s q (with_questions mid (insert mid.entries.questions q (new_exchange (forwarding a call table))))
 forwarding_opened s mid q a call table only fresh =
     let here = put_at mid.entries.questions q q (new_exchange (forwarding a call table)) true (is_itself q) in (
@@ -67,7 +67,7 @@ forwarding_opened s mid q a call table only fresh =
       λ r other. put_at mid.entries.questions q r (new_exchange (forwarding a call table)) false other ∙ ap (λ x. get x.entries.questions r) only,
     )
 
-pub out_went : (old : State) (call : Underway) (target : Target) (origin : Origin) (done : Done) → NoneFinished old → call.origin ≡ origin
+pub out_went : (old : State) (call : PendingCall) (target : Target) (origin : Origin) (done : Done) → NoneFinished old → call.origin ≡ origin
     → GoOut old call target origin (Ok done) → Went call old done.0 done.1
 out_went old call target (origins.Answer a) done none is goes =
     let fresh = then_out {A = ℕ} {B = Done} (Fresh old.entries.questions) _ done goes in
@@ -91,14 +91,14 @@ out_went old call target (origins.Own q) done none is goes =
     (ok_in _ _ parts.2)
     (sent_ {new = new} q target parts.0.0 (ap (λ more. call_of q target call.request parts.0.0 ∷ more) none_after) (ap (λ s. s.waiting.calls) only) for_)
 
-pub go_went : (old : State) (call : Underway) (route : Route) (done : Done) → NoneFinished old → Go old call route (Ok done) → Went call old done.0 done.1
+pub go_went : (old : State) (call : PendingCall) (route : Route) (done : Done) → NoneFinished old → Go old call route (Ok done) → Went call old done.0 done.1
 go_went old call (routes.Deliver k) done none goes = rw (ok_in _ _ goes) (delivered_ k refl (delivered_silent old call.origin))
 go_went old call (routes.Import i) done none goes = out_went old call (targets.ImportedCap i) call.origin done none refl goes
 go_went old call (routes.Pipe q path) done none goes = out_went old call (targets.PromisedAnswer (promised q path)) call.origin done none refl goes
 go_went old call (routes.Wait gate) done none goes = rw (ok_in _ _ goes) (waits_ gate refl refl)
 go_went old call (routes.Fail x) done none goes = failed_ (give_silent old call.origin (outcomes.Failed x) done none goes)
 
-pub goes_went : (old : State) (call : Underway) (cap : Cap) (done : Done) → NoneFinished old → GoTo old call cap (Ok done) → Went call old done.0 done.1
+pub goes_went : (old : State) (call : PendingCall) (cap : Cap) (done : Done) → NoneFinished old → GoTo old call cap (Ok done) → Went call old done.0 done.1
 goes_went old call cap done none goes = go_went old call goes.0 done none goes.2
 
 -- The tickets of own calls that are delivered are below a number.
@@ -118,7 +118,7 @@ none_below n (effect ∷ more) none = (by effect (or_first (is_delivery effect) 
     by (effects.Deliver object origin ticket call) not_ = absurd (true≢false not_)
     by e not_ = tt
 
-pub went_below : {call : Underway} {old new : State} {done : List Effect} (n : ℕ) → IsBelow n call.origin call.ticket → Went call old done new
+pub went_below : {call : PendingCall} {old new : State} {done : List Effect} (n : ℕ) → IsBelow n call.origin call.ticket → Went call old done new
     → AllByRecursion (DeliversBelow n) done
 went_below {done = done} n below (failed_ silent) = none_below n done silent.no_delivery
 went_below n below (delivered_ k is silent) = rw (is) (below, tt)

@@ -9,7 +9,7 @@ use Rattle.cp_vat_state.specs.Halts.{Leaves}
 use Rattle.cp_vat_state.specs.Overs.{over_with}
 use Rattle.cp_vat_state.specs.Queue.{with_over}
 use Rattle.cp_vat_state.specs.StateOf.{state_of}
-use Rattle.cp_vat_state.specs.declared.gates.Gift.TheVariants as gifts
+use Rattle.cp_vat_state.specs.declared.gates.Fulfillment.TheVariants as gifts
 use Rattle.cp_vat_rules.specs.Leading.{with_parts}
 use Rattle.cp_vat_rules.specs.Settling.{settling}
 use Rattle.cp_vat_rules.proofs.Giving.{acts_err, acts_settled, given_open}
@@ -45,8 +45,8 @@ returns-clause-acts c = λ kept there.
     let new : State = state_of final in
     let done = c.in-Ok.ensures.settled _ there mid refl in
     let same : settling mid now.values.promises now.exports c.in-Ok.settled.items ≡ new =
-    given_as c.args.core.now now c.returned.new.exports c.args.id c.args.outcome c.in_ok-gift.gift kept c.in_ok-said.said c.in_ok-ids.ids c.in-Ok.settled.items final.values final.answers (with_over now.gates (over_with now.gates.waiting.over (gifts.Answer c.args.id c.in_ok-gift.gift))) final.gates
-    c.in-Ok.ensures.promises refl c.in_ok-gift.ensures (ends.values ∙ ap (λ o. record now.values { answers = insert now.values.answers c.args.id (Some o) }) c.in_ok-kept.ensures) (ends.answers kept (ap (λ k. get k.answers c.args.id) c.in-Ok.ensures.promises ∙ there)) c.in_ok-ids.ensures (rw c.deref.ensures.value at ends.gates)
+    given_as c.args.core.now now c.returned.new.exports c.args.id c.args.outcome c.in_ok-fulfillment.fulfillment kept c.in_ok-said.said c.in_ok-ids.ids c.in-Ok.settled.items final.values final.answers (with_over now.gates (over_with now.gates.waiting.over (gifts.Answer c.args.id c.in_ok-fulfillment.fulfillment))) final.gates
+    c.in-Ok.ensures.promises refl c.in_ok-fulfillment.ensures (ends.values ∙ ap (λ o. record now.values { answers = insert now.values.answers c.args.id (Some o) }) c.in_ok-kept.ensures) (ends.answers kept (ap (λ k. get k.answers c.args.id) c.in-Ok.ensures.promises ∙ there)) c.in_ok-ids.ensures (rw c.deref.ensures.value at ends.gates)
     ∙ sym (ap state_of ends.rest) in
     given_open old said new c.args.id c.args.outcome kept c.in_ok-said.said c.args.effects.now.items c.add.new.list.items c.settle_promises.new.effects.items (subst P c.values.ensures (c.in_ok-said.ensures.said old)) (c.in_ok-add.ensures ∙ ap (λ e. c.args.effects.now.items ++ e ∷ []) c.return_effect.ensures)
     (done.0, done.1, subst (λ s. SettleTied mid c.args.outcome kept.tied (Ok (done.0, s))) same (subst (λ o. SettleTied mid o kept.tied (Ok (done.0, settling mid now.values.promises now.exports c.in-Ok.settled.items))) c.in_ok-kept.ensures done.2))

@@ -10,7 +10,7 @@ use Rattle.cp_vat_machine.specs.State.{with_questions}
 use Rattle.cp_vat_machine.specs.Go.{GoOut, call_of}
 use Rattle.cp_vat_machine.specs.declared.fault.PeerFault.TheVariants as faults
 use Rattle.cp_vat_state.specs.StateOf.{state_of}
-use Rattle.cp_vat_rules.specs.Going.{underway_of}
+use Rattle.cp_vat_rules.specs.Going.{pending_call_of}
 use Rattle.cp_vat_rules.specs.Leading.{with_parts}
 use Rattle.cp_vat_state.specs.Halts.{Leaves}
 use Rattle.cp_vat_state.proofs.Numbering.{is_fresh, none_fresh}
@@ -25,14 +25,14 @@ pub returns-in-Err-clause-acts : goal.returns-in-Err-clause-acts
 returns-in-Err-clause-acts c =
     let old = state_of c.args.core.now in
     let fresh = is_fresh c.args.core.now.questions c.in_ok-question.question c.in_ok-question.ensures.free (search rules) (rw c.len.ensures.value at c.len.ensures.few) (λ full. c.if-len-eq-LIMIT.false (c.len.ensures.value ∙ full)) in
-    let P : ValueMaps → Type 0 = λ v. Leaves (WritesDescriptors (with_parts old v c.args.core.now.exports) c.args.call.request.caps) (Err c.in-Err.halt) (with_parts old v c.write_descriptors-said.new.exports) in
-    let Q : List Cap → Type 0 = λ caps. Leaves (WritesDescriptors (with_parts old c.values.result.now c.args.core.now.exports) caps) (Err c.in-Err.halt) (with_parts old c.values.result.now c.write_descriptors-said.new.exports) in
-    acts_err (WritesDescriptors old c.args.call.request.caps) (GoOut old (underway_of c.args.call) c.args.target (origins.Answer c.args.answer)) _ _ _ _ _ (λ f r. (Ok c.in_ok-question.question, fresh, (Err f, r, refl)))
+    let P : ValueMaps → Type 0 = λ v. Leaves (WritesDescriptors (with_parts old v c.args.core.now.exports) c.args.call.request.caps) (Err c.in-Err.step_fault) (with_parts old v c.write_descriptors-said.new.exports) in
+    let Q : List Cap → Type 0 = λ caps. Leaves (WritesDescriptors (with_parts old c.values.result.now c.args.core.now.exports) caps) (Err c.in-Err.step_fault) (with_parts old c.values.result.now c.write_descriptors-said.new.exports) in
+    acts_err (WritesDescriptors old c.args.call.request.caps) (GoOut old (pending_call_of c.args.call) c.args.target (origins.Answer c.args.answer)) _ _ _ _ _ (λ f r. (Ok c.in_ok-question.question, fresh, (Err f, r, refl)))
     (subst P c.values.ensures (subst Q c.caps.ensures (c.in-Err.ensures.said old)))
 
 pub returns-in-Err-clause-unchanged : goal.returns-in-Err-clause-unchanged
 returns-in-Err-clause-unchanged c =
-    forward_undone (List Descriptor) (Unit {0}) c.in-Err.halt c.args.core.now c.in_ok-question.question _ c.open.new.self c.close.new.self c.write_descriptors-said.new.exports c.in_ok-question.ensures.free c.in_ok-question.ensures.opened c.close.ensures c.in-Err.ensures.unchanged
+    forward_undone (List Descriptor) (Unit {0}) c.in-Err.step_fault c.args.core.now c.in_ok-question.question _ c.open.new.self c.close.new.self c.write_descriptors-said.new.exports c.in_ok-question.ensures.free c.in_ok-question.ensures.opened c.close.ensures c.in-Err.ensures.unchanged
 
 pub returns-clause-acts : goal.returns-clause-acts
 returns-clause-acts c =

@@ -9,7 +9,7 @@ use Rattle.cp_vat_machine.specs.Writing.{WritesDescriptors, mentions_of}
 use Rattle.cp_vat_machine.specs.Go.{GoOut, call_of, finish_after}
 use Rattle.cp_vat_state.specs.Halts.{Leaves}
 use Rattle.cp_vat_state.specs.StateOf.{state_of}
-use Rattle.cp_vat_rules.specs.Going.{underway_of}
+use Rattle.cp_vat_rules.specs.Going.{pending_call_of}
 use Rattle.cp_vat_rules.specs.Leading.{with_parts}
 use Rattle.cp_vat_rules.proofs.Giving.{acts_err}
 use Rattle.cp_vat_rules.proofs.go.send_own.Goals as goal
@@ -21,7 +21,7 @@ returns-in_err-table-clause-acts c =
     let P : ValueMaps → Type 0 = λ v. Leaves (WritesDescriptors (with_parts old v c.args.core.now.exports) c.args.call.request.caps) (Err c.in_err-table.field-0.0) (with_parts old v c.write_descriptors.new.exports) in
     let Q : List Cap → Type 0 = λ caps. Leaves (WritesDescriptors (with_parts old c.values.result.now c.args.core.now.exports) caps) (Err c.in_err-table.field-0.0) (with_parts old c.values.result.now c.write_descriptors.new.exports) in
     rw (p.1, p.2)
-    (acts_err (WritesDescriptors old c.args.call.request.caps) (GoOut old (underway_of c.args.call) c.args.target (origins.Own c.args.question)) _ _ _ _ _ (λ f r. (c.in-Some.entry.now, sym c.in-Some.ensures, (Err f, r, refl)))
+    (acts_err (WritesDescriptors old c.args.call.request.caps) (GoOut old (pending_call_of c.args.call) c.args.target (origins.Own c.args.question)) _ _ _ _ _ (λ f r. (c.in-Some.entry.now, sym c.in-Some.ensures, (Err f, r, refl)))
     (subst P c.values.ensures (subst Q c.caps.ensures (c.in_err-table.ensures.said old))))
 
 pub returns-clause-acts : goal.returns-clause-acts

@@ -9,7 +9,7 @@ use Rattle.cp_vat_rules.proofs.settle.settle_tied.Goals as goal
 pub returns-in-Err-clause-settled : goal.returns-in-Err-clause-settled
 returns-in-Err-clause-settled c s same =
     let l = c.loop-one in
-    tied_stops s c.args.values.now l.values c.args.exports.now l.exports c.args.outcome.now c.args.tied.now l.one-index c.args.effects.now.items l.effects.items l.settled.items l.invariant.promises (l.invariant.settles s same) same c.one-item.result c.in_ok-value.value c.in-Err.halt _ _ _ _ _ c.loop-one-test.true c.one-item.is (rw c.fields.ensures at c.in_ok-value.ensures) c.in-Err.ensures.settled
+    tied_stops s c.args.values.now l.values c.args.exports.now l.exports c.args.outcome.now c.args.tied.now l.one-index c.args.effects.now.items l.effects.items l.settled.items l.invariant.promises (l.invariant.settles s same) same c.one-item.result c.in_ok-value.value c.in-Err.step_fault _ _ _ _ _ c.loop-one-test.true c.one-item.is (rw c.fields.ensures at c.in_ok-value.ensures) c.in-Err.ensures.settled
 
 pub loop-one-preserved : goal.loop-one-preserved
 loop-one-preserved c =

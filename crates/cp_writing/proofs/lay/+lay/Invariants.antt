@@ -11,16 +11,16 @@ abbrev pub invariant-lay_row-loop-tree : goal.invariant-lay_row-loop-tree
 invariant-lay_row-loop-tree l =
     let all = nodes_of (row_in l.fn.trees) in
     let rest = nodes_of (row_in l.tree-iterator) in
-    RowKept l.initial.sheet l.sheet l.at rest (row_on l.initial.sheet l.fn.first all)
-    × Going l.levels l.initial.sheet.budget l.sheet.budget (greatest_depth all) (total_cost all) (greatest_depth rest) (total_cost rest)
+    RowKept l.initial.arena l.arena l.at rest (row_on l.initial.arena l.fn.first all)
+    × Going l.levels l.initial.arena.budget l.arena.budget (greatest_depth all) (total_cost all) (greatest_depth rest) (total_cost rest)
 
 abbrev pub invariant-lay_bodies-loop-body : goal.invariant-lay_bodies-loop-body
 invariant-lay_bodies-loop-body l =
     let list = l.fn.list in
     let all = bodies_of (bodies_in list.items) in
     let rest = bodies_of (bodies_in l.body-iterator) in
-    BodiesKept l.initial.sheet l.sheet l.at list.words list.ptrs rest (bodies_on l.initial.sheet l.fn.first list.words list.ptrs all)
-    × Going l.levels l.initial.sheet.budget l.sheet.budget (deepest_body all) (body_cost all) (deepest_body rest) (body_cost rest)
+    BodiesKept l.initial.arena l.arena l.at list.words list.ptrs rest (bodies_on l.initial.arena l.fn.first list.words list.ptrs all)
+    × Going l.levels l.initial.arena.budget l.arena.budget (deepest_body all) (body_cost all) (deepest_body rest) (body_cost rest)
 
 abbrev pub decreases-lay : goal.decreases-lay
 decreases-lay l = 4 * l.levels + 1

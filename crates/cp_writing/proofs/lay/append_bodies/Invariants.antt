@@ -7,6 +7,6 @@ use Rattle.cp_writing.proofs.lay.append_bodies.Given as goal
 
 abbrev pub invariant-loop-body : goal.invariant-loop-body
 invariant-loop-body l =
-    IsWithin l.sheet
-    × SameLimits l.initial.sheet l.sheet
-    × (append (bodies_blank (bodies_of (bodies_in l.body-iterator))) (written l.sheet) ≡ append (bodies_blank (bodies_of (bodies_in l.fn.bodies))) (written l.initial.sheet))
+    IsWithin l.arena
+    × SameLimits l.initial.arena l.arena
+    × (append (bodies_blank (bodies_of (bodies_in l.body-iterator))) (written l.arena) ≡ append (bodies_blank (bodies_of (bodies_in l.fn.bodies))) (written l.initial.arena))

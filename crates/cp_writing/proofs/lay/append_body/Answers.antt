@@ -6,7 +6,7 @@ use Rattle.cp_writing.proofs.lay.append_body.Goals as goal
 
 pub returns : goal.returns
 returns c =
-    let A = c.args.sheet.now in
+    let A = c.args.arena.now in
     let D = c.append_blank.new.self in
     let blank = replicate {A = ℕ} c.args.ptrs 0 in
     let all = writes_on A c.append-2.new.self D c.append_blank.result _ c.in_ok-append.ensures.2 c.append_blank.ensures in

@@ -8,4 +8,4 @@ pub overflow_add-result : goal.overflow_add-result
 overflow_add-result c =
     let size = c.args.count * (c.args.words + c.args.ptrs) in
     let tag = c.in_ok-tag.ensures in
-    omega (arith, place_small c.args.sheet.now c.place_list.new.sheet c.args.at (kinds.List sizes.Composite size) (size + 1) c.in_ok-tag.tag c.requires.there.0 tag.0.0 tag.0.1 tag.1)
+    omega (arith, place_small c.args.arena.now c.place_list.new.arena c.args.at (kinds.List sizes.Composite size) (size + 1) c.in_ok-tag.tag c.requires.there.0 tag.0.0 tag.0.1 tag.1)

@@ -17,18 +17,18 @@ begin_elements-requires-clause-small c =
 
 pub returns-in_err-first : goal.returns-in_err-first
 returns-in_err-first c =
-    let A = c.args.sheet.now in
+    let A = c.args.arena.now in
     let list = c.args.list in
     let p = err_from_is_err_and c.from_residual.result c.from_residual.ensures.1 in
     rw (p.1, p.2) (tag_refused A.capacity c.args.at list.words list.ptrs (bodies_of (bodies_in list.items)) (written A) c.len.result c.len.ensures.value c.requires.shaped c.requires.there.0 c.in_err-first.field-0.0 c.in_err-first.ensures.0)
 
 pub returns-in_err-append_bodies : goal.returns-in_err-append_bodies
 returns-in_err-append_bodies c =
-    let A = c.args.sheet.now in
+    let A = c.args.arena.now in
     let list = c.args.list in
     let first = c.in_ok-first.ensures.0 in
     let e = c.in_err-append_bodies.field-0.0 in
-    let refused = refuses_on A c.begin_elements.new.sheet e _ first.2 c.in_err-append_bodies.ensures in
+    let refused = refuses_on A c.begin_elements.new.arena e _ first.2 c.in_err-append_bodies.ensures in
     let p = err_from_is_err_and c.from_residual-in_err-append_bodies.result c.from_residual-in_err-append_bodies.ensures.1 in
     rw (p.1, p.2) (elements_refused A.capacity c.args.at list.words list.ptrs (bodies_of (bodies_in list.items)) (written A) c.len.result c.len.ensures.value c.requires.shaped c.requires.there.0 e _ first.0 refused)
 
@@ -36,4 +36,4 @@ pub returns : goal.returns
 returns c =
     let list = c.args.list in
     let first = c.in_ok-first.ensures in
-    elements_begun c.args.sheet.now c.begin_elements.new.sheet c.append_bodies.new.sheet c.args.at c.in_ok-first.first list.words list.ptrs (bodies_of (bodies_in list.items)) c.len.result c.len.ensures.value c.requires.shaped c.requires.there.0 first.0.0 first.1 first.0.2 c.in_ok-append_bodies.ensures
+    elements_begun c.args.arena.now c.begin_elements.new.arena c.append_bodies.new.arena c.args.at c.in_ok-first.first list.words list.ptrs (bodies_of (bodies_in list.items)) c.len.result c.len.ensures.value c.requires.shaped c.requires.there.0 first.0.0 first.1 first.0.2 c.in_ok-append_bodies.ensures

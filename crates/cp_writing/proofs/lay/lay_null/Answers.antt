@@ -5,7 +5,7 @@ use Rattle.cp_writing.proofs.lay.lay_null.Goals as goal
 
 pub returns : goal.returns
 returns c =
-    let A = c.args.sheet.now in
+    let A = c.args.arena.now in
     let at = c.args.at in
     let done = c.put.ensures in
     (omega arith, omega (arith, done.limits.1), done.written, within A c.put.new.self _ done.written done.limits (put-keeps A.capacity (written A) at.segment at.word 0 c.requires.there.0 c.requires.keeps), done.limits.0)

@@ -6,4 +6,4 @@ use Rattle.cp_writing.proofs.lay_list.lay_two_bytes.Goals as goal
 pub returns : goal.returns
 returns c =
     let placed = c.in_ok-place_list.ensures.0 in
-    listed c.args.sheet.now c.charge.new.self c.args.levels _ _ c.in_ok-charge.ensures c.place_list.new.sheet c.append_two_bytes.new.self c.args.at (halves c.args.items.now) _ c.append_two_bytes.result (omega arith) (omega arith) placed.0 placed.2 c.append_two_bytes.ensures
+    listed c.args.arena.now c.charge.new.self c.args.levels _ _ c.in_ok-charge.ensures c.place_list.new.arena c.append_two_bytes.new.self c.args.at (halves c.args.items.now) _ c.append_two_bytes.result (omega arith) (omega arith) placed.0 placed.2 c.append_two_bytes.ensures

@@ -41,9 +41,9 @@ impl Object for Through {
 }
 
 /// Gives the Cell that a promise comes to, once it came.
-struct Maker(Remote);
+struct ServedObject(Remote);
 
-impl Object for Maker {
+impl Object for ServedObject {
     fn call(&mut self, _method: Method, _params: Params, mut results: Results) -> Promise<(), Error> {
         let cell = self.0.clone();
         Promise::from_future(async move {
@@ -96,7 +96,7 @@ async fn own(host: &Remote) -> Result<Vec<u64>> {
 
 async fn back(host: &Remote) -> Result<Vec<u64>> {
     let (fulfiller, comes) = later();
-    let made = host.call(tails::MADE, &[], Some(&Remote::of(Maker(comes))));
+    let made = host.call(tails::MADE, &[], Some(&Remote::of(ServedObject(comes))));
     host.call(tails::HOLD, &[], Some(&promised(&made))).promise.await?;
     let promise = given(host.call(tails::GIVE, &[], None)).await?;
     let before = promise.call(GET, &[], None);

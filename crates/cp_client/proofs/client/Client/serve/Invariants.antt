@@ -4,4 +4,4 @@ use Rattle.cp_client.proofs.client.Client.serve.Given as goal
 
 -- the client went on
 abbrev pub invariant-loop : goal.invariant-loop
-invariant-loop g l = Serves g.H.Hall.hall (seen g.R.Read.remaining g.W.Write.contents l.fn.self) (seen g.R.Read.remaining g.W.Write.contents l.self)
+invariant-loop g l = Serves g.H.ObjectTable.table (seen g.R.Read.remaining g.W.Write.contents l.fn.self) (seen g.R.Read.remaining g.W.Write.contents l.self)

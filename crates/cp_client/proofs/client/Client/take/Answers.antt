@@ -8,10 +8,10 @@ use Rattle.cp_client.proofs.client.Client.take.Goals as goal
 pub returns-in-Ok : goal.returns-in-Ok
 returns-in-Ok g c =
     takes c.in-Ok.count
-    (subst (λ (l : List ℕ). Receives g.H.Hall.hall (state_of c.args.self.now.session) l 0 c.in-Ok.count (state_of c.receive.new.self)) c.bytes.ensures c.in-Ok.ensures.receives)
+    (subst (λ (l : List ℕ). Receives g.H.ObjectTable.table (state_of c.args.self.now.session) l 0 c.in-Ok.count (state_of c.receive.new.self)) c.bytes.ensures c.in-Ok.ensures.receives)
     (ap (λ (l : List ℕ). record (seen g.R.Read.remaining g.W.Write.contents (record c.args.self.now { session = c.receive.new.self })) { left = l }) c.took.ensures)
 
 pub returns-in-Err : goal.returns-in-Err
 returns-in-Err g c =
     refuses c.in-Err.field-0
-    (subst (λ (l : List ℕ). IsUntaken g.H.Hall.hall (state_of c.args.self.now.session) l 0 c.in-Err.field-0 (state_of c.receive.new.self)) c.bytes.ensures c.in-Err.ensures.untaken) refl
+    (subst (λ (l : List ℕ). IsUntaken g.H.ObjectTable.table (state_of c.args.self.now.session) l 0 c.in-Err.field-0 (state_of c.receive.new.self)) c.bytes.ensures c.in-Err.ensures.untaken) refl

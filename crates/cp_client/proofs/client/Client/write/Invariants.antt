@@ -6,7 +6,7 @@ use Rattle.cp_client.proofs.client.Client.write.Given as goal
 
 -- some was written
 abbrev pub invariant-writing : goal.invariant-writing
-invariant-writing g l = WritesOn g.H.Hall.hall (seen g.R.Read.remaining g.W.Write.contents l.fn.self) (seen g.R.Read.remaining g.W.Write.contents l.self)
+invariant-writing g l = WritesOn g.H.ObjectTable.table (seen g.R.Read.remaining g.W.Write.contents l.fn.self) (seen g.R.Read.remaining g.W.Write.contents l.self)
 
 abbrev pub decreases-writing : goal.decreases-writing
 decreases-writing g l = length (link_of (state_of l.self.session)).unwritten

@@ -47,10 +47,10 @@ returns-clause-reported g c f h =
 pub invariant_of-result : goal.invariant_of-result
 invariant_of-result g c =
     let r = c.in_ok-area.ensures.read in
-    let again = root_again _ _ _ _ r c.nesting.ensures.range c.traversal.ensures.range in
+    let reborrow = root_again _ _ _ _ r c.nesting.ensures.range c.traversal.ensures.range in
     let found = root_found c.nesting.result c.traversal.result (words_of c.lists-segments.result.now) c.args.limits r.tree (sym c.nesting.ensures.value) (sym c.traversal.ensures.value) r.root in
     let shaped = denotes_shaped _ c.segments_fit.ensures r.tree 0 0 found.denoted in
-    ((r.within, c.in_ok-area.ensures.small, ok_is_ok _ _ again), subst Shaped (sym (read-node _ _ _ again)) shaped, c.segment_at.ensures.words)
+    ((r.within, c.in_ok-area.ensures.small, ok_is_ok _ _ reborrow), subst Shaped (sym (read-node _ _ _ reborrow)) shaped, c.segment_at.ensures.words)
 
 pub returns-clause-found : goal.returns-clause-found
 returns-clause-found g c =

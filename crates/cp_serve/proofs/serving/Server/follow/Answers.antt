@@ -1,5 +1,5 @@
 use Rattle.std.proofs.Common.{refl}
-use Rattle.cp_objects.proofs.Living.{lives_none}
+use Rattle.cp_dispatch.proofs.Living.{lives_none}
 use Rattle.cp_serve.proofs.serving.Server.follow.Goals as goal
 
 pub returns-then-not-has_ended-clause-done : goal.returns-then-not-has_ended-clause-done

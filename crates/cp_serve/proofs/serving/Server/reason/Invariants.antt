@@ -3,7 +3,7 @@ use Rattle.cp_serve.specs.Matching.{reason_in}
 use Rattle.cp_serve.specs.Reached.{owed}
 use Rattle.cp_serve.proofs.serving.Server.reason.Given as goal
 
--- the notices that were taken give no reason
+-- the events that were taken give no reason
 abbrev pub invariant-noting : goal.invariant-noting
 invariant-noting l = reason_in (owed l.self).notices ≡ reason_in (owed l.fn.self).notices
 

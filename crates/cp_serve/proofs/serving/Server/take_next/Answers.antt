@@ -1,7 +1,7 @@
 use Rattle.std.proofs.Common.{ℕ, List, [], length, refl, ap, arith}
 use Rattle.std.proofs.lemmas.List.{length-drop}
 use Rattle.std.proofs.lemmas.Result.{err_from_is_err_and}
-use Rattle.cp_objects.proofs.Living.{lives_both}
+use Rattle.cp_dispatch.proofs.Living.{lives_both}
 use Rattle.cp_serve.proofs.Reaching.{rest_of_piece, takes_front, stops_short, stops_working}
 use Rattle.cp_serve.proofs.serving.Server.take_next.Goals as goal
 

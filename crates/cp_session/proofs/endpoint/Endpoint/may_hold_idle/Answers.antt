@@ -9,4 +9,4 @@ returns-then-held_imports-held g c =
 pub returns-else-held_imports-held : goal.returns-else-held_imports-held
 returns-else-held_imports-held g c =
     by_second _ _ _ _ _ _ (omega (arith, c.if-held_imports-held.false)) (c.held_imports.ensures c.args.self.now.connection) c.held-held.ensures.imports
-    (c.unknown_promises.ensures ∙ ap (λ n. g.H.Hall.hall.unknown n c.args.objects.now) c.held-held.ensures.promises)
+    (c.unknown_promises.ensures ∙ ap (λ n. g.H.ObjectTable.table.unknown n c.args.objects.now) c.held-held.ensures.promises)

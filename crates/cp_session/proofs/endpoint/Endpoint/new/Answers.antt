@@ -1,6 +1,6 @@
 use Rattle.std.proofs.Common.{Option, false, ap, ◌∙◌}
 use Rattle.cp_connection.specs.Link.{Link}
-use Rattle.cp_objects.specs.Work.{Work, begun}
+use Rattle.cp_dispatch.specs.Work.{Work, begun}
 use Rattle.cp_session.specs.declared.search.Search.{Search}
 use Rattle.cp_session.specs.Service.{new_service}
 use Rattle.cp_session.specs.declared.sweep.Sweep.{Sweep}

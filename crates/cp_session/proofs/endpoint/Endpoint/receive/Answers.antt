@@ -1,5 +1,5 @@
 use Rattle.std.proofs.lemmas.Result.{err_from_is_err_and}
-use Rattle.cp_objects.specs.WorkOf.{work_of}
+use Rattle.cp_dispatch.specs.WorkOf.{work_of}
 use Rattle.cp_session.proofs.Serving.{cut_later, few_received}
 use Rattle.cp_session.proofs.endpoint.Endpoint.receive.Goals as goal
 

@@ -1,5 +1,5 @@
-use Rattle.cp_objects.specs.WorkOf.{work_of}
-use Rattle.cp_objects.proofs.Living.{lives_both}
+use Rattle.cp_dispatch.specs.WorkOf.{work_of}
+use Rattle.cp_dispatch.proofs.Living.{lives_both}
 use Rattle.cp_session.proofs.Deciding.{after_ok}
 use Rattle.cp_session.specs.Service.{service_of}
 use Rattle.cp_session.proofs.endpoint.Endpoint.round.Goals as goal

@@ -1,7 +1,7 @@
 use Rattle.std.proofs.Common.{refl}
 use Rattle.std.proofs.lemmas.Bool.{false≢true}
 use Rattle.cp_session.specs.Sweep.{too_early, in_time}
-use Rattle.cp_objects.proofs.Living.{lives_none}
+use Rattle.cp_dispatch.proofs.Living.{lives_none}
 use Rattle.cp_session.proofs.Deciding.{after_ok}
 use Rattle.cp_session.proofs.endpoint.Endpoint.tick.Goals as goal
 

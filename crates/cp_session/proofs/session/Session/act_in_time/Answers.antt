@@ -1,5 +1,5 @@
 use Rattle.std.proofs.Common.{refl}
-use Rattle.cp_objects.proofs.Living.{lives_none}
+use Rattle.cp_dispatch.proofs.Living.{lives_none}
 use Rattle.cp_session.specs.State.{link_of, state_of}
 use Rattle.cp_session.proofs.Deciding.{after_ok}
 use Rattle.cp_session.proofs.session.Session.act_in_time.Goals as goal

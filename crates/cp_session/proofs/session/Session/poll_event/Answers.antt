@@ -1,6 +1,6 @@
 use Rattle.std.proofs.Common.{Some, None, refl, ap}
-use Rattle.cp_objects.specs.declared.notice.Notice.TheVariants as notices
-use Rattle.cp_objects.specs.WorkOf.{work_of}
+use Rattle.cp_dispatch.specs.declared.event.DispatchEvent.TheVariants as notices
+use Rattle.cp_dispatch.specs.WorkOf.{work_of}
 use Rattle.cp_session.specs.State.{state_of}
 use Rattle.cp_session.proofs.Telling.{tells_closed}
 use Rattle.cp_session.proofs.session.Session.poll_event.Goals as goal

@@ -22,13 +22,13 @@ returns-in_err-look-clause-unheard g c = err_so _ (goes_both c.loop.invariant.go
 pub returns-in_err-look-clause-unreported : goal.returns-in_err-look-clause-unreported
 returns-in_err-look-clause-unreported g c = err_so _ (rounds_both c.loop.invariant.turns c.in_err-look.ensures.unreported)
 
-pub returns-in-News-clause-hears : goal.returns-in-News-clause-hears
-returns-in-News-clause-hears g c =
-    hears_after (Some c.in-News.news) (roster c.look.new.self) c.loop.invariant.goes_on (rw c.in-News.is at c.in_ok-look.ensures.looks)
+pub returns-in-HostEvent-clause-hears : goal.returns-in-HostEvent-clause-hears
+returns-in-HostEvent-clause-hears g c =
+    hears_after (Some c.in-HostEvent.news) (roster c.look.new.self) c.loop.invariant.goes_on (rw c.in-HostEvent.is at c.in_ok-look.ensures.looks)
 
-pub returns-in-News-clause-reports : goal.returns-in-News-clause-reports
-returns-in-News-clause-reports g c =
-    reports_after (Some c.in-News.news) (connections_of g.S.HostedSession.state c.look.new.self) c.loop.invariant.turns (rw c.in-News.is at c.in_ok-look.ensures.reports)
+pub returns-in-HostEvent-clause-reports : goal.returns-in-HostEvent-clause-reports
+returns-in-HostEvent-clause-reports g c =
+    reports_after (Some c.in-HostEvent.news) (connections_of g.S.HostedSession.state c.look.new.self) c.loop.invariant.turns (rw c.in-HostEvent.is at c.in_ok-look.ensures.reports)
 
 pub returns-in-Over-clause-hears : goal.returns-in-Over-clause-hears
 returns-in-Over-clause-hears g c =
@@ -38,9 +38,9 @@ pub returns-in-Over-clause-reports : goal.returns-in-Over-clause-reports
 returns-in-Over-clause-reports g c =
     reports_after None (connections_of g.S.HostedSession.state c.look.new.self) c.loop.invariant.turns (rw c.in-Over.is at c.in_ok-look.ensures.reports)
 
-pub returns-in-News-clause-on_time : goal.returns-in-News-clause-on_time
-returns-in-News-clause-on_time g c =
-    on_time_after _ _ (now_of c.look.new.self) (Some c.in-News.news) c.loop.invariant.goes_on c.loop.invariant.on_time (rw c.in-News.is at c.in_ok-look.ensures.on_time)
+pub returns-in-HostEvent-clause-on_time : goal.returns-in-HostEvent-clause-on_time
+returns-in-HostEvent-clause-on_time g c =
+    on_time_after _ _ (now_of c.look.new.self) (Some c.in-HostEvent.news) c.loop.invariant.goes_on c.loop.invariant.on_time (rw c.in-HostEvent.is at c.in_ok-look.ensures.on_time)
 
 pub returns-in-Over-clause-on_time : goal.returns-in-Over-clause-on_time
 returns-in-Over-clause-on_time g c =

@@ -1,6 +1,0 @@
-use Rattle.std.proofs.Common.{sym}
-use Rattle.cp_client.proofs.Streaming.{is_full}
-use Rattle.cp_client.proofs.stream.Stream.make_room.Goals as goal
-
-pub returns-in-Some-clause-full : goal.returns-in-Some-clause-full
-returns-in-Some-clause-full g c = is_full g.H.Hall.hall _ _ _ _ _ _ (sym c.in-Some.ensures) c.end_oldest.ensures.unended

@@ -1,0 +1,6 @@
+pub mod Counting
+pub mod Holding
+pub mod Living
+pub mod Working
+pub mod Lending
+pub mod Dropping

@@ -1,0 +1,63 @@
+-- The calls that objects make, and what they are told.
+use Rattle.std.specs.Prelude.{◌≡◌, ◌⊎◌, ℕ, true, false, IsSome, Option, Some, None, Ok, Err}
+use Rattle.std.specs.FinMap.{get, insert, remove}
+use Rattle.cp_refs.specs.declared.outcome.Outcome.{Outcome}
+use Rattle.cp_vat_machine.specs.InUse.{caps_of}
+use Rattle.cp_vat_machine.specs.declared.event.Event.TheVariants as events
+use Rattle.cp_vat_machine.specs.declared.event.Value.TheVariants as values
+use Rattle.cp_vat_machine.specs.declared.fault.VatFault.{VatFault}
+use Rattle.cp_connection.specs.declared.fault.ConnectionFault.{ConnectionFault}
+use Rattle.cp_connection.specs.declared.fault.ConnectionFault.TheVariants as faults
+use Rattle.cp_connection.specs.Link.{Link}
+use Rattle.cp_connection.specs.Doing.{Acts}
+use Rattle.cp_objects.specs.ObjectTable.{ObjectTableKind}
+use Rattle.cp_dispatch.specs.declared.question_owner.QuestionOwner.{QuestionOwner}
+use Rattle.cp_dispatch.specs.declared.event.DispatchEvent.TheVariants as notices
+use Rattle.cp_servants.specs.declared.servant.OutgoingCall.{OutgoingCall}
+use Rattle.cp_servants.specs.Outcomes.{refused_call}
+use Rattle.cp_dispatch.specs.Work.{Work, Holds, IsDone, IsEnd, Notes}
+use Rattle.cp_dispatch.specs.PromiseRequests.{KeepsPromiseRequests}
+
+module _ {H : Type 0} (table : ObjectTableKind H) where
+  -- there is no object of this number
+  abbrev pub Lacks : ℕ → H → Type 0
+  Lacks number objects = table.holds number objects → ⊥
+
+  -- why the object of this number isn't asked for calls: none may be made, or there is no such object, or the connection ended
+  abbrev pub IsUnasked : ℕ → Work → H → Type 0
+  IsUnasked number work objects = (work.may_call ≡ false) ⊎ (Lacks number objects ⊎ IsSome work.link.fault)
+
+  -- The object of this number is told what its call of this number came to, and is given the capabilities of that; if there is none nobody is.
+  pub data Hears (number call_id : ℕ) (outcome : Outcome) (old new : Work) (objects others : H) : Type 0 where
+    by_object : Holds (caps_of outcome) old new → table.tells number call_id outcome objects others → Hears number call_id outcome old new objects others
+    by_none : Lacks number objects → new ≡ old → others ≡ objects → Hears number call_id outcome old new objects others
+
+  -- The object of this number says which call it makes next, and did something of promises perhaps. If it isn't asked, it makes none, and none of those that it
+  -- was yet to make.
+  pub data NextCall (number : ℕ) (old : Work) (next_call : Option OutgoingCall) (new : Work) (objects others : H) : Type 0 where
+    next_calls : {between : H} (link : Link) → old.may_call ≡ true → old.link.fault ≡ None → table.next_calls number next_call objects between
+        → KeepsPromiseRequests table old.link link between others → new ≡ record old { link = link } → NextCall number old next_call new objects others
+    is_unasked : IsUnasked number old objects → next_call ≡ None → new ≡ old → table.drops_next_calls number objects others → NextCall number old next_call new objects others
+
+  -- A call of the object of this number is made: it is a question, whose outcome the object will be told; or the vat refuses it, and the object is told so; or
+  -- the connection had ended.
+  pub data MakesCall (number : ℕ) (next_call : OutgoingCall) (old new : Work) (objects others : H) : Type 0 where
+    is_made : (question : ℕ) (link : Link) → Acts old.link (events.Call next_call.cap next_call.request) (Ok (values.Question question)) link
+        → new ≡ record old { link = link; asked = insert old.asked question (record { number = number; call_id = next_call.call_id }) } → others ≡ objects → MakesCall number next_call old new objects others
+    is_refused : (refusal : VatFault) (link : Link) → Acts old.link (events.Call next_call.cap next_call.request) (Err (faults.Refused refusal)) link
+        → Hears number next_call.call_id refused_call (record old { link = link }) new objects others → MakesCall number next_call old new objects others
+    had_ended : (fault : ConnectionFault) (link : Link) → IsEnd fault → Acts old.link (events.Call next_call.cap next_call.request) (Err fault) link
+        → new ≡ record old { link = link } → others ≡ objects → MakesCall number next_call old new objects others
+
+  -- The calls of the object of this number are made, as they mean to the vat, one after another, until it makes no more.
+  pub data MakesCalls (number : ℕ) : Work → Work → H → H → Type 0 where
+    makes_none : {old new : Work} {objects others : H} → NextCall number old None new objects others → MakesCalls number old new objects others
+    makes_one : {old asked mid new : Work} {objects between last others : H} (next_call : OutgoingCall) → NextCall number old (Some next_call) asked objects between
+        → MakesCall number (table.means_call next_call between) asked mid between last → MakesCalls number mid new last others → MakesCalls number old new objects others
+
+  -- An outcome is handed back: to the object whose call it is of, whose question is finished, and which may make calls then; or it is noted for the user.
+  pub data HandsBack (question : ℕ) (outcome : Outcome) (old new : Work) (objects others : H) : Type 0 where
+    to_user : get old.asked question ≡ None → Notes (notices.Settled question outcome) old new → others ≡ objects → HandsBack question outcome old new objects others
+    to_object : {told : Work} {between : H} (owner : QuestionOwner) (link : Link) → get old.asked question ≡ Some owner → IsDone old.link (events.Finish question) link
+        → Hears owner.number owner.call_id outcome (record old { link = link; asked = remove old.asked question }) told objects between
+        → MakesCalls owner.number told new between others → HandsBack question outcome old new objects others

@@ -1,0 +1,11 @@
+pub mod Holders
+pub mod Work
+pub mod PromiseRequests
+pub mod Calling
+pub mod Rounds
+pub mod Idle
+pub mod Receiving
+pub mod WorkOf
+pub mod Noticed
+pub mod Dropping
+pub mod Laws

@@ -1,0 +1,36 @@
+-- What bytes of the peer do to a connection and its objects.
+use Rattle.std.specs.Prelude.{◌≡◌, ◌↔◌, ℕ, Bool, true, List, Option, Some, None}
+use Rattle.cp_frame.specs.Reader.{taken_of}
+use Rattle.cp_vat.specs.declared.borrowed_call.BorrowedCall.{BorrowedCall}
+use Rattle.cp_vat.specs.Lending.{asked_by}
+use Rattle.cp_connection.specs.declared.fault.ConnectionFault.{ConnectionFault}
+use Rattle.cp_connection.specs.declared.fault.ConnectionFault.TheVariants as faults
+use Rattle.cp_connection.specs.Lending.{delivered}
+use Rattle.cp_connection.specs.Link.{Link}
+use Rattle.cp_connection.specs.Receiving as connection
+use Rattle.cp_objects.specs.ObjectTable.{ObjectTableKind}
+use Rattle.cp_servants.specs.declared.servant.Reply.{Reply}
+use Rattle.cp_dispatch.specs.Rounds.{Gives, Handles, WorksOff}
+use Rattle.cp_dispatch.specs.Work.{Work, Lives}
+
+module _ {H : Type 0} (table : ObjectTableKind H) where
+  -- The connection took the first bytes of a piece, and it is said whether a frame ended with them. What then happened was worked off, and nothing else was
+  -- done with the connection.
+  abbrev pub Receives : Work → List ℕ → ℕ → Bool → Work → H → H → Type 0
+  Receives old piece count has_ended new objects others =
+      (link : Link) × connection.Receives old.link piece count link × ((has_ended ≡ true) ↔ (taken_of link.reading ≡ 0))
+      × WorksOff table (record old { link = link }) new objects others × Lives link new.link
+
+  -- a call that is lent is given to its object, which replies this
+  abbrev pub GivesLent : BorrowedCall → Reply → Work → Work → H → H → Type 0
+  GivesLent lent reply old new objects others = Gives table lent.object lent.ticket (asked_by lent) reply old new objects others
+
+  -- a call that is lent is done as one that was delivered, if there is one
+  abbrev pub HandlesLent : Option BorrowedCall → Work → Work → H → H → Type 0
+  HandlesLent (Some lent) old new objects others = Handles table (delivered lent) old new objects others
+  HandlesLent None old new objects others = (new ≡ old) × (others ≡ objects)
+
+-- Why a piece isn't taken to the end of a message and what follows of it: it isn't received, and no object was called; or memory ran out for what follows.
+pub data IsCutShort {H : Type 0} (old : Link) (piece : List ℕ) (fault : ConnectionFault) (new : Link) (objects others : H) : Type 0 where
+  is_unreceived : (taken : List ℕ) → connection.IsUnreceived old piece taken fault new → others ≡ objects → IsCutShort old piece fault new objects others
+  ran_out : (count : ℕ) (mid : Link) → connection.Receives old piece count mid → Lives mid new → fault ≡ faults.OutOfMemory → IsCutShort old piece fault new objects others

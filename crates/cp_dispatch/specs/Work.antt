@@ -1,0 +1,126 @@
+-- A connection, with what is still to be done for its objects.
+use Rattle.std.specs.Prelude.{◌≡◌, ◌≢◌, ℕ, ◌<◌, ◌≤◌, ◌-◌, Bool, if◌then◌else◌, List, [], ◌∷◌, ◌++◌, Result, Ok, Err}
+use Rattle.std.specs.FinMap.{insert, remove, empty}
+use Rattle.cp_tables.specs.Table.{Table}
+use Rattle.cp_refs.specs.declared.call.Origin.{Origin}
+use Rattle.cp_refs.specs.declared.cap.Cap.{Cap}
+use Rattle.cp_refs.specs.declared.outcome.Outcome.{Outcome}
+use Rattle.cp_vat_machine.specs.declared.event.Event.{Event}
+use Rattle.cp_vat_machine.specs.declared.event.Event.TheVariants as events
+use Rattle.cp_vat_machine.specs.declared.event.Value.{Value}
+use Rattle.cp_vat_machine.specs.declared.event.Value.TheVariants as values
+use Rattle.cp_vat_machine.specs.declared.fault.VatFault.{VatFault}
+use Rattle.cp_vat_machine.specs.declared.fault.VatFault.TheVariants as refusals
+use Rattle.cp_connection.specs.declared.fault.ConnectionFault.{ConnectionFault}
+use Rattle.cp_connection.specs.declared.fault.ConnectionFault.TheVariants as faults
+use Rattle.cp_connection.specs.declared.event.ConnectionEvent.{ConnectionEvent}
+use Rattle.cp_connection.specs.Link.{Link}
+use Rattle.cp_connection.specs.Doing.{Acts}
+use Rattle.cp_connection.specs.Lives.{Life}
+use Rattle.cp_dispatch.specs.declared.question_owner.QuestionOwner.{QuestionOwner}
+use Rattle.cp_dispatch.specs.declared.event.DispatchEvent.{DispatchEvent}
+use Rattle.cp_servants.specs.declared.servant.Reply.{Reply}
+use Rattle.cp_servants.specs.declared.servant.Reply.TheVariants as replies
+use Rattle.cp_servants.specs.Outcomes.{bad_outcome, named_imports}
+use Rattle.cp_dispatch.specs.Holders.{holders, held_by_more}
+
+-- The connection, whether objects may call, the calls whose objects answer later, by their tickets, the calls that objects made, by their questions, how many
+-- objects hold each import, the imports that objects gave up and that none held then, and what is no object's business and wasn't taken.
+pub record Work : Type 0 where
+  pub link : Link
+  pub may_call : Bool
+  pub awaited : Table Origin
+  pub asked : Table QuestionOwner
+  pub held : Table ℕ
+  pub given_up : List ℕ
+  pub notices : List DispatchEvent
+
+-- nothing is owed yet
+abbrev pub begun : Bool → Link → Work
+begun may_call link = record { link = link; may_call = may_call; awaited = empty; asked = empty; held = empty; given_up = []; notices = [] }
+
+-- Of the connection nothing was done but calls of the application, and that it was asked what happened: no byte of the peer was taken, and none written.
+abbrev pub Lives : Link → Link → Type 0
+Lives old new = (handed : List ConnectionEvent) × Life old [] [] handed new
+
+-- an event more wasn't taken
+abbrev pub Notes : DispatchEvent → Work → Work → Type 0
+Notes notice old new = new ≡ record old { notices = old.notices ++ notice ∷ [] }
+
+-- An object is given these capabilities. Where objects may call, each import that they name has a holder more.
+abbrev pub Holds : List Cap → Work → Work → Type 0
+Holds caps old new = new ≡ record old { held = if old.may_call then held_by_more old.held (named_imports caps) else old.held }
+
+-- an import more is to be released
+abbrev pub Frees : ℕ → Work → Work → Type 0
+Frees i old new = new ≡ record old { given_up = old.given_up ++ i ∷ [] }
+
+-- An object gives an import up. If others hold it, there is one holder less; and else it is held no more, and is to be released.
+pub data LetsGo (i : ℕ) (old new : Work) : Type 0 where
+  others_hold : 1 < holders old.held i → new ≡ record old { held = insert old.held i (holders old.held i - 1) } → LetsGo i old new
+  none_holds : holders old.held i ≤ 1 → Frees i (record old { held = remove old.held i }) new → LetsGo i old new
+
+-- an object gives imports up, one after another
+abbrev pub GivesUp : List ℕ → Work → Work → Type 0
+GivesUp [] old new = new ≡ old
+GivesUp (i ∷ more) old new = (mid : Work) × LetsGo i old mid × GivesUp more mid new
+
+-- memory sufficed
+abbrev pub HadMemory : Result Value ConnectionFault → Type 0
+HadMemory (Ok value) = Unit {0}
+HadMemory (Err fault) = fault ≢ faults.OutOfMemory
+
+-- the connection had ended, and not for an allocation failure
+abbrev pub IsEnd : ConnectionFault → Type 0
+IsEnd faults.Closed = Unit {0}
+IsEnd (faults.Unreadable at refusal) = Unit {0}
+IsEnd faults.OutOfMemory = ⊥
+IsEnd (faults.Refused refusal) = ⊥
+
+-- A call of the application was made, whatever came of it, but that memory ran out.
+pub record IsDone (old : Link) (event : Event) (new : Link) : Type 0 where
+  pub result : Result Value ConnectionFault
+  pub memory : HadMemory result
+  pub acts : Acts old event result new
+
+-- A call is answered: with its outcome; or not any more, as the connection ended; or, where the vat refuses that outcome, with an exception, if that isn't
+-- refused too.
+pub data Answers (old : Link) (origin : Origin) (outcome : Outcome) (new : Link) : Type 0 where
+  is_taken : Acts old (events.Answer origin outcome) (Ok values.Nothing) new → Answers old origin outcome new
+  had_ended : (fault : ConnectionFault) → IsEnd fault → Acts old (events.Answer origin outcome) (Err fault) new → Answers old origin outcome new
+  is_replaced : (refusal : VatFault) (mid : Link) → Acts old (events.Answer origin outcome) (Err (faults.Refused refusal)) mid
+      → IsDone mid (events.Answer origin bad_outcome) new → Answers old origin outcome new
+
+-- What follows an object's answer to a call: at once the object gives imports up, and the call is answered with what its outcome means to the vat; later it
+-- is awaited.
+abbrev pub Replies : (Outcome → Outcome) → Work → Origin → ℕ → Reply → Work → Type 0
+Replies means old origin ticket (replies.Now outcome gives_up) new =
+    (mid : Work) × (link : Link) × GivesUp gives_up old mid × Answers mid.link origin (means outcome) link × (new ≡ record mid { link = link })
+Replies means old origin ticket replies.Later new = new ≡ record old { awaited = insert old.awaited ticket origin }
+
+-- An import whose release was refused stays if it is still in use, and else is dropped.
+pub data Stays (i : ℕ) (refusal : VatFault) (old new : Work) : Type 0 where
+  is_used : refusal ≡ refusals.InUse → Frees i old new → Stays i refusal old new
+  is_dropped : refusal ≢ refusals.InUse → new ≡ old → Stays i refusal old new
+
+-- An import that was given up is tried: it is released; or that is refused; or the connection had ended, and it is dropped.
+pub data Tries (old : Work) (i : ℕ) (new : Work) : Type 0 where
+  is_released : (link : Link) → Acts old.link (events.Release i) (Ok values.Nothing) link → new ≡ record old { link = link } → Tries old i new
+  is_refused : (refusal : VatFault) (link : Link) → Acts old.link (events.Release i) (Err (faults.Refused refusal)) link
+      → Stays i refusal (record old { link = link }) new → Tries old i new
+  had_ended : (fault : ConnectionFault) (link : Link) → IsEnd fault → Acts old.link (events.Release i) (Err fault) link → new ≡ record old { link = link }
+      → Tries old i new
+
+-- An import that was given up is tried; but where an object holds it again it is dropped, until that gives it up.
+pub data TriesUnheld (old : Work) (i : ℕ) (new : Work) : Type 0 where
+  is_held : 1 ≤ holders old.held i → new ≡ old → TriesUnheld old i new
+  is_free : holders old.held i ≡ 0 → Tries old i new → TriesUnheld old i new
+
+-- imports are tried one after another
+abbrev pub TriesEach : Work → List ℕ → Work → Type 0
+TriesEach old [] new = new ≡ old
+TriesEach old (i ∷ more) new = (mid : Work) × TriesUnheld old i mid × TriesEach mid more new
+
+-- All imports that were given up are tried, but for those that are held again. Those that are still in use stay.
+abbrev pub Releases : Work → Work → Type 0
+Releases old new = TriesEach (record old { given_up = [] }) old.given_up new

@@ -1,0 +1,14 @@
+//! What is done for the objects of a connection: its peer's calls go to them, and what they answer goes back.
+#![tactic(auto)]
+
+mod dispatcher;
+mod event;
+mod holders;
+mod idle;
+mod laws;
+mod promise_requests;
+mod question_owner;
+
+pub use dispatcher::Dispatcher;
+pub use event::DispatchEvent;
+pub use laws::waits_in_order;

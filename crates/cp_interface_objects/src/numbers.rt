@@ -1,0 +1,178 @@
+//! Lists of signed numbers, of floating-point numbers and of enumerants, to be written.
+
+ghost use Rattle.std.specs.Prelude.{◌≡◌, ◌≤◌, ◌^◌, ℕ, Err, IfOk, length, map, to_bits};
+ghost use Rattle.cp_tree.specs.Node.{Node};
+ghost use Rattle.std.specs.Int.{cast_unsigned, w8, w16, w32, w64};
+ghost use Rattle.std.specs.Float.{binary32, binary64};
+ghost use Rattle.cp_builder.specs.Drafts.{bytes_tree, halves_tree, quads_tree, words_tree};
+ghost use Rattle.cp_builder.specs.declared.fault.BuildError.TheVariants.{TooLong};
+
+use crate::lists::ListValue;
+use cp_builder::{BuildError, bytes_of, four_bytes_of, two_bytes_of, words_of};
+use cp_tree::Whole;
+use std::alloc::Global;
+use std::num::{f32_to_bits_with_nan, f64_to_bits_with_nan};
+
+/// A list of signed numbers of 8 bits.
+pub fn signed8_of(alloc: Global, items: &[i8]) -> Result<Whole, BuildError>
+    ensures list { IfOk result (λ whole. whole ≡ bytes_tree (map (cast_unsigned w8) items.now)) }
+    ensures long { result ≡ Err TooLong → 2 ^ 29 ≤ length items.now }
+{
+    bytes_of(items.iter().map(|n| bits8(*n)).collect(alloc)?)
+}
+
+/// A list of signed numbers of 16 bits.
+pub fn signed16_of(alloc: Global, items: &[i16]) -> Result<Whole, BuildError>
+    ensures list { IfOk result (λ whole. whole ≡ halves_tree (map (cast_unsigned w16) items.now)) }
+    ensures long { result ≡ Err TooLong → 2 ^ 29 ≤ length items.now }
+{
+    two_bytes_of(items.iter().map(|n| bits16(*n)).collect(alloc)?)
+}
+
+/// A list of signed numbers of 32 bits.
+pub fn signed32_of(alloc: Global, items: &[i32]) -> Result<Whole, BuildError>
+    ensures list { IfOk result (λ whole. whole ≡ quads_tree (map (cast_unsigned w32) items.now)) }
+    ensures long { result ≡ Err TooLong → 2 ^ 29 ≤ length items.now }
+{
+    four_bytes_of(items.iter().map(|n| bits32(*n)).collect(alloc)?)
+}
+
+/// A list of signed numbers of 64 bits.
+pub fn signed64_of(alloc: Global, items: &[i64]) -> Result<Whole, BuildError>
+    ensures list { IfOk result (λ whole. whole ≡ words_tree (map (cast_unsigned w64) items.now)) }
+    ensures long { result ≡ Err TooLong → 2 ^ 29 ≤ length items.now }
+{
+    words_of(items.iter().map(|n| bits64(*n)).collect(alloc)?)
+}
+
+/// A list of floating-point numbers of 32 bits.
+pub fn float32_of(alloc: Global, items: &[f32]) -> Result<Whole, BuildError>
+    ensures list { IfOk result (λ whole. whole ≡ quads_tree (map (to_bits binary32) items.now)) }
+    ensures long { result ≡ Err TooLong → 2 ^ 29 ≤ length items.now }
+{
+    four_bytes_of(
+        items
+            .iter()
+            .map(|n| f32_to_bits_with_nan(*n))
+            .collect(alloc)?,
+    )
+}
+
+/// A list of floating-point numbers of 64 bits.
+pub fn float64_of(alloc: Global, items: &[f64]) -> Result<Whole, BuildError>
+    ensures list { IfOk result (λ whole. whole ≡ words_tree (map (to_bits binary64) items.now)) }
+    ensures long { result ≡ Err TooLong → 2 ^ 29 ≤ length items.now }
+{
+    words_of(
+        items
+            .iter()
+            .map(|n| f64_to_bits_with_nan(*n))
+            .collect(alloc)?,
+    )
+}
+
+/// An enum of a schema.
+pub trait Enumerant {
+    /// Its number.
+    ghost number: { Self → ℕ };
+
+    /// Its number.
+    fn as_number(&self) -> u16
+        ensures { result ≡ number self.now };
+}
+
+/// A list of enumerants.
+pub fn enumerants_of<E: Enumerant>(alloc: Global, items: &[E]) -> Result<Whole, BuildError>
+    ensures list { IfOk result (λ whole. whole ≡ halves_tree (map E.number items.now)) }
+    ensures long { result ≡ Err TooLong → 2 ^ 29 ≤ length items.now }
+{
+    two_bytes_of(items.iter().map(|item| item.as_number()).collect(alloc)?)
+}
+
+impl ListValue for Vec<i8> {
+    ghost tree = { λ l. bytes_tree (map (cast_unsigned w8) l.items) };
+
+    ghost is_long = { λ l. 2 ^ 29 ≤ length l.items };
+
+    fn into_list(self, alloc: Global) -> Result<Whole, BuildError> {
+        signed8_of(alloc, self.as_slice())
+    }
+}
+
+impl ListValue for Vec<i16> {
+    ghost tree = { λ l. halves_tree (map (cast_unsigned w16) l.items) };
+
+    ghost is_long = { λ l. 2 ^ 29 ≤ length l.items };
+
+    fn into_list(self, alloc: Global) -> Result<Whole, BuildError> {
+        signed16_of(alloc, self.as_slice())
+    }
+}
+
+impl ListValue for Vec<i32> {
+    ghost tree = { λ l. quads_tree (map (cast_unsigned w32) l.items) };
+
+    ghost is_long = { λ l. 2 ^ 29 ≤ length l.items };
+
+    fn into_list(self, alloc: Global) -> Result<Whole, BuildError> {
+        signed32_of(alloc, self.as_slice())
+    }
+}
+
+impl ListValue for Vec<i64> {
+    ghost tree = { λ l. words_tree (map (cast_unsigned w64) l.items) };
+
+    ghost is_long = { λ l. 2 ^ 29 ≤ length l.items };
+
+    fn into_list(self, alloc: Global) -> Result<Whole, BuildError> {
+        signed64_of(alloc, self.as_slice())
+    }
+}
+
+impl ListValue for Vec<f32> {
+    ghost tree = { λ l. quads_tree (map (to_bits binary32) l.items) };
+
+    ghost is_long = { λ l. 2 ^ 29 ≤ length l.items };
+
+    fn into_list(self, alloc: Global) -> Result<Whole, BuildError> {
+        float32_of(alloc, self.as_slice())
+    }
+}
+
+impl ListValue for Vec<f64> {
+    ghost tree = { λ l. words_tree (map (to_bits binary64) l.items) };
+
+    ghost is_long = { λ l. 2 ^ 29 ≤ length l.items };
+
+    fn into_list(self, alloc: Global) -> Result<Whole, BuildError> {
+        float64_of(alloc, self.as_slice())
+    }
+}
+
+/// The bits of a signed number of 8 bits.
+fn bits8(number: i8) -> u8
+    ensures { result ≡ cast_unsigned w8 number }
+{
+    number.cast_unsigned()
+}
+
+/// The bits of a signed number of 16 bits.
+fn bits16(number: i16) -> u16
+    ensures { result ≡ cast_unsigned w16 number }
+{
+    number.cast_unsigned()
+}
+
+/// The bits of a signed number of 32 bits.
+fn bits32(number: i32) -> u32
+    ensures { result ≡ cast_unsigned w32 number }
+{
+    number.cast_unsigned()
+}
+
+/// The bits of a signed number of 64 bits.
+fn bits64(number: i64) -> u64
+    ensures { result ≡ cast_unsigned w64 number }
+{
+    number.cast_unsigned()
+}

@@ -1,0 +1,40 @@
+//! Calls, as an object's methods get them.
+
+ghost use Rattle.std.specs.Prelude.{◌≡◌};
+ghost use Rattle.cp_fields.specs.Pointers.{struct_field};
+
+use cp_fields::{PointerReader, StructReader, WrongKind};
+use cp_refs::{Caps, Request};
+
+/// A call of a method.
+pub struct MethodCall {
+    /// No other call of the connection has it. An answer that is given later names it.
+    pub ticket: u64,
+    pub request: Request,
+}
+
+// Not derived: a crate that lets one go calls this function, and need not prove the drop of all that it holds.
+impl Drop for MethodCall {
+    fn drop(self) {
+        let MethodCall {
+            ticket: _,
+            request: _,
+        } = self;
+    }
+}
+
+impl MethodCall {
+    /// The struct of its params.
+    pub fn params(&self) -> Result<StructReader<'_>, WrongKind>
+        ensures { result ≡ struct_field self.now.request.content }
+    {
+        StructReader::of(PointerReader::of_whole(&self.request.content))
+    }
+
+    /// The table of the capabilities that its params name.
+    pub fn caps(&self) -> &Caps
+        ensures { result.now ≡ self.now.request.caps }
+    {
+        &self.request.caps
+    }
+}

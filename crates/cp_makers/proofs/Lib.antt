@@ -1,4 +1,0 @@
-pub mod Answering
-pub mod Polling
-pub mod Renaming
-pub mod Sets

@@ -1,6 +1,0 @@
-use Rattle.std.proofs.Common.{sym}
-use Rattle.std.specs.FinMap.{len-entries}
-use Rattle.cp_makers.proofs.family.Family.len.Goals as goal
-
-pub returns : goal.returns
-returns g c = rw (c.len.ensures.value, c.iter.ensures) (sym (len-entries _))

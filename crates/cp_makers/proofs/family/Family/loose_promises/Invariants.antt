@@ -1,7 +1,0 @@
-use Rattle.std.proofs.Common.{◌≡◌, ◌++◌}
-use Rattle.cp_makers.specs.Family.{kin_of, loose_among, loose_of}
-use Rattle.cp_makers.proofs.family.Family.loose_promises.Given as goal
-
--- those that were found, before those of the rest, are all
-abbrev pub invariant-loop-id : goal.invariant-loop-id
-invariant-loop-id g l = l.loose.items ++ loose_among (kin_of l.self) l.id-iterator ≡ loose_of (kin_of l.self)

@@ -1,5 +1,0 @@
-use Rattle.cp_tables.proofs.TableLemmas.{listed-insert}
-use Rattle.cp_makers.proofs.lent.Lent.put.Goals as goal
-
-pub returns : goal.returns
-returns c = rw (← c.self.view_is) (listed-insert c.self.inside.named c.insert.new.self c.args.ticket c.args.named c.in_ok-insert.ensures.updates)

@@ -1,6 +1,0 @@
-use Rattle.std.proofs.Common.{sym, ◌∙◌}
-use Rattle.cp_makers.proofs.Sets.{contains-seen}
-use Rattle.cp_makers.proofs.number_set.NumberSet.contains.Goals as goal
-
-pub returns : goal.returns
-returns c = rw (← c.self.view_is) (c.contains.ensures ∙ sym (contains-seen c.self.inside.numbers c.args.number))

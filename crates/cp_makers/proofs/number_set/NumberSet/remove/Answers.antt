@@ -1,5 +1,0 @@
-use Rattle.cp_makers.proofs.Sets.{seen-remove}
-use Rattle.cp_makers.proofs.number_set.NumberSet.remove.Goals as goal
-
-pub returns : goal.returns
-returns c = rw (← c.self.view_is) (seen-remove c.self.inside.numbers c.remove.new.self c.args.number c.remove.ensures.updates)

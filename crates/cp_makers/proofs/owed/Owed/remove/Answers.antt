@@ -1,5 +1,0 @@
-use Rattle.cp_tables.proofs.TableLemmas.{listed-remove}
-use Rattle.cp_makers.proofs.owed.Owed.remove.Goals as goal
-
-pub returns : goal.returns
-returns c = rw (← c.self.view_is) (listed-remove c.self.inside.owners c.remove.new.self c.args.ticket c.remove.ensures.updates)

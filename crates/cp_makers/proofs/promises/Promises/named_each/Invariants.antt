@@ -1,7 +1,0 @@
-use Rattle.std.proofs.Common.{◌≡◌, ◌++◌, map, take, drop}
-use Rattle.cp_makers.specs.Promises.{named}
-use Rattle.cp_makers.proofs.promises.Promises.named_each.Given as goal
-
--- those before the index are renamed, and the others are as they were
-abbrev pub invariant-loop-cap : goal.invariant-loop-cap
-invariant-loop-cap l = l.cap-items ≡ map (named l.self.names) (take l.cap-index l.fn.caps) ++ drop l.cap-index l.fn.caps

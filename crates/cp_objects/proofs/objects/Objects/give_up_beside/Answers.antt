@@ -1,6 +1,0 @@
-use Rattle.cp_objects.proofs.Working.{after_ok}
-use Rattle.cp_objects.proofs.objects.Objects.give_up_beside.Goals as goal
-
-pub returns : goal.returns
-returns g c =
-    after_ok c.give_up.result c.give_up.ensures (λ gives link. (c.take_given_up-imports.result, c.take_given_up-imports.ensures, gives link))

@@ -1,0 +1,64 @@
+-- What an object may do beside what it answers.
+use Rattle.std.specs.Prelude.{ℕ, ◌+◌, ◌-◌, ◌^◌, min, List, [], ◌∷◌, ◌++◌, length}
+use Rattle.cp_refs.specs.declared.cap.Cap.{Cap}
+use Rattle.cp_refs.specs.declared.cap.Cap.TheVariants as caps
+use Rattle.cp_objects.specs.declared.context.ObjectEffect.{ObjectEffect}
+use Rattle.cp_objects.specs.declared.context.ObjectEffect.TheVariants as effects
+use Rattle.cp_objects.specs.declared.context.Context.{Context}
+use Rattle.cp_objects.specs.declared.context.NewCap.{NewCap}
+use Rattle.cp_objects.specs.declared.context.NewCap.TheVariants as new_caps
+use Rattle.cp_objects.specs.declared.waker.Waker.{Waker}
+
+-- Which object of which session does something, and when; the number that the first of what it makes gets; the objects and promises that it made, in order,
+-- and what else it did, in order.
+pub record ContextState (M : Type 0) : Type 0 where
+  pub this : Waker
+  pub now : ℕ
+  pub next : ℕ
+  pub made : List (NewCap M)
+  pub effects : List ObjectEffect
+
+module _ {M : Type 0} where
+  abbrev pub context_of : Context M → ContextState M
+  context_of context = record { this = context.this; now = context.time; next = context.next; made = context.made.items; effects = context.effects.items }
+
+  -- the number of the next object or promise that it makes
+  abbrev pub next_number : ContextState M → ℕ
+  next_number place = place.next + length place.made
+
+  -- it made one object more
+  abbrev pub with_made : ContextState M → M → ContextState M
+  with_made place object = record place { made = place.made ++ new_caps.Object object ∷ [] }
+
+  -- it made one promise more
+  abbrev pub with_promise : ContextState M → ContextState M
+  with_promise place = record place { made = place.made ++ new_caps.Promise ∷ [] }
+
+  -- it did one thing more
+  abbrev pub with_effect : ContextState M → ObjectEffect → ContextState M
+  with_effect place effect = record place { effects = place.effects ++ effect ∷ [] }
+
+  -- an object of this end or a promise of one is kept
+  abbrev pub keeping : Cap → ContextState M → ContextState M
+  keeping (caps.Object k) place = with_effect place (effects.Keep place.this.object k)
+  keeping other place = place
+
+  -- one of these is kept by an object, or an import is handed over to it
+  abbrev pub keeping_for : Cap → Cap → ContextState M → ContextState M
+  keeping_for (caps.Object keeper) (caps.Object k) place = with_effect place (effects.Keep keeper k)
+  keeping_for (caps.Object keeper) (caps.Import i) place = with_effect place (effects.HandOver keeper i)
+  keeping_for object other place = place
+
+  -- one of these is kept once less, or an import is given up
+  abbrev pub giving_up : Cap → ContextState M → ContextState M
+  giving_up (caps.Object k) place = with_effect place (effects.GiveUp k)
+  giving_up (caps.Import i) place = with_effect place (effects.GiveUpImport i)
+  giving_up other place = place
+
+-- the time this much later, if there is one
+abbrev pub time_after : ℕ → ℕ → ℕ
+time_after now milliseconds = min (now + milliseconds) (2 ^ 64 - 1)
+
+-- where nothing was done
+abbrev pub begun : {M : Type 0} → ContextState M
+begun = record { this = record { session = 0; object = 0 }; now = 0; next = 0; made = []; effects = [] }

@@ -1,0 +1,37 @@
+-- The objects of a connection.
+use Rattle.std.specs.Prelude.{ℕ, ◌+◌, ◌-◌, ◌^◌, Bool, true, min, nat_lt, List, [], ◌∷◌, ◌++◌, length, Option, Some, None}
+use Rattle.std.specs.Option.{option_map_or}
+use Rattle.std.specs.FinMap.{get}
+use Rattle.cp_tables.specs.Table.{Table}
+use Rattle.cp_servants.specs.declared.servant.OutgoingCall.{OutgoingCall}
+use Rattle.cp_objects.specs.declared.object_entry.ObjectEntry.{ObjectEntry}
+
+-- an object that did nothing
+abbrev pub newborn : {A : Type 0} → A → ObjectEntry A
+newborn object = record { object = object; asked = 0; next_calls = []; holds = []; keeps = []; alarm = None }
+
+-- one more, as far as 64 bits go
+abbrev pub one_more : ℕ → ℕ
+one_more n = min (n + 1) (2 ^ 64 - 1)
+
+-- the calls that the object of this number is yet to make
+abbrev pub next_calls_of : {A : Type 0} → ℕ → Table (ObjectEntry A) → List OutgoingCall
+next_calls_of number members = option_map_or (λ member. member.next_calls) (get members number) []
+
+-- It is to make one call more, whose outcome it waits for.
+abbrev pub to_call : {A : Type 0} → OutgoingCall → ObjectEntry A → ObjectEntry A
+to_call next_call m = record m { next_calls = m.next_calls ++ next_call ∷ []; asked = one_more m.asked }
+
+-- The calls that it was yet to make aren't made, so it waits for no outcome of these.
+abbrev pub without_next_calls : {A : Type 0} → ObjectEntry A → ObjectEntry A
+without_next_calls m = record m { next_calls = []; asked = m.asked - length m.next_calls }
+
+-- the earlier of two times
+abbrev pub earlier : Option ℕ → ℕ → ℕ
+earlier None time = time
+earlier (Some first) time = min first time
+
+-- that time, if there is one, is to come yet
+abbrev pub is_later : ℕ → Option ℕ → Bool
+is_later now None = true
+is_later now (Some time) = nat_lt now time

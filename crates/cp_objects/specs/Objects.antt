@@ -1,0 +1,320 @@
+-- The objects of a connection, with those that they make.
+use Rattle.std.specs.Prelude.{◌≡◌, ◌≢◌, ℕ, ◌+◌, ◌-◌, ◌==◌, ◌&&◌, ◌||◌, Bool, if◌then◌else◌, nat_lt, not, List, [], ◌∷◌, ◌++◌, drop, slice_get, Option, Some, None, is_some}
+use Rattle.std.specs.List.{list_any}
+use Rattle.std.specs.Option.{option_map_or}
+use Rattle.std.specs.FinMap.{get, insert, remove, empty, values, entries}
+use Rattle.std.specs.FinSet as set
+use Rattle.cp_tables.specs.Table.{Table, with_change}
+use Rattle.cp_refs.specs.declared.cap.Cap.{Cap}
+use Rattle.cp_refs.specs.declared.call.Request.{Request}
+use Rattle.cp_refs.specs.declared.outcome.Outcome.{Outcome}
+use Rattle.cp_vat_machine.specs.InUse.{caps_of}
+use Rattle.cp_servants.specs.declared.servant.OutgoingCall.{OutgoingCall}
+use Rattle.cp_servants.specs.declared.servant.Reply.{Reply}
+use Rattle.cp_servants.specs.declared.servant.Reply.TheVariants as replies
+use Rattle.cp_servants.specs.declared.servant.Settled.{Settled}
+use Rattle.cp_servants.specs.Outcomes.{named_imports}
+use Rattle.cp_objects.specs.declared.context.ObjectEffect.{ObjectEffect}
+use Rattle.cp_objects.specs.declared.context.ObjectEffect.TheVariants as effects
+use Rattle.cp_objects.specs.declared.context.NewCap.{NewCap}
+use Rattle.cp_objects.specs.declared.context.NewCap.TheVariants as new_caps
+use Rattle.cp_objects.specs.declared.object_entry.ObjectEntry.{ObjectEntry}
+use Rattle.cp_objects.specs.declared.waker.Waker.{Waker}
+use Rattle.cp_objects.specs.declared.objects.Objects.{Objects}
+use Rattle.cp_objects.specs.Context.{ContextState, begun, context_of}
+use Rattle.cp_objects.specs.ServedObject.{ServedObjectKind}
+use Rattle.cp_objects.specs.Members.{next_calls_of, earlier, is_later, newborn, to_call}
+use Rattle.cp_objects.specs.Numbers.{Numbers, is_among, is_number, local_in, without, without_each}
+use Rattle.cp_objects.specs.Promises.{Promised, adopted_each, named, none_promised, promised_of, promising, resolving, with_outcome, with_request}
+
+-- The objects by their numbers; where they are, and which number the next one gets; below which number they stay; which are to be polled; who owes the answer
+-- of which call; which objects and promises the params of such a call name; their promises; the imports that they gave up beside what they answered, in order;
+-- who is to be woken elsewhere, in order; and the time before which none is to be woken here.
+pub record ObjectsState (A : Type 0) : Type 0 where
+  pub members : Table (ObjectEntry A)
+  pub context : ContextState A
+  pub stays : ℕ
+  pub awake : Numbers
+  pub pending_answers : Table ℕ
+  pub param_caps : Table (List ℕ)
+  pub promised : Promised
+  pub given_up : List ℕ
+  pub wakes : List Waker
+  pub first_alarm : Option ℕ
+
+abbrev pub objects_of : {A : Type 0} → Objects A → ObjectsState A
+objects_of f = record {
+  members = f.members;
+  context = context_of f.context;
+  stays = f.stays;
+  awake = f.awake;
+  pending_answers = f.pending_answers;
+  param_caps = f.param_caps;
+  promised = promised_of f.promises;
+  given_up = f.given_up;
+  wakes = f.wakes.items;
+  first_alarm = f.first_alarm;
+}
+
+-- no objects
+abbrev pub alone : {A : Type 0} → ObjectsState A
+alone = record { members = empty; context = begun; stays = 0; awake = set.empty; pending_answers = empty; param_caps = empty; promised = none_promised; given_up = []; wakes = []; first_alarm = None }
+
+-- the first time that is to come
+abbrev pub first_of : ℕ → Option ℕ → Option ℕ → Option ℕ
+first_of now first None = first
+first_of now first (Some time) = if nat_lt now time then Some (earlier first time) else first
+
+-- what the object of this number settled, if it owed that
+abbrev pub own_of : ℕ → Option Settled → Table ℕ → Option Settled
+own_of number None pending_answers = None
+own_of number (Some given) pending_answers = if is_number number (get pending_answers given.ticket) then Some given else None
+
+module _ {A : Type 0} where
+  -- its promises are these
+  abbrev pub promised_so : Promised → ObjectsState A → ObjectsState A
+  promised_so promised state = record state { promised = promised }
+
+  -- one object more is there, under the next number, and is to be polled; or one promise of the object that does something
+  abbrev pub joining : NewCap A → ObjectsState A → ObjectsState A
+  joining (new_caps.Object object) state = record state {
+    members = insert state.members state.context.next (newborn object);
+    awake = set.insert state.awake state.context.next;
+    context = record state.context { next = state.context.next + 1 };
+  }
+  joining new_caps.Promise state = record state {
+    promised = promising state.context.next state.context.this.object state.promised;
+    context = record state.context { next = state.context.next + 1 };
+  }
+
+  -- these are there too, under the next numbers, in order
+  abbrev pub joined : List (NewCap A) → ObjectsState A → ObjectsState A
+  joined [] state = state
+  joined (new_cap ∷ more) state = joined more (joining new_cap state)
+
+  -- what was made is there from now on
+  abbrev pub with_those_made : ObjectsState A → ObjectsState A
+  with_those_made state = joined state.context.made (record state { context = record state.context { made = [] } })
+
+  -- the program adds one, which stays
+  abbrev pub adding : A → ObjectsState A → ObjectsState A
+  adding object state =
+      let more = with_those_made (record state { context = record state.context { made = state.context.made ++ new_caps.Object object ∷ [] } }) in
+      record more { stays = more.context.next }
+
+  -- the object of this number is as it was but for this
+  abbrev pub changing : ℕ → (ObjectEntry A → ObjectEntry A) → ObjectsState A → ObjectsState A
+  changing number change state = record state { members = with_change state.members number change }
+
+  -- it is this from now on
+  abbrev pub placing : ℕ → ObjectEntry A → ObjectsState A → ObjectsState A
+  placing number member state = record state { members = insert state.members number member }
+
+  -- it is to be polled
+  abbrev pub awoken : ℕ → ObjectsState A → ObjectsState A
+  awoken number state = record state { awake = set.insert state.awake number }
+
+  -- it isn't to be polled any more
+  abbrev pub resting : ℕ → ObjectsState A → ObjectsState A
+  resting number state = record state { awake = set.remove state.awake number }
+
+  -- it is to be polled, if it is there
+  abbrev pub waking : ℕ → ObjectsState A → ObjectsState A
+  waking number state = option_map_or (λ member. awoken number state) (get state.members number) state
+
+  -- the imports that the object of this number holds
+  abbrev pub held_by : ℕ → ObjectsState A → List ℕ
+  held_by number state = option_map_or (λ member. member.holds) (get state.members number) []
+
+  -- An import that one object holds is held by another in its place, if that is there.
+  abbrev pub handing_over : ℕ → ℕ → ℕ → ObjectsState A → ObjectsState A
+  handing_over from to i state =
+      if is_some (get state.members to) && is_among i (held_by from state)
+      then changing to (λ m. record m { holds = m.holds ++ i ∷ [] }) (changing from (λ m. record m { holds = without i m.holds }) state) else state
+
+  -- what the object of this number did is done
+  abbrev pub following : ℕ → ObjectEffect → ObjectsState A → ObjectsState A
+  following number (effects.Keep keeper kept) state = changing keeper (λ m. record m { keeps = m.keeps ++ kept ∷ [] }) state
+  following number (effects.HandOver keeper i) state = handing_over number keeper i state
+  following number (effects.GiveUp kept) state = changing number (λ m. record m { keeps = without kept m.keeps }) state
+  following number (effects.GiveUpImport i) state =
+      record (changing number (λ m. record m { holds = without i m.holds }) state) { given_up = state.given_up ++ i ∷ [] }
+  following number (effects.Wake waker) state =
+      if waker.session == state.context.this.session then waking waker.object state else record state { wakes = state.wakes ++ waker ∷ [] }
+  following number (effects.WakeAt time) state =
+      record (changing number (λ m. record m { alarm = Some time }) state) { first_alarm = Some (earlier state.first_alarm time) }
+  following number (effects.Resolve promise value) state = promised_so (resolving promise value state.promised) state
+  following number (effects.Call next_call) state = changing number (to_call next_call) state
+
+  abbrev pub followed : ℕ → List ObjectEffect → ObjectsState A → ObjectsState A
+  followed number [] state = state
+  followed number (effect ∷ more) state = followed number more (following number effect state)
+
+  -- What the object of this number made is there from now on, and what else it did is done, in order.
+  abbrev pub settled : ℕ → ObjectsState A → ObjectsState A
+  settled number state = let more = with_those_made state in followed number more.context.effects (record more { context = record more.context { effects = [] } })
+
+  -- where the object of this number is when it does something, and how it leaves that
+  abbrev pub entered : ℕ → ObjectsState A → ContextState A
+  entered number state = record state.context { this = record state.context.this { object = number } }
+
+  abbrev pub leaving : ContextState A → ObjectsState A → ObjectsState A
+  leaving place state = record state { context = place }
+
+  -- each promise of the vat's that a table names and that has no number yet gets the next one, by which objects name it
+  abbrev pub adopting : List Cap → ObjectsState A → ObjectsState A
+  adopting table state =
+      let adopted = adopted_each table (state.promised, state.context.next) in record state { promised = adopted.0; context = record state.context { next = adopted.1 } }
+
+  -- the objects and promises that the params of a call name are held until it is answered, if there are some
+  abbrev pub lending : ℕ → List ℕ → ObjectsState A → ObjectsState A
+  lending ticket [] state = state
+  lending ticket (first ∷ more) state = record state { param_caps = insert state.param_caps ticket (first ∷ more) }
+
+  -- a reply is noted: what the object gave up, or that it owes the answer to a call whose params name these
+  abbrev pub noting : ℕ → ℕ → List ℕ → Reply → ObjectsState A → ObjectsState A
+  noting number ticket named (replies.Now outcome gives_up) state = changing number (λ m. record m { holds = without_each gives_up m.holds }) state
+  noting number ticket named replies.Later state = lending ticket named (record state { pending_answers = insert state.pending_answers ticket number })
+
+  -- a call that the object asks for is noted, if it does
+  abbrev pub asking : ℕ → Option OutgoingCall → ObjectsState A → ObjectsState A
+  asking number None state = state
+  asking number (Some next_call) state = changing number (to_call next_call) state
+
+  -- The call that it is to make first is handed out, if there is one, and the others are left.
+  abbrev pub HandsNextCall : ℕ → Option OutgoingCall → ObjectsState A → ObjectsState A → Type 0
+  HandsNextCall number next_call old new = (next_call ≡ slice_get (next_calls_of number old.members) 0) × (new ≡ changing number (λ m. record m { next_calls = drop 1 m.next_calls }) old)
+
+  -- what the object of this number settled is owed no more
+  abbrev pub answering : ℕ → Settled → ObjectsState A → ObjectsState A
+  answering number given state =
+      record (changing number (λ m. record m { holds = without_each given.gives_up m.holds }) state) { pending_answers = remove state.pending_answers given.ticket; param_caps = remove state.param_caps given.ticket }
+
+  -- the object owes an answer, or made a promise that isn't resolved; or the params of a call that isn't answered name it, or another keeps it
+  abbrev pub is_held : ObjectsState A → ℕ → Bool
+  is_held state k =
+      is_among k (values state.pending_answers)
+      || (is_among k (values state.promised.makers)
+      || (list_any (λ named. is_among k named) (values state.param_caps) || list_any (λ member. is_among k member.keeps) (values state.members)))
+
+  -- these are those of which that is so
+  abbrev pub AreHeld : ObjectsState A → Numbers → Type 0
+  AreHeld state held = (k : ℕ) → set.contains held k ≡ is_held state k
+
+  -- An object goes unless the connection refers to it: the program didn't add it, it waits for no outcome, owes no answer, has no promise to resolve, and
+  -- none keeps it.
+  abbrev pub is_idle : ObjectsState A → ℕ → ObjectEntry A → Bool
+  is_idle state k member = not (nat_lt k state.stays) && member.asked == 0 && not (is_held state k)
+
+  -- those of these, in order
+  abbrev pub idle_among : ObjectsState A → List (ℕ × ObjectEntry A) → List ℕ
+  idle_among state [] = []
+  idle_among state (entry ∷ more) = if is_idle state entry.0 entry.1 then entry.0 ∷ idle_among state more else idle_among state more
+
+  abbrev pub idle_of : ObjectsState A → List ℕ
+  idle_of state = idle_among state (entries state.members)
+
+  -- A promise goes unless the vat uses it: it is resolved, and no object keeps it.
+  abbrev pub is_loose : ObjectsState A → ℕ → Bool
+  is_loose state number = not (is_some (get state.promised.makers number)) && not (is_held state number)
+
+  -- the vat's promises of those of these, in order
+  abbrev pub loose_among : ObjectsState A → List (ℕ × ℕ) → List ℕ
+  loose_among state [] = []
+  loose_among state (entry ∷ more) = if is_loose state entry.1 then entry.0 ∷ loose_among state more else loose_among state more
+
+  abbrev pub loose_of : ObjectsState A → List ℕ
+  loose_of state = loose_among state (entries state.promised.names)
+
+  -- the object of this number is gone
+  abbrev pub losing : ℕ → ObjectsState A → ObjectsState A
+  losing number state = record state { members = remove state.members number; awake = set.remove state.awake number }
+
+  -- the objects whose time has come, in order
+  abbrev pub due_among : ℕ → List (ℕ × ObjectEntry A) → List ℕ
+  due_among now [] = []
+  due_among now (entry ∷ more) = if is_later now entry.1.alarm then due_among now more else entry.0 ∷ due_among now more
+
+  -- the first of their times that is to come, and of this one
+  abbrev pub next_alarm : ℕ → Option ℕ → List (ℕ × ObjectEntry A) → Option ℕ
+  next_alarm now first [] = first
+  next_alarm now first (entry ∷ more) = next_alarm now (first_of now first entry.1.alarm) more
+
+  -- the time of this object has come
+  abbrev pub ringing : ℕ → ObjectsState A → ObjectsState A
+  ringing k state = awoken k (changing k (λ m. record m { alarm = None }) state)
+
+  abbrev pub rung : List ℕ → ObjectsState A → ObjectsState A
+  rung [] state = state
+  rung (k ∷ more) state = rung more (ringing k state)
+
+  -- Those are to be polled whose time has come by this one, and the next time is known.
+  abbrev pub rung_at : ℕ → ObjectsState A → ObjectsState A
+  rung_at now state = record (rung (due_among now (entries state.members)) state) { first_alarm = next_alarm now None (entries state.members) }
+
+  -- so it is where one's time may have come
+  abbrev pub woken : ObjectsState A → ObjectsState A
+  woken state = if is_later state.context.now state.first_alarm then state else rung_at state.context.now state
+
+-- Of objects of one kind.
+module _ {A : Type 0} (kind : ServedObjectKind A A) where
+  -- The object of this number is called, and sees promises of this end under numbers. It is given the call's imports, and does what its kind says. What it replied
+  -- is noted, it is to be polled, and what it did beside is done.
+  pub record Calls (number ticket : ℕ) (request : Request) (reply : Reply) (old new : ObjectsState A) : Type 0 where
+    pub before : ObjectEntry A
+    pub object : A
+    pub place : ContextState A
+    pub first : ObjectsState A
+    pub seen : Request
+    pub adopts : first ≡ adopting request.caps old
+    pub was : get first.members number ≡ Some before
+    pub sees : seen ≡ with_request (named first.promised.names) request
+    pub takes : kind.takes before.object ticket seen (entered number first) reply place object
+    pub is : new ≡ settled number (awoken number (noting number ticket (local_in seen.caps) reply
+        (leaving place (placing number (record before { object = object; holds = before.holds ++ named_imports request.caps }) first))))
+
+  -- After a poll an object is to be polled again if it gave something, which is owed no more, or says that it may give more.
+  pub data GoesOn (number : ℕ) (object : A) (state : ObjectsState A) : Option Settled → ObjectsState A → Type 0 where
+    gave_some : (given : Settled) → GoesOn number object state (Some given) (answering number given state)
+    says_more : kind.may_go_on object → GoesOn number object state None state
+    rests : GoesOn number object state None (resting number state)
+
+  -- The object of this number is polled. What it settled counts if it owed that, and what it did beside is done.
+  pub record Polls (number : ℕ) (given : Option Settled) (old new : ObjectsState A) : Type 0 where
+    pub before : ObjectEntry A
+    pub object : A
+    pub place : ContextState A
+    pub said : Option Settled
+    pub rest : ObjectsState A
+    pub was : get old.members number ≡ Some before
+    pub polls : kind.polls before.object (entered number old) said place object
+    pub own : given ≡ own_of number said old.pending_answers
+    pub goes_on : GoesOn number object (leaving place (placing number (record before { object = object }) old)) given rest
+    pub is : new ≡ settled number rest
+
+  -- It is asked for a call, which it is to make before those that it tells meanwhile. What it did beside is done.
+  pub record AsksNextCall (number : ℕ) (old new : ObjectsState A) : Type 0 where
+    pub before : ObjectEntry A
+    pub object : A
+    pub place : ContextState A
+    pub said : Option OutgoingCall
+    pub was : get old.members number ≡ Some before
+    pub next_calls : kind.next_calls before.object (entered number old) said place object
+    pub is : new ≡ settled number (asking number said (leaving place (placing number (record before { object = object }) old)))
+
+  -- The next call of the object of this number is the first of those that it is yet to make. Where there is none, it is asked before.
+  pub data NextCalls (number : ℕ) (next_call : Option OutgoingCall) (old new : ObjectsState A) : Type 0 where
+    has_one : next_calls_of number old.members ≢ [] → HandsNextCall number next_call old new → NextCalls number next_call old new
+    has_none : (mid : ObjectsState A) → next_calls_of number old.members ≡ [] → AsksNextCall number old mid → HandsNextCall number next_call mid new → NextCalls number next_call old new
+
+  -- It is told what a call of its own came to, and given the imports of that. It is to be polled, and what it did beside is done.
+  pub record Responds (number call_id : ℕ) (outcome : Outcome) (old new : ObjectsState A) : Type 0 where
+    pub before : ObjectEntry A
+    pub object : A
+    pub place : ContextState A
+    pub first : ObjectsState A
+    pub adopts : first ≡ adopting (caps_of outcome) old
+    pub was : get first.members number ≡ Some before
+    pub on_response : kind.on_response before.object call_id (with_outcome (named first.promised.names) outcome) (entered number first) place object
+    pub is : new ≡ settled number (awoken number (leaving place
+        (placing number (record before { object = object; asked = before.asked - 1; holds = before.holds ++ named_imports (caps_of outcome) }) first)))

@@ -1,0 +1,27 @@
+-- What objects do that may make others.
+use Rattle.std.specs.Prelude.{ℕ, Option}
+use Rattle.cp_refs.specs.declared.call.Request.{Request}
+use Rattle.cp_refs.specs.declared.outcome.Outcome.{Outcome}
+use Rattle.cp_servants.specs.declared.servant.OutgoingCall.{OutgoingCall}
+use Rattle.cp_servants.specs.declared.servant.Reply.{Reply}
+use Rattle.cp_servants.specs.declared.servant.Settled.{Settled}
+use Rattle.cp_objects.specs.Context.{ContextState}
+
+-- What objects of one kind do, as a Kind says it of objects that make none: what each of these does to an object, what it gives, and what the object did beside
+-- it, by the place before and after.
+pub record ServedObjectKind (A M : Type 0) : Type 1 where
+  pub takes : A → ℕ → Request → ContextState M → Reply → ContextState M → A → Type 0
+  pub polls : A → ContextState M → Option Settled → ContextState M → A → Type 0
+  pub next_calls : A → ContextState M → Option OutgoingCall → ContextState M → A → Type 0
+  pub on_response : A → ℕ → Outcome → ContextState M → ContextState M → A → Type 0
+  pub may_go_on : A → Type 0
+
+-- of objects of any kind nothing is said
+abbrev pub any_served_object : {A M : Type 0} → ServedObjectKind A M
+any_served_object = record {
+  takes = λ old ticket request before reply after new. Unit {0};
+  polls = λ old before settled after new. Unit {0};
+  next_calls = λ old before next_call after new. Unit {0};
+  on_response = λ old call_id outcome before after new. Unit {0};
+  may_go_on = λ object. Unit {0};
+}

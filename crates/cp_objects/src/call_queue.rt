@@ -1,0 +1,76 @@
+//! The calls that an object is yet to make.
+
+ghost use Rattle.std.specs.Prelude.{◌≡◌, ◌≢◌, ◌∷◌, ◌++◌, [], true, false, OnOk, drop, length, slice_get};
+
+use cp_servants::OutgoingCall;
+use std::alloc::{AllocError, Global};
+use std::collections::VecDeque;
+use std::marker::Model;
+
+/// Calls, in the order in which they are made. Contracts see them as a list.
+pub(crate) struct CallQueue {
+    next_calls: VecDeque<OutgoingCall>,
+}
+
+// Not derived: a function that lets one go calls this one, and need not prove the drop of what it holds.
+impl Drop for CallQueue {
+    fn drop(self) {
+        let CallQueue { next_calls: _ } = self;
+    }
+}
+
+impl Model for CallQueue {
+    ghost use Rattle.std.specs.Prelude.{List};
+    ghost use Rattle.cp_servants.specs.declared.servant.OutgoingCall.{OutgoingCall};
+
+    ghost Value = { List OutgoingCall };
+
+    ghost use Rattle.std.specs.Coded.{coded_list};
+    ghost use Rattle.cp_servants.specs.contracts.servant.OutgoingCall.{the_row};
+
+    ghost coded = { coded_list the_row.coded };
+
+    ghost view = { λ q. q.next_calls.items };
+}
+
+impl CallQueue {
+    /// None.
+    pub(crate) fn new(alloc: Global) -> CallQueue
+        ensures { result ≡ [] }
+    {
+        CallQueue {
+            next_calls: VecDeque::new(alloc),
+        }
+    }
+
+    /// Whether there is none.
+    pub(crate) fn is_empty(&self) -> bool
+        ensures none { result ≡ true → self.now ≡ [] }
+        ensures some { result ≡ false → self.now ≢ [] }
+    {
+        self.next_calls.is_empty()
+    }
+
+    /// How many there are.
+    pub(crate) fn len(&self) -> usize
+        ensures { result ≡ length self.now }
+    {
+        self.next_calls.len()
+    }
+
+    /// One more, after the others.
+    pub(crate) fn push(&mut self, next_call: OutgoingCall) -> Result<(), AllocError>
+        ensures { OnOk result (self.new ≡ self.old ++ next_call ∷ []) }
+    {
+        self.next_calls.push_back(next_call)?;
+        Ok(())
+    }
+
+    /// Takes the first out, if there is one.
+    pub(crate) fn pop(&mut self) -> Option<OutgoingCall>
+        ensures first { result ≡ slice_get self.old 0 }
+        ensures rest { self.new ≡ drop 1 self.old }
+    {
+        self.next_calls.pop_front()
+    }
+}

@@ -1,0 +1,299 @@
+//! What an object may do beside what it answers.
+
+ghost use Rattle.std.specs.Prelude.{◌≡◌, ◌+◌, [], IfOk, IfSome, OnOk, OnErr};
+ghost use Rattle.cp_refs.specs.declared.cap.Cap.TheVariants as caps;
+ghost use Rattle.cp_objects.specs.Context.{begun, giving_up, keeping, keeping_for, next_number, context_of, time_after, with_effect, with_made, with_promise};
+ghost use Rattle.cp_objects.specs.declared.context.ObjectEffect.{ObjectEffect};
+ghost use Rattle.cp_objects.specs.declared.context.ObjectEffect.TheVariants as effects;
+
+use crate::resolver::Resolver;
+use crate::waker::Waker;
+use cp_refs::Cap;
+use cp_servants::OutgoingCall;
+use std::alloc::{AllocError, Global};
+use std::mem;
+
+/// What an object made: it has a number from then on.
+#[derive(Drop)]
+pub(crate) enum NewCap<M> {
+    Object(M),
+    /// A promise of the object's.
+    Promise,
+}
+
+/// What an object did beside what it answered.
+#[derive(Drop)]
+pub(crate) enum ObjectEffect {
+    /// An object keeps this object or promise.
+    Keep { keeper: u32, kept: u32 },
+    /// That object holds this import in its place.
+    HandOver { keeper: u32, import: u32 },
+    /// It keeps this one once less.
+    GiveUp(u32),
+    /// It holds this import once less.
+    GiveUpImport(u32),
+    Wake(Waker),
+    /// It is to be woken at this time.
+    WakeAt(u64),
+    /// The promise of this number comes to this.
+    Resolve(u32, Cap),
+    /// It makes this call.
+    Call(OutgoingCall),
+}
+
+/// Where an object is while it is called, polled, asked or told: what it may do there beside what it answers. `M` is the one type of
+/// all objects of the connection.
+#[derive(Drop)]
+pub struct Context<M> {
+    alloc: Global,
+    /// The session, and the object that is called.
+    this: Waker,
+    /// What time it is.
+    time: u64,
+    /// The number that what is made first gets. None is given twice.
+    next: u32,
+    /// The objects and promises that were made, in order.
+    made: Vec<NewCap<M>>,
+    /// What else was done, in order.
+    effects: Vec<ObjectEffect>,
+}
+
+impl<M: Drop> Context<M> {
+    /// Makes an object of the connection, and gives the capability of it: name it in results, or in the params of a call. It is
+    /// dropped once nothing of the connection refers to it.
+    ///
+    /// # Errors
+    ///
+    /// Memory ran out, or 2^32 objects were made.
+    pub fn make(&mut self, object: M) -> Result<Cap, AllocError>
+        ensures cap { IfOk result (λ cap. cap ≡ caps.Object (next_number (context_of self.old))) }
+        ensures made { OnOk result (context_of self.new ≡ with_made (context_of self.old) object) }
+        ensures err { OnErr result (context_of self.new ≡ context_of self.old) }
+    {
+        let Some(number) = number_after(self.next, self.made.len()) else {
+            drop(object);
+            return Err(AllocError);
+        };
+        self.made.push(NewCap::Object(object))?;
+        Ok(Cap::Object(number))
+    }
+
+    /// Makes a promise, whose capability (`Resolver::cap`) may be named at once: the calls on it wait, in order, until it is resolved.
+    /// The object stays until then.
+    ///
+    /// # Errors
+    ///
+    /// Memory ran out, or 2^32 objects and promises were made. Where the vat has no room for a promise more, calls on it fail with
+    /// `no such object`.
+    pub fn promise(&mut self) -> Result<Resolver, AllocError>
+        ensures number { IfOk result (λ resolver. resolver.number ≡ next_number (context_of self.old)) }
+        ensures made { OnOk result (context_of self.new ≡ with_promise (context_of self.old)) }
+        ensures err { OnErr result (context_of self.new ≡ context_of self.old) }
+    {
+        let Some(number) = number_after(self.next, self.made.len()) else {
+            return Err(AllocError);
+        };
+        self.made.push(NewCap::Promise)?;
+        Ok(Resolver { number })
+    }
+
+    /// Resolves a promise: it comes to an object of this end, to what the object was given, or, where that is `Broken`, to an
+    /// exception. The calls on it that wait go there, in order, and the peer is told. Where the vat refuses the value, as one that leads
+    /// back to the promise, it comes to the exception `bad outcome`.
+    pub fn resolve(&mut self, resolver: Resolver, value: Cap) -> Result<(), AllocError>
+        ensures noted { OnOk result (context_of self.new ≡ with_effect (context_of self.old) (effects.Resolve resolver.number value)) }
+        ensures err { OnErr result (context_of self.new ≡ context_of self.old) }
+    {
+        self.note(ObjectEffect::Resolve(resolver.number, value))
+    }
+
+    /// Makes a call, as an `.._call` of a client gives it, once what the object answers went out. Those that it tells so are made in order,
+    /// each once, before it is asked for more (`ServedObject::next_call`). It is told what each came to (`ServedObject::on_response`), by its number, and stays until
+    /// then. Once the connection ended, and where its objects may not call, none is made.
+    pub fn send(&mut self, next_call: OutgoingCall) -> Result<(), AllocError>
+        ensures noted { OnOk result (context_of self.new ≡ with_effect (context_of self.old) (effects.Call next_call)) }
+        ensures err { OnErr result (context_of self.new ≡ context_of self.old) }
+    {
+        self.note(ObjectEffect::Call(next_call))
+    }
+
+    /// The object itself.
+    pub fn this_cap(&self) -> Cap
+        ensures { result ≡ caps.Object (context_of self.now).this.object }
+    {
+        Cap::Object(self.this.object)
+    }
+
+    /// What wakes the object: whoever has it, of any session of the host, may wake it.
+    pub fn waker(&self) -> Waker
+        ensures { result ≡ (context_of self.now).this }
+    {
+        self.this
+    }
+
+    /// Has an object woken. Nothing is done where it is gone.
+    pub fn wake(&mut self, waker: Waker) -> Result<(), AllocError>
+        ensures noted { OnOk result (context_of self.new ≡ with_effect (context_of self.old) (effects.Wake waker)) }
+        ensures err { OnErr result (context_of self.new ≡ context_of self.old) }
+    {
+        self.note(ObjectEffect::Wake(waker))
+    }
+
+    /// Has the object itself woken after this many milliseconds, in place of any time that it named before.
+    pub fn wake_after(&mut self, milliseconds: u64) -> Result<(), AllocError>
+        ensures noted { OnOk result (context_of self.new ≡ with_effect (context_of self.old) (effects.WakeAt (time_after (context_of self.old).now milliseconds))) }
+        ensures err { OnErr result (context_of self.new ≡ context_of self.old) }
+    {
+        self.note(ObjectEffect::WakeAt(self.time.saturating_add(milliseconds)))
+    }
+
+    /// The time, in milliseconds of the driver's clock.
+    pub fn now(&self) -> u64
+        ensures { result ≡ (context_of self.now).now }
+    {
+        self.time
+    }
+
+    /// Where memory comes from.
+    pub fn alloc(&self) -> Global
+        ensures { result ≡ self.now.alloc }
+    {
+        self.alloc
+    }
+
+    /// Keeps an object or a promise of this end that the object stores, though nothing else refers to it: once more for each call of this.
+    /// Any other capability isn't kept by this.
+    pub fn keep(&mut self, cap: &Cap) -> Result<(), AllocError>
+        ensures noted { OnOk result (context_of self.new ≡ keeping cap.now (context_of self.old)) }
+        ensures err { OnErr result (context_of self.new ≡ context_of self.old) }
+    {
+        match cap {
+            Cap::Object(number) => self.note(ObjectEffect::Keep {
+                keeper: self.this.object,
+                kept: *number,
+            }),
+            _ => Ok(()),
+        }
+    }
+
+    /// Has another object of the connection, as one that was made just now, keep what it stores until it is dropped: an object or a promise
+    /// once more; an import in place of this object, which kept it past its answer. So an import is given up as that object is dropped.
+    /// Nothing is done where that object isn't there, or this one doesn't hold the import.
+    pub fn keep_for(&mut self, object: &Cap, kept: &Cap) -> Result<(), AllocError>
+        ensures noted { OnOk result (context_of self.new ≡ keeping_for object.now kept.now (context_of self.old)) }
+        ensures err { OnErr result (context_of self.new ≡ context_of self.old) }
+    {
+        match (object, kept) {
+            (Cap::Object(keeper), Cap::Object(kept)) => self.note(ObjectEffect::Keep {
+                keeper: *keeper,
+                kept: *kept,
+            }),
+            (Cap::Object(keeper), Cap::Import(import)) => self.note(ObjectEffect::HandOver {
+                keeper: *keeper,
+                import: *import,
+            }),
+            _ => Ok(()),
+        }
+    }
+
+    /// Keeps an object or a promise once less; or gives up an import that the object kept past its answer, as that of a client's target
+    /// (`CallTarget::cap`). An import is given up once for each call or outcome that named it, by this or with an answer
+    /// (`Reply::Now`, `Settled`): then it is released, once the vat doesn't use it either.
+    pub fn give_up(&mut self, cap: &Cap) -> Result<(), AllocError>
+        ensures noted { OnOk result (context_of self.new ≡ giving_up cap.now (context_of self.old)) }
+        ensures err { OnErr result (context_of self.new ≡ context_of self.old) }
+    {
+        match cap {
+            Cap::Object(number) => self.note(ObjectEffect::GiveUp(*number)),
+            Cap::Import(import) => self.note(ObjectEffect::GiveUpImport(*import)),
+            _ => Ok(()),
+        }
+    }
+
+    /// That of a session in which no object was made.
+    pub(crate) fn new(alloc: Global) -> Context<M>
+        ensures { context_of result ≡ begun }
+    {
+        Context {
+            alloc,
+            this: Waker {
+                session: 0,
+                object: 0,
+            },
+            time: 0,
+            next: 0,
+            made: Vec::new(alloc),
+            effects: Vec::new(alloc),
+        }
+    }
+
+    /// The number that is given next.
+    pub(crate) fn next(&self) -> u32
+        ensures { result ≡ self.now.next }
+    {
+        self.next
+    }
+
+    /// From now on this object does what is done.
+    pub(crate) fn enter(&mut self, object: u32)
+        ensures { self.new ≡ record self.old { this = record self.old.this { object = object } } }
+    {
+        self.this.object = object;
+    }
+
+    /// It is that of a session of this number.
+    pub(crate) fn set_session(&mut self, session: u64)
+        ensures { self.new ≡ record self.old { this = record self.old.this { session = session } } }
+    {
+        self.this.session = session;
+    }
+
+    /// It is this time.
+    pub(crate) fn set_now(&mut self, now: u64)
+        ensures { self.new ≡ record self.old { time = now } }
+    {
+        self.time = now;
+    }
+
+    /// This number is given next.
+    pub(crate) fn set_next(&mut self, next: u32)
+        ensures { self.new ≡ record self.old { next = next } }
+    {
+        self.next = next;
+    }
+
+    /// Takes the objects and promises out that were made, in order.
+    pub(crate) fn take_made(&mut self) -> Vec<NewCap<M>>
+        ensures made { result.items ≡ self.old.made.items }
+        ensures none { context_of self.new ≡ record (context_of self.old) { made = [] } }
+    {
+        mem::replace(&mut self.made, Vec::new(self.alloc))
+    }
+
+    /// Takes out what else was done, in order.
+    pub(crate) fn take_effects(&mut self) -> Vec<ObjectEffect>
+        ensures effects { result.items ≡ self.old.effects.items }
+        ensures none { context_of self.new ≡ record (context_of self.old) { effects = [] } }
+    {
+        mem::replace(&mut self.effects, Vec::new(self.alloc))
+    }
+
+    /// Notes what else was done.
+    fn note(&mut self, effect: ObjectEffect) -> Result<(), AllocError>
+        ensures noted { OnOk result (context_of self.new ≡ with_effect (context_of self.old) effect) }
+        ensures err { OnErr result (context_of self.new ≡ context_of self.old) }
+    {
+        self.effects.push(effect)?;
+        Ok(())
+    }
+}
+
+/// The number of the one after so many, if there is one.
+fn number_after(first: u32, count: usize) -> Option<u32>
+    ensures { IfSome result (λ n. n ≡ first + count) }
+{
+    let Ok(count) = u32::try_from(count) else {
+        return None;
+    };
+    first.checked_add(count)
+}

@@ -1,5 +1,0 @@
-use Rattle.cp_servants.proofs.placed.any_again.Given as goal
-
--- nothing is asked of the objects that were looked at
-abbrev pub invariant-loop-object : goal.invariant-loop-object
-invariant-loop-object g l = Unit {0}

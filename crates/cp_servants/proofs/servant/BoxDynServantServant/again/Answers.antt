@@ -1,5 +1,0 @@
-use Rattle.cp_servants.proofs.Boxed.{boxed_now}
-use Rattle.cp_servants.proofs.servant.BoxDynServantServant.again.Goals as goal
-
-pub returns : goal.returns
-returns g c = λ said. boxed_now (λ i object. (g.dyn-1.0.entry i).1.kind.may_go_on object) c.deref_box-1.ensures.1 (c.again.ensures said)

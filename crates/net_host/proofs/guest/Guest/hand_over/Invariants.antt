@@ -1,6 +1,0 @@
-use Rattle.net_host.specs.Guests.{Adds, HandsSome, served_of}
-use Rattle.net_host.proofs.guest.Guest.hand_over.Given as goal
-
--- some were handed out
-abbrev pub invariant-loop : goal.invariant-loop
-invariant-loop g l = Adds l.fn.wakes.items (λ woken. HandsSome g.S.HostedSession.hall (served_of g.S.HostedSession.state l.fn.self) woken (served_of g.S.HostedSession.state l.self)) l.wakes.items

@@ -1,6 +1,0 @@
-use Rattle.net_host.specs.Guests.{Proceeds, served_of}
-use Rattle.net_host.proofs.guest.Guest.write.Given as goal
-
--- the connection went on so far
-abbrev pub invariant-loop : goal.invariant-loop
-invariant-loop g l = Proceeds g.S.HostedSession.hall l.now (served_of g.S.HostedSession.state l.fn.self) (served_of g.S.HostedSession.state l.self)

@@ -1,6 +1,0 @@
-use Rattle.net_host.specs.Feeding.{Leaves}
-use Rattle.net_host.proofs.guest.feed.Given as goal
-
--- the session was given what isn't left of the piece
-abbrev pub invariant-loop : goal.invariant-loop
-invariant-loop g l = Leaves g.S.HostedSession.hall l.allowed.now (g.S.HostedSession.state l.fn.session) l.fn.piece l.left (g.S.HostedSession.state l.session)

@@ -1,0 +1,6 @@
+use Rattle.net_host.specs.HostedConnections.{Adds, HandsSome, served_of}
+use Rattle.net_host.proofs.hosted_connection.HostedConnection.hand_over.Given as goal
+
+-- some were handed out
+abbrev pub invariant-loop : goal.invariant-loop
+invariant-loop g l = Adds l.fn.wakes.items (λ woken. HandsSome g.S.HostedSession.table (served_of g.S.HostedSession.state l.fn.self) woken (served_of g.S.HostedSession.state l.self)) l.wakes.items

@@ -1,0 +1,285 @@
+-- A connection of a host, and what is done with it.
+use Rattle.std.specs.Prelude.{◌≡◌, ◌≢◌, ◌≤◌, ◌<◌, ◌⊎◌, ℕ, ℤ, true, List, [], ◌∷◌, ◌++◌, Option, Some, None, take}
+use Rattle.std.specs.FinMap as map
+use Rattle.std.specs.IoError.{error_kind, raw_os_error}
+use Rattle.std.specs.declared.io.Error.{Error}
+use Rattle.std.specs.declared.io.ErrorKind.TheVariants as kinds
+use Rattle.cp_objects.specs.declared.waker.Waker.{Waker}
+use Rattle.cp_objects.specs.ObjectTable.{ObjectTableKind}
+use Rattle.cp_session.specs.declared.event.SessionEvent.{SessionEvent}
+use Rattle.cp_session.specs.Budget.{Keeping}
+use Rattle.cp_session.specs.declared.event.SessionEvent.TheVariants as events
+use Rattle.cp_session.specs.declared.progress.Limit.{Limit}
+use Rattle.cp_session.specs.declared.progress.Limit.TheVariants as limits
+use Rattle.cp_session.specs.declared.progress.Phase.TheVariants as phases
+use Rattle.cp_session.specs.Doing.{IsRefused, MayTake, Ticks, Wakes, Writes, due_of}
+use Rattle.cp_session.specs.Kept.{kept_of}
+use Rattle.cp_session.specs.Progress.{IsDraining, Meets}
+use Rattle.cp_session.specs.Runs.{Transfer, Runs, nothing}
+use Rattle.cp_session.specs.State.{State, link_of}
+use Rattle.net_sockets.specs.declared.listener.Peer.{Peer}
+use Rattle.net_sockets.specs.declared.nonblocking_stream.Got.{Got}
+use Rattle.net_sockets.specs.declared.nonblocking_stream.Got.TheVariants as gots
+use Rattle.net_sockets.specs.Reading.{failure_of, may_read, may_write}
+use Rattle.net_host.specs.declared.allowance.Allowance.{Allowance}
+use Rattle.net_host.specs.declared.end.End.{End}
+use Rattle.net_host.specs.declared.end.End.TheVariants as ends
+use Rattle.net_host.specs.declared.hosted_connection.HostedConnection.{HostedConnection}
+use Rattle.net_host.specs.declared.pending.PendingConnection.{PendingConnection}
+use Rattle.net_host.specs.declared.hosted_connection.Turn.{Turn}
+use Rattle.net_host.specs.declared.hosted_connection.Turn.TheVariants as turns
+use Rattle.net_host.specs.Feeding.{AreAt}
+use Rattle.net_host.specs.Timing.{ComesBy}
+use Rattle.net_host.specs.Waking.{HandsAll, HandsOut}
+
+-- A connection: its number, its peer, its session, what was read of its stream and not taken, how it ended, once an event said so, and the system's code of the
+-- error that its stream gave last, if it gave one and that had a code.
+pub record Served (H : Type 0) : Type 0 where
+  pub number : ℕ
+  pub peer : Peer
+  pub session : State H
+  pub rest : List ℕ
+  pub end : Option End
+  pub failure : Option (Option ℤ)
+
+-- a connection by its parts
+abbrev pub served_of : {S H : Type 0} → (S → State H) → HostedConnection S → Served H
+served_of state hosted = record {
+  number = hosted.number;
+  peer = hosted.peer;
+  session = state hosted.session;
+  rest = hosted.rest.items;
+  end = hosted.end;
+  failure = failure_of hosted.stream;
+}
+
+-- how many bytes are kept for it
+abbrev pub kept_by : {H : Type 0} → ObjectTableKind H → Served H → ℕ
+kept_by table served = kept_of served.session.service.work (table.guests served.session.objects)
+
+-- something waits to be written, and its stream may take bytes
+abbrev pub CanWrite : {S H : Type 0} → (S → State H) → HostedConnection S → Type 0
+CanWrite state hosted = (may_write hosted.stream ≡ true) × ((link_of (state hosted.session)).unwritten ≢ [])
+
+-- there may be bytes of the peer, or its end
+abbrev pub MayHaveBytes : {S H : Type 0} → (S → State H) → HostedConnection S → Type 0
+MayHaveBytes state hosted = (may_read hosted.stream ≡ true) ⊎ (hosted.rest.items ≢ [])
+
+-- bytes are taken, or dropped, and there may be some
+abbrev pub CanTake : {S H : Type 0} → (S → State H) → HostedConnection S → Type 0
+CanTake state hosted =
+    let session = state hosted.session in
+    (IsDraining session.progress.phase ⊎ MayTake session) × MayHaveBytes state hosted
+
+-- a connection of which nothing was read
+abbrev pub new_served : {H : Type 0} → PendingConnection → State H → Served H
+new_served pending session = record { number = pending.number; peer = pending.peer; session = session; rest = []; end = None; failure = failure_of pending.stream }
+
+-- a limit of time is met by now, unless a byte moves, or an object is to be woken by now
+abbrev pub IsOverdue : {H : Type 0} → ObjectTableKind H → State H → ℕ → Type 0
+IsOverdue table session now = ComesBy now (due_of table session)
+
+-- more is kept for it than its own limit while its peer's bytes are taken, and its peer is told so
+abbrev pub IsTooMuch : {H : Type 0} → ObjectTableKind H → State H → Type 0
+IsTooMuch table session = (session.progress.phase ≡ phases.Serving) × (session.limits.kept < kept_of session.service.work (table.guests session.objects))
+
+-- how a connection ended, if an event says so
+abbrev pub end_of : SessionEvent → Option End
+end_of (events.Outcome question outcome) = None
+end_of (events.Closed reason) = Some (ends.Closed reason)
+end_of (events.Fault fault) = Some (ends.Fault fault)
+end_of (events.Limit limit) = Some (ends.Limit limit)
+end_of events.Ended = Some ends.Ended
+
+-- what is known of its end, once something more may be
+abbrev pub or_before : Option End → Option End → Option End
+or_before known None = known
+or_before known (Some end) = Some end
+
+-- what is known of its end once these events were handed out
+abbrev pub end_after : Option End → List SessionEvent → Option End
+end_after known [] = known
+end_after known (event ∷ more) = end_after (or_before known (end_of event)) more
+
+-- an event was handed out
+abbrev pub heard : {H : Type 0} → SessionEvent → Served H → Served H
+heard event old = record old { end = or_before old.end (end_of event) }
+
+-- its end: what is known of it, or else the other
+abbrev pub end_or : Option End → End → End
+end_or None other = other
+end_or (Some end) other = end
+
+-- the bytes that a read gave
+abbrev pub came_by : Got → List ℕ → List ℕ
+came_by (gots.Bytes count) piece = take count piece
+came_by gots.Nothing piece = []
+came_by gots.End piece = []
+
+-- this is the error that its stream gave last, or memory ran out
+abbrev pub HasFailed : {H : Type 0} → Served H → Error → Type 0
+HasFailed last error = (last.failure ≡ Some (raw_os_error error)) ⊎ (error_kind error ≡ kinds.OutOfMemory)
+
+-- it ended as memory ran out, if no event said before how it did
+abbrev pub IsShort : {H : Type 0} → Served H → End → Type 0
+IsShort last end = (error : Error) × (error_kind error ≡ kinds.OutOfMemory) × (end ≡ end_or last.end (ends.Failed error))
+
+-- Why a connection is closed that may keep so many bytes, though its stream didn't fail: memory ran out; its session is over; or more is kept for it. What events
+-- said before comes first.
+pub data IsWhy {H : Type 0} (table : ObjectTableKind H) (most : ℕ) (last : Served H) (end : End) : Type 0 where
+  is_short : IsShort last end → IsWhy table most last end
+  is_over : last.session.progress.phase ≡ phases.Over → end ≡ end_or last.end ends.Ended → IsWhy table most last end
+  is_full : most < kept_by table last → end ≡ end_or last.end (ends.Limit limits.Kept) → IsWhy table most last end
+
+module _ {H : Type 0} (table : ObjectTableKind H) where
+  -- A connection went on. Its session was given what was left of its stream and what came of it, in order and each byte once, but what is left now. Nothing else
+  -- was done with its session: the program made no call and woke no object, its peer wasn't refused, no time passed, and nobody was handed out who is to be woken.
+  -- All that was done with it was done at this time. What is known of its end is what events said.
+  pub record Serves (now : ℕ) (old : Served H) (came left : List ℕ) (new : Served H) : Type 0 where
+    pub number : new.number ≡ old.number
+    pub peer : new.peer ≡ old.peer
+    pub transfer : Transfer
+    pub runs : Runs table old.session transfer new.session
+    pub no_call : transfer.called ≡ []
+    pub unroused : transfer.roused ≡ []
+    pub unrefused : transfer.refused ≡ []
+    pub unticked : transfer.ticked ≡ []
+    pub unwoken : transfer.woken ≡ []
+    pub at_once : AreAt now transfer.times
+    pub in_order : old.rest ++ came ≡ transfer.given ++ left
+    pub end : new.end ≡ end_after old.end transfer.told
+
+  -- it went on, keeps what is left, and its stream didn't fail
+  abbrev pub Proceeds : ℕ → Served H → Served H → Type 0
+  Proceeds now old new = (came : List ℕ) × Serves now old came new.rest new × (new.failure ≡ old.failure)
+
+  -- it went on for the last time, with what came of its stream
+  abbrev pub StopsAfter : ℕ → Served H → List ℕ → Served H → Type 0
+  StopsAfter now old came new = (left : List ℕ) × Serves now old came left new
+
+  -- it did, as memory ran out
+  abbrev pub StopsShort : ℕ → Served H → List ℕ → Error → Served H → Type 0
+  StopsShort now old came error new = StopsAfter now old came new × (error_kind error ≡ kinds.OutOfMemory)
+
+  -- it went on for the last time
+  abbrev pub Stops : ℕ → Served H → Served H → Type 0
+  Stops now old new = (came : List ℕ) × StopsAfter now old came new
+
+  -- it went on for the last time, as its stream failed with this error, or memory ran out
+  abbrev pub Breaks : ℕ → Served H → Error → Served H → Type 0
+  Breaks now old error new = Stops now old new × HasFailed new error
+
+  -- Events of its session were handed out, and nothing else was done. What is known of its end is what they said.
+  abbrev pub Hears : Served H → Served H → Type 0
+  Hears old new =
+      (told : List SessionEvent) × Runs table old.session (record nothing { told = told }) new.session
+      × (new.session.progress.phase ≡ old.session.progress.phase) × (new ≡ record old { session = new.session; end = end_after old.end told })
+
+  -- its stream took this many of the bytes that waited, at this time
+  pub data Sends (old : Served H) (count now : ℕ) (new : Served H) : Type 0 where
+    none : count ≡ 0 → new ≡ old → Sends old count now new
+    some : Writes table old.session count now new.session → new ≡ record old { session = new.session } → Sends old count now new
+
+  -- its session handed out all objects of others that are to be woken
+  abbrev pub HandsOver : Served H → List Waker → Served H → Type 0
+  HandsOver old woken new = HandsAll table old.session woken new.session × (new ≡ record old { session = new.session })
+
+  -- its session handed out these
+  abbrev pub HandsSome : Served H → List Waker → Served H → Type 0
+  HandsSome old woken new = HandsOut table old.session woken new.session × (new ≡ record old { session = new.session })
+
+  -- where more is kept for a session than this, it refused its peer
+  pub data Minds (most now : ℕ) (old new : State H) : Type 0 where
+    minds_none : kept_of old.service.work (table.guests old.objects) ≤ most → new ≡ old → Minds most now old new
+    minds_full : most < kept_of old.service.work (table.guests old.objects) → IsRefused table old now new → Minds most now old new
+
+  -- It went on; time passed for its session, up to this time; where more was kept for it than this its peer was refused; and events were handed out.
+  pub record Passes (most now : ℕ) (old new : Served H) : Type 0 where
+    pub worked : Served H
+    pub proceeds : Proceeds now old worked
+    pub ticked : State H
+    pub ticks : Ticks table worked.session now ticked
+    pub minded : State H
+    pub minds : Minds most now ticked minded
+    pub hears : Hears (record worked { session = minded }) new
+
+  -- it did, and all objects of others were handed out that are to be woken
+  pub record Works (most now : ℕ) (old : Served H) (woken : List Waker) (new : Served H) : Type 0 where
+    pub told : Served H
+    pub passes : Passes most now old told
+    pub hands : HandsOver told woken new
+
+  -- It went on for the last time, before anybody was handed out who is to be woken: its stream failed, or memory ran out; or nothing failed yet.
+  pub data Lasts (most now : ℕ) (old new : Served H) : Type 0 where
+    breaks_off : (error : Error) → Breaks now old error new → Lasts most now old new
+    passes_on : Passes most now old new → Lasts most now old new
+
+  -- It went on for the last time, as its stream failed with this error, or memory ran out. All objects of others that are to be woken were handed out; or memory ran
+  -- out for that, once these were.
+  pub data Fails (most now : ℕ) (old : Served H) (woken : List Waker) (error : Error) (new : Served H) : Type 0 where
+    fails_whole : (last : Served H) → Breaks now old error last → HandsOver last woken new → Fails most now old woken error new
+    fails_short : (last : Served H) → Lasts most now old last → HandsSome last woken new → error_kind error ≡ kinds.OutOfMemory → Fails most now old woken error new
+
+  -- It went on for the last time, and this is how it ended: its stream failed, or memory ran out; or nothing failed, and this is why. All objects of others that are
+  -- to be woken were handed out; or memory ran out for that, once these were.
+  pub data EndsBy (most now : ℕ) (old : Served H) (woken : List Waker) (end : End) : Type 0 where
+    ends_broken : (served last : Served H) (error : Error) → Breaks now old error served → HandsOver served woken last → end ≡ end_or last.end (ends.Failed error)
+        → EndsBy most now old woken end
+    ends_whole : (last : Served H) → Works most now old woken last → IsWhy table most last end → EndsBy most now old woken end
+    ends_short : (served last : Served H) → Lasts most now old served → HandsSome served woken last → IsShort last end → EndsBy most now old woken end
+
+  -- It went on; by this time its session met no limit, but the one of which its peer is told. No more is kept for it than this.
+  pub record Stays (most now : ℕ) (old : Served H) (woken : List Waker) (new : Served H) : Type 0 where
+    pub works : Works most now old woken new
+    pub unmet : (limit : Limit)
+        → Meets works.passes.worked.session.limits works.passes.worked.session.progress (kept_by table works.passes.worked) now limit
+        → IsTooMuch table works.passes.worked.session
+    pub within : kept_by table new ≤ most
+
+  -- it is closed, and has its number and its peer
+  abbrev pub Closes : ℕ → ℕ → Served H → List Waker → End → Served H → Type 0
+  Closes most now old woken end new = (new.number ≡ old.number) × (new.peer ≡ old.peer) × EndsBy most now old woken end
+
+  -- what a turn at this time does with it, where so many bytes may be kept for it
+  abbrev pub Visits : ℕ → ℕ → Served H → List Waker → Turn → Served H → Type 0
+  Visits most now old woken (turns.Over end) new = Closes most now old woken end new
+  Visits most now old woken turns.More new = Stays most now old woken new
+  Visits most now old woken turns.Waits new = Stays most now old woken new
+
+  -- an object of it is woken
+  abbrev pub Rouses : ℕ → Served H → Served H → Type 0
+  Rouses object old new = Wakes table object old.session new.session × (new ≡ record old { session = new.session })
+
+-- those that are to be woken are those of before, and then these
+abbrev pub Adds : List Waker → (List Waker → Type 0) → List Waker → Type 0
+Adds before P after = (woken : List Waker) × (after ≡ before ++ woken) × P woken
+
+-- Of a turn and its parts: whom its objects want to be woken comes after those that were to be before.
+module _ {H : Type 0} (table : ObjectTableKind H) where
+  abbrev pub VisitsAdding : Allowance → Served H → List Waker → Turn → Served H → List Waker → Type 0
+  VisitsAdding allowed old before turn new after = Adds before (λ woken. Visits table allowed.kept allowed.now old woken turn new) after
+
+  abbrev pub ClosesAdding : Allowance → Served H → List Waker → End → Served H → List Waker → Type 0
+  ClosesAdding allowed old before end new after = Adds before (λ woken. Closes table allowed.kept allowed.now old woken end new) after
+
+  abbrev pub StaysAdding : Allowance → Served H → List Waker → Served H → List Waker → Type 0
+  StaysAdding allowed old before new after = Adds before (λ woken. Stays table allowed.kept allowed.now old woken new) after
+
+  abbrev pub WorksAdding : Allowance → Served H → List Waker → Served H → List Waker → Type 0
+  WorksAdding allowed old before new after = Adds before (λ woken. Works table allowed.kept allowed.now old woken new) after
+
+  abbrev pub FailsAdding : Allowance → Served H → List Waker → Error → Served H → List Waker → Type 0
+  FailsAdding allowed old before error new after = Adds before (λ woken. Fails table allowed.kept allowed.now old woken error new) after
+
+-- a budget notes how much is kept for the connection of this number, or forgets it
+abbrev pub noting : Keeping → ℕ → ℕ → Keeping
+noting budget number bytes = record budget { kept = map.insert budget.kept number bytes }
+
+abbrev pub forgetting : Keeping → ℕ → Keeping
+forgetting budget number = record budget { kept = map.remove budget.kept number }
+
+-- a turn's budget has what is kept for a connection that goes on, and forgets one that ended
+abbrev pub Accounts : Turn → ℕ → ℕ → Keeping → Keeping → Type 0
+Accounts (turns.Over end) number bytes old new = new ≡ forgetting old number
+Accounts turns.More number bytes old new = new ≡ noting old number bytes
+Accounts turns.Waits number bytes old new = new ≡ noting old number bytes

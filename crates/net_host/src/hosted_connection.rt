@@ -1,0 +1,457 @@
+//! A connection that a host serves.
+
+ghost use Rattle.std.specs.Prelude.{◌≡◌, ◌≤◌, ◌↔◌, [], IsTrue, Some, None, IfSome, IfNone, IfOk, IfErr, OnOk, OnErr, length, take};
+ghost use Rattle.std.specs.IoError.{raw_os_error};
+ghost use Rattle.cp_session.specs.Doing.{due_of};
+ghost use Rattle.net_sockets.specs.Reading.{Fits};
+ghost use Rattle.net_host.specs.Feeding.{IsFed};
+ghost use Rattle.net_host.specs.HostedConnections.{Accounts, Adds, Breaks, CanTake, CanWrite, ClosesAdding, FailsAdding, HandsOver, HandsSome, Hears, IsOverdue, IsShort, MayHaveBytes, Minds, Proceeds, Rouses, Sends, Serves, StaysAdding, StopsShort, VisitsAdding, WorksAdding, came_by, end_or, heard, kept_by, new_served, served_of};
+ghost use Rattle.net_host.specs.Waking.{session_of};
+
+use crate::allowance::Allowance;
+use crate::end::{End, Ended};
+use crate::hosted_session::HostedSession;
+use crate::pending::PendingConnection;
+use cp_objects::Waker;
+use cp_session::{Budget, Limit, SessionEvent};
+use mio::event::Event;
+use net_sockets::{Got, NonblockingStream, Peer};
+use std::alloc::{AllocError, Global};
+use std::collections::VecDeque;
+use std::io::{self, ErrorKind};
+
+/// What is left to do for a connection.
+#[derive(Drop)]
+pub(crate) enum Turn {
+    /// Something can be done at once.
+    More,
+    /// Nothing can be done before the next event.
+    Waits,
+    Over(End),
+}
+
+/// A connection that a host serves: a session behind a stream.
+#[derive(Drop)]
+pub(crate) struct HostedConnection<S> {
+    alloc: Global,
+    number: u64,
+    peer: Peer,
+    stream: NonblockingStream,
+    session: S,
+    /// What was read of the peer and not taken.
+    rest: Vec<u8>,
+    /// Why nothing more is taken.
+    end: Option<End>,
+    /// The stream is closed for writing.
+    is_shut: bool,
+    /// It is in the queue of those that can go on.
+    queued: bool,
+}
+
+impl<S: HostedSession> HostedConnection<S> {
+    /// A connection of which nothing was read.
+    pub(crate) fn new(alloc: Global, pending: PendingConnection, session: S) -> HostedConnection<S>
+        ensures { served_of S.state result ≡ new_served pending (S.state session) }
+    {
+        HostedConnection {
+            alloc,
+            number: pending.number,
+            peer: pending.peer,
+            stream: pending.stream,
+            session,
+            rest: Vec::new(alloc),
+            end: None,
+            is_shut: false,
+            queued: true,
+        }
+    }
+
+    /// It ended in this way.
+    pub(crate) fn ended(&self, end: End) -> Ended
+        ensures { result ≡ record { number = self.now.number; peer = self.now.peer; end = end } }
+    {
+        Ended {
+            number: self.number,
+            peer: self.peer,
+            end,
+        }
+    }
+
+    /// What an event says of it. Says whether it comes into the queue.
+    pub(crate) fn mark(&mut self, event: &Event) -> bool
+        ensures { served_of S.state self.new ≡ served_of S.state self.old }
+    {
+        self.stream.mark(event);
+        let enters = !self.queued;
+        self.queued = true;
+        enters
+    }
+
+    /// When it meets a limit of time, if no byte moves before, or an object of it is to be woken.
+    pub(crate) fn deadline(&self) -> Option<u64>
+        ensures { result ≡ due_of S.table (S.state self.now.session) }
+    {
+        self.session.deadline()
+    }
+
+    /// Whether it meets a limit of time.
+    pub(crate) fn is_overdue(&self, now: u64) -> bool
+        ensures { IsTrue result ↔ IsOverdue S.table (S.state self.now.session) now }
+    {
+        match self.session.deadline() {
+            Some(deadline) => deadline <= now,
+            None => false,
+        }
+    }
+
+    /// How many bytes are kept for it.
+    pub(crate) fn kept(&self) -> u64
+        ensures { result ≡ kept_by S.table (served_of S.state self.now) }
+    {
+        self.session.kept()
+    }
+
+    /// The number of its session, under this key.
+    pub(crate) fn session(&self, key: usize) -> u64
+        ensures { result ≡ session_of self.now.number key }
+    {
+        session_number(self.number, key)
+    }
+
+    /// Wakes an object. Says whether it comes into the queue.
+    pub(crate) fn wake(&mut self, object: u32) -> Result<bool, AllocError>
+        ensures woken { OnOk result (Rouses S.table object (served_of S.state self.old) (served_of S.state self.new)) }
+        ensures err { OnErr result (served_of S.state self.new ≡ record (served_of S.state self.old) { session = (served_of S.state self.new).session }) }
+    {
+        self.session.wake(object)?;
+        let enters = !self.queued;
+        self.queued = true;
+        Ok(enters)
+    }
+
+    /// How it ended, as memory ran out.
+    pub(crate) fn run_out(&mut self) -> End
+        ensures end { IsShort (served_of S.state self.old) result }
+        ensures same { served_of S.state self.new ≡ record (served_of S.state self.old) { end = None } }
+    {
+        let error = io::Error::from(ErrorKind::OutOfMemory);
+        self.end_or(End::Failed(error))
+    }
+
+    /// Has a turn. A budget notes how much is kept for it then, or forgets it where it ended. Where it can't be noted, it ends. The
+    /// objects of other connections that are to be woken come after those that were to be before.
+    pub(crate) fn turn(
+        &mut self,
+        piece: &mut [u8],
+        budget: &mut Budget,
+        wakes: &mut VecDeque<Waker>,
+        allowed: Allowance,
+    ) -> Turn
+        ensures visits { VisitsAdding S.table allowed (served_of S.state self.old) wakes.old.items result (served_of S.state self.new) wakes.new.items }
+        ensures accounts { Accounts result allowed.account (kept_by S.table (served_of S.state self.new)) budget.old budget.new }
+    {
+        if let Some(end) = self.visit(piece, wakes, allowed) {
+            budget.forget(allowed.account);
+            return Turn::Over(end);
+        }
+        if budget.note(allowed.account, self.kept()).is_err() {
+            budget.forget(allowed.account);
+            return Turn::Over(self.run_out());
+        }
+        self.queued = self.can_go_on();
+        if !self.queued {
+            return Turn::Waits;
+        }
+        Turn::More
+    }
+
+    /// Goes on by one piece. Says how it ended, where its stream failed, its session is over, or more is kept for it than it is allowed
+    /// though its peer was refused.
+    fn visit(
+        &mut self,
+        piece: &mut [u8],
+        wakes: &mut VecDeque<Waker>,
+        allowed: Allowance,
+    ) -> Option<End>
+        ensures closes { IfSome result (λ end. ClosesAdding S.table allowed (served_of S.state self.old) wakes.old.items end (served_of S.state self.new) wakes.new.items) }
+        ensures stays { IfNone result (StaysAdding S.table allowed (served_of S.state self.old) wakes.old.items (served_of S.state self.new) wakes.new.items) }
+    {
+        if let Err(error) = self.work(piece, wakes, allowed) {
+            return Some(self.end_or(End::Failed(error)));
+        }
+        self.shut();
+        if self.session.is_over() {
+            return Some(self.end_or(End::Ended));
+        }
+        if self.kept() > allowed.kept {
+            return Some(self.end_or(End::Limit(Limit::Kept)));
+        }
+        None
+    }
+
+    /// Goes on by one piece, and has time pass. Notes events, and hands out the objects of other connections that are to be woken.
+    fn work(
+        &mut self,
+        piece: &mut [u8],
+        wakes: &mut VecDeque<Waker>,
+        allowed: Allowance,
+    ) -> io::Result<()>
+        ensures works { OnOk result (WorksAdding S.table allowed (served_of S.state self.old) wakes.old.items (served_of S.state self.new) wakes.new.items) }
+        ensures fails { IfErr result (λ error. FailsAdding S.table allowed (served_of S.state self.old) wakes.old.items error (served_of S.state self.new) wakes.new.items) }
+    {
+        if let Err(error) = self.move_on(piece, allowed) {
+            // What happened before the stream failed counts.
+            self.note_events();
+            self.hand_over(wakes)?;
+            return Err(error);
+        }
+        // A limit of time ends it at once. One that keeps too much is told so first.
+        self.session.tick(allowed.now);
+        self.refuse(allowed);
+        self.note_events();
+        self.hand_over(wakes)?;
+        Ok(())
+    }
+
+    /// Has its session refuse the peer, where more is kept for it than it is allowed: so the peer is told by an Abort.
+    fn refuse(&mut self, allowed: Allowance)
+        ensures refuses { Minds S.table allowed.kept allowed.now (S.state self.old.session) (S.state self.new.session) }
+        ensures same { served_of S.state self.new ≡ record (served_of S.state self.old) { session = S.state self.new.session } }
+    {
+        let kept = self.kept();
+        if kept > allowed.kept {
+            self.session.refuse(allowed.now);
+        }
+    }
+
+    /// Hands out the objects of other connections that are to be woken.
+    fn hand_over(&mut self, wakes: &mut VecDeque<Waker>) -> Result<(), AllocError>
+        ensures all { OnOk result (Adds wakes.old.items (λ woken. HandsOver S.table (served_of S.state self.old) woken (served_of S.state self.new)) wakes.new.items) }
+        ensures some { OnErr result (Adds wakes.old.items (λ woken. HandsSome S.table (served_of S.state self.old) woken (served_of S.state self.new)) wakes.new.items) }
+    {
+        for _ in 0..u64::MAX {
+            // Before one is taken out, so that none is lost.
+            wakes.reserve(1)?;
+            let Some(waker) = self.session.next_wake() else {
+                return Ok(());
+            };
+            wakes.push_back_reserved(waker);
+        }
+        Err(AllocError)
+    }
+
+    /// Writes what waits to be written, takes one piece or polls the objects once, and writes what that leads to.
+    fn move_on(&mut self, piece: &mut [u8], allowed: Allowance) -> io::Result<()>
+        ensures goes_on { OnOk result (Proceeds S.table allowed.now (served_of S.state self.old) (served_of S.state self.new)) }
+        ensures fails { IfErr result (λ error. Breaks S.table allowed.now (served_of S.state self.old) error (served_of S.state self.new)) }
+    {
+        // First what waits, so that more may be taken.
+        self.write(allowed.now)?;
+        self.go_on(piece, allowed)?;
+        self.write(allowed.now)
+    }
+
+    /// Takes what is left of a piece, or the next one, or polls the objects.
+    fn go_on(&mut self, piece: &mut [u8], allowed: Allowance) -> io::Result<()>
+        ensures goes_on { OnOk result (Proceeds S.table allowed.now (served_of S.state self.old) (served_of S.state self.new)) }
+        ensures fails { IfErr result (λ error. Breaks S.table allowed.now (served_of S.state self.old) error (served_of S.state self.new)) }
+    {
+        if !self.can_take() {
+            // Why it failed an event says.
+            let _ = self.session.poll(allowed.now);
+            return Ok(());
+        }
+        if self.rest.is_empty() {
+            return self.read(piece, allowed);
+        }
+        let left = self.rest.as_slice();
+        let count = feed(&mut self.session, left, allowed);
+        // A new vector, so that the memory of a long rest goes back.
+        let rest = Vec::from_slice(self.alloc, &left[count..])?;
+        self.rest = rest;
+        Ok(())
+    }
+
+    /// Reads a piece, takes of it what may be taken, and keeps the rest.
+    fn read(&mut self, piece: &mut [u8], allowed: Allowance) -> io::Result<()>
+        requires { self.old.rest.items ≡ [] }
+        ensures goes_on { OnOk result (Proceeds S.table allowed.now (served_of S.state self.old) (served_of S.state self.new)) }
+        ensures fails { IfErr result (λ error. Breaks S.table allowed.now (served_of S.state self.old) error (served_of S.state self.new)) }
+    {
+        let got = self.stream.read(piece)?;
+        self.take(got, piece, allowed)
+    }
+
+    /// Takes what a read gave, as far as it may be taken, and keeps the rest.
+    fn take(&mut self, got: Got, piece: &[u8], allowed: Allowance) -> io::Result<()>
+        requires empty { self.old.rest.items ≡ [] }
+        requires fits { Fits got (length piece.now) }
+        ensures goes_on { OnOk result (Serves S.table allowed.now (served_of S.state self.old) (came_by got piece.now) self.new.rest.items (served_of S.state self.new)) }
+        ensures stops { IfErr result (λ error. StopsShort S.table allowed.now (served_of S.state self.old) (came_by got piece.now) error (served_of S.state self.new)) }
+        ensures same { self.new.stream ≡ self.old.stream }
+    {
+        match got {
+            Got::Bytes(length) => {
+                let came = &piece[..length];
+                let count = feed(&mut self.session, came, allowed);
+                self.rest.extend_from_slice(&came[count..])?;
+                Ok(())
+            }
+            Got::Nothing => Ok(()),
+            Got::End => {
+                // Why it failed an event says.
+                let _ = self.session.end(allowed.now);
+                Ok(())
+            }
+        }
+    }
+
+    /// Writes as much as the stream takes.
+    fn write(&mut self, now: u64) -> io::Result<()>
+        ensures goes_on { OnOk result (Proceeds S.table now (served_of S.state self.old) (served_of S.state self.new)) }
+        ensures fails { IfErr result (λ error. Breaks S.table now (served_of S.state self.old) error (served_of S.state self.new)) }
+    {
+        for _ in 0..u64::MAX {
+            if !self.can_write() {
+                return Ok(());
+            }
+            self.write_some(now)?;
+        }
+        Ok(())
+    }
+
+    /// Offers the stream what waits, and says how much it took.
+    fn write_some(&mut self, now: u64) -> io::Result<usize>
+        ensures sends { IfOk result (λ count. Sends S.table (served_of S.state self.old) count now (served_of S.state self.new)) }
+        ensures unsent { IfErr result (λ error. served_of S.state self.new ≡ record (served_of S.state self.old) { failure = Some (raw_os_error error) }) }
+    {
+        let count = self.stream.write(self.session.outgoing())?;
+        if count == 0 {
+            return Ok(0);
+        }
+        self.session.wrote(count, now);
+        Ok(count)
+    }
+
+    /// Keeps why nothing more is taken, once an event says it.
+    fn note_events(&mut self)
+        ensures { Hears S.table (served_of S.state self.old) (served_of S.state self.new) }
+    {
+        for _ in 0..u64::MAX {
+            let is_told = self.note_event();
+            if !is_told {
+                return;
+            }
+        }
+    }
+
+    /// Takes the next event. Says whether there was one.
+    fn note_event(&mut self) -> bool
+        ensures { Hears S.table (served_of S.state self.old) (served_of S.state self.new) }
+    {
+        let Some(event) = self.session.poll_event() else {
+            return false;
+        };
+        self.handle(event);
+        true
+    }
+
+    /// Keeps how the connection ended, where an event says it.
+    fn handle(&mut self, event: SessionEvent)
+        ensures { served_of S.state self.new ≡ heard event (served_of S.state self.old) }
+    {
+        if let Some(end) = End::of_event(event) {
+            drop(self.end.replace(end));
+        }
+    }
+
+    /// Once all went out, has the peer told that nothing more comes. So one that got an Abort, or whose bytes were refused, loses
+    /// nothing of it, as what it still sends is taken off the stream. One that sent an Abort closes by itself.
+    fn shut(&mut self)
+        ensures { served_of S.state self.new ≡ served_of S.state self.old }
+    {
+        if self.is_shut || !self.session.is_draining() {
+            return;
+        }
+        self.is_shut = true;
+        let is_peers = match &self.end {
+            Some(end) => end.is_peers(),
+            None => false,
+        };
+        if !is_peers {
+            self.stream.shut();
+        }
+    }
+
+    /// Whether it can go on before the next event.
+    fn can_go_on(&self) -> bool {
+        self.can_write() || self.can_take() || self.session.has_more()
+    }
+
+    /// Whether something can be written.
+    fn can_write(&self) -> bool
+        ensures { IsTrue result ↔ CanWrite S.state self.now }
+    {
+        self.stream.is_writable() && !self.session.outgoing().is_empty()
+    }
+
+    /// Whether there may be bytes of the peer, and some are taken.
+    fn can_take(&self) -> bool
+        ensures { IsTrue result ↔ CanTake S.state self.now }
+    {
+        self.session.takes_bytes() && self.may_have_bytes()
+    }
+
+    /// Whether there may be bytes of the peer, or its end.
+    fn may_have_bytes(&self) -> bool
+        ensures { IsTrue result ↔ MayHaveBytes S.state self.now }
+    {
+        self.stream.is_readable() || !self.rest.is_empty()
+    }
+
+    /// How it ended before, or else in this way.
+    fn end_or(&mut self, other: End) -> End
+        ensures end { result ≡ end_or self.old.end other }
+        ensures same { served_of S.state self.new ≡ record (served_of S.state self.old) { end = None } }
+    {
+        match self.end.take() {
+            Some(end) => end,
+            None => other,
+        }
+    }
+}
+
+/// The number of the session of a connection, by its number and its key: 32 bits of each.
+pub(crate) fn session_number(number: u64, key: usize) -> u64
+    ensures { result ≡ session_of number key }
+{
+    (number % 0x1_0000_0000) * 0x1_0000_0000 + key as u64 % 0x1_0000_0000
+}
+
+/// Gives a session these bytes, within so many messages and until more is kept for it than it is allowed, and says how many were taken.
+fn feed<S: HostedSession>(session: &mut S, piece: &[u8], allowed: Allowance) -> usize
+    ensures few { result ≤ length piece.now }
+    ensures fed { IsFed S.table allowed.now (S.state session.old) (take result piece.now) (S.state session.new) }
+{
+    let mut left = piece;
+    for _ in 0..allowed.messages {
+        // Looked at after each message, so that no more is kept beyond that than one message leads to.
+        if left.is_empty() || !session.takes_bytes() || session.kept() > allowed.kept {
+            break;
+        }
+        let count = feed_next(session, left, allowed.now);
+        left = &left[count..];
+    }
+    piece.len() - left.len()
+}
+
+/// Gives a session these bytes up to the end of a message, and says how many were taken: none at a fault, of which an event tells.
+fn feed_next<S: HostedSession>(session: &mut S, piece: &[u8], now: u64) -> usize
+    ensures few { result ≤ length piece.now }
+    ensures fed { IsFed S.table now (S.state session.old) (take result piece.now) (S.state session.new) }
+{
+    match session.receive(piece, now) {
+        Ok(count) => count,
+        Err(_) => 0,
+    }
+}
