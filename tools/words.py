@@ -70,20 +70,35 @@ KEPT = [
 ]
 
 
+# (a pattern is tried in files that have one of its words, or a word with one of these endings)
+WORD = re.compile(r"\w+")
+ENDINGS = ("View", "Draft", "Servant")
+
+
+def looks_at(text):
+    """The old words that may stand in a text, each with its new one."""
+    words = {*WORD.findall(text)}
+    for old in words & NAMES.keys():
+        yield re.compile(rf"\b{old}\b"), NAMES[old]
+    endings = {it for it in ENDINGS for word in words if word.endswith(it)}
+    for old, new in CODE.items():
+        if not (words | endings).isdisjoint(WORD.findall(old.replace(r"\b", " "))):
+            yield re.compile(old), new
+
+
 def main():
-    looks = [(re.compile(rf"\b{old}\b"), new) for old, new in NAMES.items()] + [(re.compile(old), new) for old, new in CODE.items()]
     names = subprocess.run(["git", "ls-files"], cwd=TOP, capture_output=True, text=True, check=True).stdout.splitlines()
     found = 0
     for name in names:
         if not READ.search(name) or SKIPPED.search(name) or not (TOP / name).is_file():
             continue
         kept = [re.compile(word) for where, word in KEPT if re.search(where, name)]
-        for number, line in enumerate((TOP / name).read_text(encoding="utf-8", errors="replace").splitlines(), 1):
-            for look, new in looks:
-                for m in look.finditer(line):
-                    if not any(k.search(m[0]) for k in kept):
-                        print(f"{name}:{number}: {m[0]}: {new}")
-                        found += 1
+        text = (TOP / name).read_text(encoding="utf-8", errors="replace")
+        for look, new in looks_at(text):
+            for m in look.finditer(text):
+                if not any(k.search(m[0]) for k in kept):
+                    print(f"{name}:{text.count(chr(10), 0, m.start()) + 1}: {m[0]}: {new}")
+                    found += 1
     return found > 0
 
 
