@@ -10,7 +10,8 @@
  *   copied, and C reads and writes none of its fields.
  * - A handle is in one call at a time, and all of its calls are on one thread. Two handles share nothing.
  * - A pointer with a length leads to that much memory, which nobody writes during the call. At a length of 0 any pointer
- *   that isn't null will do. Other pointers are never null, and lead to a value of their type.
+ *   will do, null too. Other pointers are never null, and lead to a value of their type. (A program that calls the library
+ *   without this header gives no null at a length of 0: the macros at its end see to that.)
  * - The arguments of a call don't overlap, where the call writes one of them.
  * - malloc, realloc and free are of one allocator, and align as the C library's do.
  * - No call is made in a signal handler, nor in the forked child of a process with threads.
@@ -420,6 +421,38 @@ uint32_t jd_pack(const uint64_t *words, size_t len, uint8_t *out, size_t room, s
  *   JD_FRAME_TOO_LARGE: they are more. JD_TRUNCATED: the bytes end inside a group. JD_OUT_OF_MEMORY. `out` is as it was.
  */
 uint32_t jd_unpack(const uint8_t *bytes, size_t len, uint64_t *out, size_t room, size_t *count);
+
+/* ---- Null at a length of 0: the library gets a pointer that isn't null ---- */
+
+#define JD_SOME(type, name) \
+    static inline type *name(type *at) { \
+        static uint64_t nothing; \
+        return at ? at : (type *)&nothing; \
+    }
+JD_SOME(const uint8_t, jd_some_bytes)
+JD_SOME(const uint64_t, jd_some_words)
+JD_SOME(const char, jd_some_text)
+JD_SOME(const struct jd_cap, jd_some_caps)
+JD_SOME(const struct jd_method, jd_some_methods)
+JD_SOME(uint8_t, jd_room_for_bytes)
+JD_SOME(uint64_t, jd_room_for_words)
+JD_SOME(char, jd_room_for_text)
+
+#define jd_text(code, spot, out, room) jd_text(code, spot, jd_room_for_text(out), room)
+#define jd_reader_next(reader, piece, len, step) jd_reader_next(reader, jd_some_bytes(piece), len, step)
+#define jd_reader_copy(reader, from, out, room) jd_reader_copy(reader, from, jd_room_for_bytes(out), room)
+#define jd_connection_receive(connection, piece, len, taken) jd_connection_receive(connection, jd_some_bytes(piece), len, taken)
+#define jd_connection_call(connection, target, method, params, len, caps, caps_len, question) \
+    jd_connection_call(connection, target, method, jd_some_bytes(params), len, jd_some_caps(caps), caps_len, question)
+#define jd_connection_answer(connection, origin, results, len, caps, caps_len) \
+    jd_connection_answer(connection, origin, jd_some_bytes(results), len, jd_some_caps(caps), caps_len)
+#define jd_connection_fail(connection, origin, type, reason, len) jd_connection_fail(connection, origin, type, jd_some_text(reason), len)
+#define jd_relay_open(relay, packed, output, limits, methods, len, only) \
+    jd_relay_open(relay, packed, output, limits, jd_some_methods(methods), len, only)
+#define jd_relay_feed(relay, piece, len, bytes, at, spot) jd_relay_feed(relay, jd_some_bytes(piece), len, bytes, at, spot)
+#define jd_check(bytes, len, packed, limits, what, checked, spot) jd_check(jd_some_bytes(bytes), len, packed, limits, what, checked, spot)
+#define jd_pack(words, len, out, room, count) jd_pack(jd_some_words(words), len, jd_room_for_bytes(out), room, count)
+#define jd_unpack(bytes, len, out, room, count) jd_unpack(jd_some_bytes(bytes), len, jd_room_for_words(out), room, count)
 
 #ifdef __cplusplus
 }

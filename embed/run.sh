@@ -9,6 +9,7 @@ mkdir -p "$1" && folder=$(cd "$1" && pwd)
 for program in sizes check convert relay; do
     cc -std=c99 -O2 -Wall -Wextra -Wpedantic -Werror -I "$here" -o "$folder/$program" "$here/$program.c" "$folder/libjamdrosek.a"
 done
+cc -std=c99 -O2 -Wall -Wextra -Wpedantic -Werror -DWITH_MAIN -I "$here" -o "$folder/calls" "$here/calls.c" "$folder/libjamdrosek.a"
 cc -std=gnu99 -O2 -Wall -Wextra -Werror -I "$here" -o "$folder/echo" "$here/echo.c" "$folder/libjamdrosek.a"
 cc -std=c99 -O2 -Wall -I "$here" -Wl,--wrap=malloc,--wrap=realloc,--wrap=free -o "$folder/starved" "$here/starved.c" "$folder/libjamdrosek.a"
 ! command -v capnp >/dev/null || g++ -std=c++17 -O2 -Wall -I "$here" -o "$folder/rpc" "$here/rpc.cpp" "$folder/libjamdrosek.a" -lcapnp -lkj
@@ -30,7 +31,8 @@ watched=()
 ! command -v valgrind >/dev/null || watched=(valgrind -q --leak-check=full --error-exitcode=9)
 
 ./sizes
-diff <(nm -D --defined-only libjamdrosek.so | sed -n 's/.* T jd_/jd_/p' | sort) <(grep -oE '\bjd_[a-z_]+\(' "$here/jamdrosek.h" | tr -d '(' | sort -u)
+"${watched[@]}" ./calls
+diff <(nm -D --defined-only libjamdrosek.so | sed -n 's/.* T jd_/jd_/p' | sort) <(grep -oE '\bjd_[a-z_]+\(' "$here/jamdrosek.h" | tr -d '(' | grep -vE '^jd_(some|room_for)_' | sort -u)
 cd streams
 for options in "" --messages; do
     "${watched[@]}" ../check $options <all.plain | cmp - all.said

@@ -72,7 +72,8 @@ look() { "$root/tools/test_first_look.sh"; }
 
 proofs() {
     local crate failed=0 tests
-    tests=$(sed -n 's/^\([a-z_]*\):.*/\1/p' "$root/tests/libraries.txt")
+    # (but those that C links with, which no proof covers)
+    tests=$(sed -n 's/^\([a-z_]*\):.*/\1/p' "$root/tests/libraries.txt" | while read -r crate; do [ -e "$root/tests/$crate/links" ] || echo "$crate"; done)
     lay_tests "$folder/tests" $tests || return 1
     for crate in $tests; do (prove "$folder/tests" "$crate") || failed=1; done
     return "$failed"

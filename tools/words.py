@@ -1,7 +1,7 @@
 #!/usr/bin/env python3
-"""tools/words.py    lists old names of types, calls and crates that came back; DECISIONS.md has the table of old and new.
+"""tools/words.py    lists old names of types, calls and crates that came back, each with what it is called now.
 
-It reads the sources, the documents and the scripts of the repository, without CHANGELOG.md and DECISIONS.md. A word that is plain English
+It reads the sources, the documents and the scripts of the repository, without CHANGELOG.md. A word that is plain English
 is looked for as code alone: before `(`, `<` or `::`, or in backticks. The status is 1 where something is listed.
 """
 import pathlib
@@ -11,7 +11,7 @@ import sys
 
 TOP = pathlib.Path(__file__).resolve().parent.parent
 READ = re.compile(r"\.(rt|rs|antt|in|edit|md|py|sh|txt|capnp|c|h|cpp|hpp)$|/Makefile$")
-SKIPPED = re.compile(r"^(docs/(CHANGELOG|DECISIONS)\.md|tools/words\.py|bench/history\.tsv)$")
+SKIPPED = re.compile(r"^(docs/CHANGELOG\.md|tools/words\.py|bench/history\.tsv)$")
 
 # Names, with what they are called now.
 NAMES = {
@@ -33,8 +33,9 @@ NAMES = {
     "StructsDraft": "StructListBuilder",
     "Underway": "PendingCall",
     "any_again": "any_has_more",
+    "cp_interface_objects": "cp_interfaces",
     "cp_makers": "cp_objects",
-    "cp_services": "cp_interface_objects",
+    "cp_services": "cp_interfaces",
     "cp_stubs": "cp_interfaces",
     "kin_of": "objects_of",
 }

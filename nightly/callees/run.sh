@@ -174,8 +174,8 @@ peer 1 "aborted by the peer: failed: no" read drip "$build/abort" until
 peer 1 "the peer's messages ended" read
 peer 1 "the peer's messages ended"
 peer 1 "refused at byte 0: F3 Truncated" read half "$build/abort"
-peer 1 "refused at byte 0: F1 TooManySegments: the peer speaks HTTP, and not Cap'n Proto" read send "$build/garbage" pause
-peer 1 "refused at byte 0: F1 TooManySegments: the peer's frames seem to be packed: give --packed" read send "$build/packed" pause
+peer 1 "refused at byte 0: F1 TooManySegments" read send "$build/garbage" pause
+peer 1 "refused at byte 0: F1 TooManySegments" read send "$build/packed" pause
 peer 1 "the peer's messages ended" read reset
 peer 2 "device: $at: nothing came for 2 s" read until
 peer 1 'question:1 exception overloaded "later"
@@ -186,6 +186,8 @@ peer 1 'question:1 exception overloaded "later"
 aborted by the peer: failed: no' read send "$build/failed" send "$build/abort"
 peer 2 "question:1 exception overloaded \"later\"
 device: $at: nothing came for 2 s" read send "$build/failed" until
+peer 1 'question:2 results {null caps[]}
+the peer'"'"'s messages ended' read send "$build/null"
 peer 1 "fault of the peer: P2 unknown question" read send "$build/unknown" until
 peer 1 "fault of the peer: P12 peer lacks level 1" read send "$build/lacks" until
 peer 1 "fault of the peer: P4 unknown export" read send "$build/export" until

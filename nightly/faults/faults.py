@@ -48,7 +48,7 @@ INTERRUPTED = {
     "relay": naming(errno.EINTR),
     "relay with rules": naming(errno.EINTR),
 }
-# What says that a reader or a peer is gone: the command ends as docs/PROFILE.md says of that, and it isn't a device's fault.
+# What says that a reader or a peer is gone: the command ends as docs/COMMAND.md says of that, and it isn't a device's fault.
 GONE = {"write": [errno.EPIPE], "recv": [errno.ECONNRESET], "send": [errno.EPIPE, errno.ECONNRESET]}
 # The sessions whose sockets never wait.
 NEVER_WAIT = ["serve --at-once", "call", "call --timeout", "relay", "relay with rules"]

@@ -6,7 +6,7 @@ import re
 from session import BUILD
 
 MEMORY = "OutOfMemory|out of memory|memory ran out|wanted memory|memory allocation failed"
-# The lines that docs/PROFILE.md has: of status 1, and of status 2. A path is that of a request.
+# The lines that docs/COMMAND.md has: of status 1, and of status 2. A path is that of a request.
 REFUSAL = r"refused at byte \d+: [BFGS]\d+ [A-Z]\w+.*|(call \d+: )?refused: V10 OutOfMemory|the peer's messages ended|not answered: F6 OutOfMemory"
 FAILURE = r"device(: [^:]+){0,2}|error: (out of memory|[\w.-]+: memory ran out)|call \d+: column \d+: wanted memory|/[^:]*: .*"
 

@@ -16,30 +16,46 @@ class Copier(Printer):
         code = kind["kind"]
         read = f"{at}.{method(field['name'])}()?"
         if code == 12:
-            copied = f"{to}.{setter}(alloc, {read}.text(alloc)?.as_str())?;"
+            copied = f"{to}.{setter}({read})?;"
         elif code == 13:
             copied = f"{to}.{setter}({read}.to_vec(alloc)?)?;"
         elif code == 16:
-            copied = f"{to}.{setter}({self.struct(self.nodes[kind['id']])}(alloc, &{read})?);"
+            copied = f"{to}.{setter}({self.struct(self.nodes[kind['id']])}(alloc, &{read})?){self.fails(kind)};"
         elif code == 14 and kind["elem"]["kind"] == 16:
             node = self.nodes[kind["elem"]["id"]]
             self.cite(node, "ListBuilder")
             copied = (f"let mut items = {self.name(node)}ListBuilder::new(alloc); "
-                      f"for item in {read} {{ items.push({self.struct(node)}(alloc, &item)?)?; }} {to}.{setter}(items);")
+                      f"for item in {read} {{ items.push({self.struct(node)}(alloc, &item)?)?; }} {to}.{setter}(items){self.fails(kind)};")
         elif code == 14 and kind["elem"]["kind"] in VECTORS:
             copied = f"let mut items = Vec::new(alloc); for item in {read} {{ items.push(item)?; }} {to}.{setter}(items)?;"
         elif code == 14 and kind["elem"]["kind"] in SLICES:
             copied = f"let mut items = Vec::new(alloc); for item in {read} {{ items.push(item)?; }} {to}.{setter}(alloc, items.as_slice())?;"
         elif code == 14 and kind["elem"]["kind"] == 12:
-            self.types.add(("cp_interface_objects", "TextListBuilder"))
+            self.types.add(("cp_interfaces", "TextListBuilder"))
             copied = (f"let mut items = TextListBuilder::new(alloc); for item in {read} {{ items.push(item?.text(alloc)?.as_str())?; }} "
                       f"{to}.{setter}(items)?;")
         elif code == 14 and kind["elem"]["kind"] == 13:
-            self.types.add(("cp_interface_objects", "DataListBuilder"))
+            self.types.add(("cp_interfaces", "DataListBuilder"))
             copied = f"let mut items = DataListBuilder::new(alloc); for item in {read} {{ items.push(item?.to_vec(alloc)?)?; }} {to}.{setter}(items)?;"
         else:
             copied = f"{to}.body.set_pointer({place}, whole_at(alloc, &{at}.body, {place})?);"
         return f"if !{at}.body.pointer({place}).is_null() {{ {copied} }}"
+
+    def fails(self, kind):
+        """What ends the setter of a struct or a list of them, which takes readers too, and may fail, if its type can name no capability."""
+        return "" if self.can_name(kind, set()) else "?"
+
+    def can_name(self, kind, seen):
+        """Whether a value of a type can name a capability."""
+        while kind["kind"] == 14:
+            kind = kind["elem"]
+        return kind["kind"] in (17, 18) or kind["kind"] == 16 and self.node_can_name(kind["id"], seen)
+
+    def node_can_name(self, id, seen):
+        if id in seen:
+            return False
+        seen.add(id)
+        return any(self.node_can_name(it["group"], seen) if it["which"] == 1 else self.can_name(it["type"], seen) for it in self.nodes[id]["fields"])
 
     def field(self, field, at, to, prefix):
         """Statements that copy a field; a member of a union is chosen first, as it may be null."""

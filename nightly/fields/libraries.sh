@@ -1,7 +1,7 @@
 # How a folder, $room, gets copies of the libraries that programs over generated code use, from the repository, $root. It is sourced.
 
 libraries=(cp_words cp_tree cp_reading cp_writing cp_packed cp_frame cp_messages cp_rpc cp_stream cp_fields cp_builder cp_tables cp_refs
-    cp_vat_machine cp_servants cp_objects cp_interfaces cp_interface_objects)
+    cp_vat_machine cp_servants cp_objects cp_interfaces)
 
 take_libraries() {
     rm -rf "$room/crates" "$room/crates.txt"

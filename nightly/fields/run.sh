@@ -42,7 +42,7 @@ make_copier() { # NAME STRUCT: the program that builds the messages of a schema 
     [ "$plugin" != - ] || return 0
     mkdir -p "$room/crates/copy_$1/src"
     "$here/copy.py" "$room/$1.request" "$2" >"$room/crates/copy_$1/src/main.rt"
-    printf 'copy_%s: cp_words cp_tree cp_reading cp_frame cp_fields cp_builder cp_interface_objects cp_stream %s anyhow\n' "$1" "$1" >>"$room/crates.txt"
+    printf 'copy_%s: cp_words cp_tree cp_reading cp_frame cp_fields cp_builder cp_stream %s anyhow\n' "$1" "$1" >>"$room/crates.txt"
 }
 
 same() { # TEXTS READER: whether what was found is what is wanted

@@ -22,8 +22,8 @@ generate directory
 generate workshop
 cp -a "$here/must-fail" "$room/crates/directory/"
 lay_crate "$room" "$here" interfaces "jamdrosek calculator directory anyhow"
-lay_crate "$room" "$here/test_stubs" test_stubs "cp_words cp_tree cp_messages cp_rpc cp_tables cp_refs cp_vat_machine cp_fields cp_builder cp_servants cp_objects cp_interfaces cp_interface_objects directory"
-lay_crate "$room" "$here/test_workshop" test_workshop "cp_words cp_tree cp_messages cp_rpc cp_tables cp_refs cp_vat_machine cp_fields cp_builder cp_servants cp_objects cp_interfaces cp_interface_objects workshop"
+lay_crate "$room" "$here/test_stubs" test_stubs "cp_words cp_tree cp_messages cp_rpc cp_tables cp_refs cp_vat_machine cp_fields cp_builder cp_servants cp_objects cp_interfaces directory"
+lay_crate "$room" "$here/test_workshop" test_workshop "cp_words cp_tree cp_messages cp_rpc cp_tables cp_refs cp_vat_machine cp_fields cp_builder cp_servants cp_objects cp_interfaces workshop"
 said=$(cd "$room/crates/interfaces" && rt run -- memory)
 [ "$said" = "Ada is 36, and the watcher was told of 1" ] || fail "in memory: $said"
 cp "$room/crates/interfaces/out/interfaces" "$folder/"

@@ -1,5 +1,5 @@
 #!/usr/bin/env python3
-"""follow.py FOLDER    follows "From a schema to a running service" of the README in FOLDER/clone, a fresh clone: saves each listing under the
+"""follow.py FOLDER    follows "A service" of the README in FOLDER/clone, a fresh clone: saves each listing under the
                     path that the text before it names, and runs each line. Each line is printed with what it said and how long it took."""
 import pathlib
 import re
@@ -10,12 +10,12 @@ import time
 
 TOP = pathlib.Path(__file__).resolve().parent.parent.parent
 PORT = 7001
-WANTED = ["the page says hello, told of hello\n", "results Page.read (text = \"hello\")\n"]
+WANTED = ["blue\n", "results Store.get (value = \"blue\")\n"]
 
 
 def steps_of(text):
     """The listings, each with its path, and the lines to run, in order."""
-    story = re.search(r"\n## From a schema to a running service\n(.*?)\n## ", text, re.S)[1]
+    story = re.search(r"\n## A service\n(.*?)\n## ", text, re.S)[1]
     path = None
     for step in re.finditer(r"^```\w+ [^\n]*\n(.*?)^```|^    ([^\n]*)|\bas\s+`([^`]+)`", story, re.S | re.M):
         listing, line, name = step.groups()
@@ -54,6 +54,8 @@ def follow(clone):
             print(f"{time.strftime('%T')} $ {text}", flush=True)
             if " &" in text:
                 server = begin(text, clone)
+            elif text.startswith("kill "):
+                continue
             else:
                 ran = subprocess.run(["bash", "-c", text], cwd=clone, stdout=subprocess.PIPE, text=True)
                 said += ran.stdout

@@ -1,5 +1,5 @@
 @0xf63c9cfdd6c3a619;
-# Texts by their keys, as an interface: capnpc_rattle made this crate of it.
+# A store of texts, which many clients share.
 
 interface Store {
   # Keeps texts by their keys.

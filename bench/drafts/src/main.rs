@@ -25,7 +25,7 @@ struct Times {
 
 fn phones(alloc: Global) -> anyhow::Result<PersonPhoneNumberListBuilder> {
     let mut phone = PersonPhoneNumberBuilder::new(alloc)?;
-    phone.set_number(alloc, "555-1212")?;
+    phone.set_number("555-1212")?;
     phone.set_type(PersonPhoneNumberType::Home);
     let mut phones = PersonPhoneNumberListBuilder::new(alloc);
     phones.push(phone)?;
@@ -35,10 +35,10 @@ fn phones(alloc: Global) -> anyhow::Result<PersonPhoneNumberListBuilder> {
 fn person(alloc: Global, i: u32) -> anyhow::Result<PersonBuilder> {
     let mut person = PersonBuilder::new(alloc)?;
     person.set_id(i);
-    person.set_name(alloc, "Alice Example")?;
-    person.set_email(alloc, "alice@example.com")?;
-    person.set_phones(phones(alloc)?);
-    person.set_employment_employer(alloc, "MIT")?;
+    person.set_name("Alice Example")?;
+    person.set_email("alice@example.com")?;
+    person.set_phones(phones(alloc)?)?;
+    person.set_employment_employer("MIT")?;
     person.set_age((i % 90) as u8);
     person.set_active(i % 3 == 0);
     Ok(person)
@@ -50,7 +50,7 @@ fn book(alloc: Global) -> anyhow::Result<AddressBookBuilder> {
         people.push(person(alloc, i)?)?;
     }
     let mut book = AddressBookBuilder::new(alloc)?;
-    book.set_people(people);
+    book.set_people(people)?;
     Ok(book)
 }
 

@@ -1,18 +1,19 @@
 //! `address_book` of addressbook.capnp, made by capnpc_rattle.
 
-ghost use Rattle.std.specs.Prelude.{◌≡◌, IfOk, OnOk, OnErr, Err, ◌≤◌, ◌^◌, length, ◌+◌, []};
+ghost use Rattle.std.specs.Prelude.{◌≡◌, IfOk, OnOk, OnErr, Err, ◌+◌, []};
 ghost use Rattle.cp_words.specs.declared.pointer.ElementSize.TheVariants as sizes;
 ghost use Rattle.cp_tree.specs.Seen.{pointee_of};
+ghost use Rattle.cp_tree.specs.Shaped.{Shaped};
 ghost use Rattle.cp_fields.specs.Constants.{constant_of};
 ghost use Rattle.cp_fields.specs.Pointers.{Reads, list_field, or_default, struct_field};
 ghost use Rattle.cp_builder.specs.declared.fault.BuildError.TheVariants.{TooLong};
-ghost use Rattle.cp_builder.specs.Drafts.{HoldsOneMore, blank, blank_list, with_last, with_pointer};
+ghost use Rattle.cp_builder.specs.Copies.{Sets, placed};
+ghost use Rattle.cp_builder.specs.Drafts.{HoldsOneMore, blank, blank_list, with_last};
 ghost use Rattle.cp_interfaces.specs.Promises.{along};
-ghost use Rattle.cp_interface_objects.specs.Lists.{pointers_tree};
 ghost use Rattle.addressbook.specs.AddressBook.{address_book_owner_default, address_book_circles_default};
 
-use crate::person::{PersonBuilder, PersonListBuilder, PersonPipeline, PersonReader};
-use cp_builder::{BuildError, StructBuilder, StructListBuilder};
+use crate::person::{PersonPipeline, PersonReader};
+use cp_builder::{BuildError, FieldValue, StructBuilder, StructListBuilder};
 use cp_fields::{
     Constant, ConstantBody, Element, List, PointerReader, StructReader, TextReader, WrongKind,
 };
@@ -97,29 +98,44 @@ impl AddressBookBuilder {
     }
 
     /// Sets `people`.
-    pub fn set_people(&mut self, value: PersonListBuilder)
-        ensures { self.new.body ≡ with_pointer self.old.body 0 value.items }
+    pub fn set_people<'a, V: FieldValue<List<'a, PersonReader<'a>>>>(
+        &mut self,
+        value: V,
+    ) -> Result<(), BuildError>
+        ensures set { OnOk result (Sets (V.stands value) self.old.body 0 self.new.body) }
+        ensures left { OnErr result (self.new ≡ self.old) }
+        ensures long { result ≡ Err TooLong → V.is_long value }
     {
-        self.body.set_pointer(0, value.items.into_whole());
+        let whole = value.into_whole(self.body.alloc())?;
+        self.body.set_pointer(0, whole);
+        Ok(())
     }
 
     /// Whose book it is.
-    pub fn set_owner(&mut self, value: PersonBuilder)
-        ensures { self.new.body ≡ with_pointer self.old.body 1 value.body }
+    pub fn set_owner<'a, V: FieldValue<PersonReader<'a>>>(
+        &mut self,
+        value: V,
+    ) -> Result<(), BuildError>
+        ensures set { OnOk result (Sets (V.stands value) self.old.body 1 self.new.body) }
+        ensures left { OnErr result (self.new ≡ self.old) }
+        ensures long { result ≡ Err TooLong → V.is_long value }
     {
-        self.body.set_pointer(1, value.body.into_whole());
+        let whole = value.into_whole(self.body.alloc())?;
+        self.body.set_pointer(1, whole);
+        Ok(())
     }
 
     /// What people are sorted into.
-    pub fn set_circles(
+    pub fn set_circles<'a, V: FieldValue<List<'a, Result<TextReader<'a>, WrongKind>>>>(
         &mut self,
-        value: cp_interface_objects::TextListBuilder,
+        value: V,
     ) -> Result<(), BuildError>
-        ensures set { OnOk result (self.new.body ≡ with_pointer self.old.body 2 (pointers_tree value.items.items)) }
+        ensures set { OnOk result (Sets (V.stands value) self.old.body 2 self.new.body) }
         ensures left { OnErr result (self.new ≡ self.old) }
-        ensures long { result ≡ Err TooLong → 2 ^ 29 ≤ length value.items.items }
+        ensures long { result ≡ Err TooLong → V.is_long value }
     {
-        self.body.set_pointer(2, value.into_whole()?);
+        let whole = value.into_whole(self.body.alloc())?;
+        self.body.set_pointer(2, whole);
         Ok(())
     }
 }
@@ -151,13 +167,49 @@ impl AddressBookListBuilder {
     }
 }
 
-impl cp_interface_objects::ListValue for AddressBookListBuilder {
+impl cp_interfaces::ListValue for AddressBookListBuilder {
     ghost tree = { λ l. l.items };
 
     ghost is_long = { λ l. ¬ (Unit {0}) };
 
     fn into_list(self, alloc: Global) -> Result<Whole, BuildError> {
         let _ = alloc;
+        Ok(self.items.into_whole())
+    }
+}
+
+impl<'a> FieldValue<AddressBookReader<'a>> for AddressBookReader<'a> {
+    ghost stands = { λ r t. t ≡ placed [] r.body };
+
+    ghost is_long = { λ r. ¬ (Shaped (placed [] r.body)) };
+
+    fn into_whole(self, alloc: Global) -> Result<Whole, BuildError> {
+        cp_builder::struct_copy(alloc, &self.body, &[])
+    }
+}
+
+impl<'a> FieldValue<AddressBookReader<'a>> for AddressBookBuilder {
+    ghost stands = { λ d t. t ≡ d.body };
+
+    ghost is_long = { λ d. ⊥ };
+
+    fn into_whole(self, _alloc: Global) -> Result<Whole, BuildError>
+        ensures value { IfOk result (λ whole. whole ≡ self.body) }
+        ensures long { result ≡ Err TooLong → ⊥ }
+    {
+        Ok(self.body.into_whole())
+    }
+}
+
+impl<'a> FieldValue<List<'a, AddressBookReader<'a>>> for AddressBookListBuilder {
+    ghost stands = { λ l t. t ≡ l.items };
+
+    ghost is_long = { λ l. ⊥ };
+
+    fn into_whole(self, _alloc: Global) -> Result<Whole, BuildError>
+        ensures value { IfOk result (λ whole. whole ≡ self.items) }
+        ensures long { result ≡ Err TooLong → ⊥ }
+    {
         Ok(self.items.into_whole())
     }
 }

@@ -1,20 +1,22 @@
 //! `person` of addressbook.capnp, made by capnpc_rattle.
 
-ghost use Rattle.std.specs.Prelude.{◌≡◌, not, from_bits, to_bits, bit_xor, IfOk, OnOk, OnErr, IfErr, Err, ◌≤◌, ◌^◌, length, ◌+◌, []};
+ghost use Rattle.std.specs.Prelude.{◌≡◌, not, from_bits, to_bits, bit_xor, IfOk, OnOk, OnErr, Err, ◌+◌, []};
 ghost use Rattle.cp_words.specs.declared.pointer.ElementSize.TheVariants as sizes;
 ghost use Rattle.std.specs.Int.{cast_signed, cast_unsigned, w16};
 ghost use Rattle.std.specs.Float.{binary64};
 ghost use Rattle.cp_tree.specs.Seen.{pointee_of};
+ghost use Rattle.cp_tree.specs.Shaped.{Shaped};
 ghost use Rattle.cp_fields.specs.Numbers.{flag, plain, uint};
 ghost use Rattle.cp_fields.specs.Pointers.{Reads, data_field, list_field, struct_field, text_field};
 ghost use Rattle.cp_builder.specs.Numbers.{flag_bit};
 ghost use Rattle.cp_builder.specs.declared.fault.BuildError.TheVariants.{TooLong};
-ghost use Rattle.cp_builder.specs.Drafts.{HoldsOneMore, blank, blank_list, bytes_tree, quads_tree, text_tree, with_last, with_pointer, with_uint};
+ghost use Rattle.cp_builder.specs.Copies.{Sets, placed};
+ghost use Rattle.cp_builder.specs.Drafts.{HoldsOneMore, blank, blank_list, with_last, with_uint};
 ghost use Rattle.cp_interfaces.specs.Promises.{along};
 ghost use Rattle.addressbook.specs.Person.{person_employment_which_of, person_employment_member};
 
-use crate::person_phone_number::{PersonPhoneNumberListBuilder, PersonPhoneNumberReader};
-use cp_builder::{BuildError, StructBuilder, StructListBuilder};
+use crate::person_phone_number::PersonPhoneNumberReader;
+use cp_builder::{BuildError, FieldValue, StructBuilder, StructListBuilder};
 use cp_fields::{
     DataReader, Element, List, PointerReader, StructReader, TextReader, UnknownEnumerant, WrongKind,
 };
@@ -170,30 +172,45 @@ impl PersonBuilder {
     }
 
     /// Sets `name`.
-    pub fn set_name(&mut self, alloc: Global, value: &str) -> Result<(), BuildError>
-        ensures set { OnOk result (self.new.body ≡ with_pointer self.old.body 0 (text_tree value.now)) }
+    pub fn set_name<'a, V: FieldValue<TextReader<'a>>>(
+        &mut self,
+        value: V,
+    ) -> Result<(), BuildError>
+        ensures set { OnOk result (Sets (V.stands value) self.old.body 0 self.new.body) }
         ensures left { OnErr result (self.new ≡ self.old) }
-        ensures long { result ≡ Err TooLong → 2 ^ 29 ≤ length value.now + 1 }
+        ensures long { result ≡ Err TooLong → V.is_long value }
     {
-        self.body.set_pointer(0, cp_builder::text_of(alloc, value)?);
+        let whole = value.into_whole(self.body.alloc())?;
+        self.body.set_pointer(0, whole);
         Ok(())
     }
 
     /// Sets `email`.
-    pub fn set_email(&mut self, alloc: Global, value: &str) -> Result<(), BuildError>
-        ensures set { OnOk result (self.new.body ≡ with_pointer self.old.body 1 (text_tree value.now)) }
+    pub fn set_email<'a, V: FieldValue<TextReader<'a>>>(
+        &mut self,
+        value: V,
+    ) -> Result<(), BuildError>
+        ensures set { OnOk result (Sets (V.stands value) self.old.body 1 self.new.body) }
         ensures left { OnErr result (self.new ≡ self.old) }
-        ensures long { result ≡ Err TooLong → 2 ^ 29 ≤ length value.now + 1 }
+        ensures long { result ≡ Err TooLong → V.is_long value }
     {
-        self.body.set_pointer(1, cp_builder::text_of(alloc, value)?);
+        let whole = value.into_whole(self.body.alloc())?;
+        self.body.set_pointer(1, whole);
         Ok(())
     }
 
     /// Sets `phones`.
-    pub fn set_phones(&mut self, value: PersonPhoneNumberListBuilder)
-        ensures { self.new.body ≡ with_pointer self.old.body 2 value.items }
+    pub fn set_phones<'a, V: FieldValue<List<'a, PersonPhoneNumberReader<'a>>>>(
+        &mut self,
+        value: V,
+    ) -> Result<(), BuildError>
+        ensures set { OnOk result (Sets (V.stands value) self.old.body 2 self.new.body) }
+        ensures left { OnErr result (self.new ≡ self.old) }
+        ensures long { result ≡ Err TooLong → V.is_long value }
     {
-        self.body.set_pointer(2, value.items.into_whole());
+        let whole = value.into_whole(self.body.alloc())?;
+        self.body.set_pointer(2, whole);
+        Ok(())
     }
 
     /// Sets `unemployed`, and chooses it in its union.
@@ -204,24 +221,30 @@ impl PersonBuilder {
     }
 
     /// Sets `employer`, and chooses it in its union.
-    pub fn set_employment_employer(&mut self, alloc: Global, value: &str) -> Result<(), BuildError>
-        ensures set { OnOk result (self.new.body ≡ with_pointer (with_uint self.old.body 16 2 1) 3 (text_tree value.now)) }
+    pub fn set_employment_employer<'a, V: FieldValue<TextReader<'a>>>(
+        &mut self,
+        value: V,
+    ) -> Result<(), BuildError>
+        ensures set { OnOk result (Sets (V.stands value) (with_uint self.old.body 16 2 1) 3 self.new.body) }
         ensures left { OnErr result (self.new ≡ self.old) }
-        ensures long { result ≡ Err TooLong → 2 ^ 29 ≤ length value.now + 1 }
+        ensures long { result ≡ Err TooLong → V.is_long value }
     {
-        let whole = cp_builder::text_of(alloc, value)?;
+        let whole = value.into_whole(self.body.alloc())?;
         self.body.set_u16(2, 1);
         self.body.set_pointer(3, whole);
         Ok(())
     }
 
     /// Sets `school`, and chooses it in its union.
-    pub fn set_employment_school(&mut self, alloc: Global, value: &str) -> Result<(), BuildError>
-        ensures set { OnOk result (self.new.body ≡ with_pointer (with_uint self.old.body 16 2 2) 3 (text_tree value.now)) }
+    pub fn set_employment_school<'a, V: FieldValue<TextReader<'a>>>(
+        &mut self,
+        value: V,
+    ) -> Result<(), BuildError>
+        ensures set { OnOk result (Sets (V.stands value) (with_uint self.old.body 16 2 2) 3 self.new.body) }
         ensures left { OnErr result (self.new ≡ self.old) }
-        ensures long { result ≡ Err TooLong → 2 ^ 29 ≤ length value.now + 1 }
+        ensures long { result ≡ Err TooLong → V.is_long value }
     {
-        let whole = cp_builder::text_of(alloc, value)?;
+        let whole = value.into_whole(self.body.alloc())?;
         self.body.set_u16(2, 2);
         self.body.set_pointer(3, whole);
         Ok(())
@@ -256,29 +279,44 @@ impl PersonBuilder {
     }
 
     /// Sets `spouse`.
-    pub fn set_spouse(&mut self, value: PersonBuilder)
-        ensures { self.new.body ≡ with_pointer self.old.body 4 value.body }
+    pub fn set_spouse<'a, V: FieldValue<PersonReader<'a>>>(
+        &mut self,
+        value: V,
+    ) -> Result<(), BuildError>
+        ensures set { OnOk result (Sets (V.stands value) self.old.body 4 self.new.body) }
+        ensures left { OnErr result (self.new ≡ self.old) }
+        ensures long { result ≡ Err TooLong → V.is_long value }
     {
-        self.body.set_pointer(4, value.body.into_whole());
+        let whole = value.into_whole(self.body.alloc())?;
+        self.body.set_pointer(4, whole);
+        Ok(())
     }
 
     /// Sets `scores`.
-    pub fn set_scores(&mut self, value: Vec<u32>) -> Result<(), BuildError>
-        ensures set { OnOk result (self.new.body ≡ with_pointer self.old.body 5 (quads_tree value.items)) }
+    pub fn set_scores<'a, V: FieldValue<List<'a, u32>>>(
+        &mut self,
+        value: V,
+    ) -> Result<(), BuildError>
+        ensures set { OnOk result (Sets (V.stands value) self.old.body 5 self.new.body) }
         ensures left { OnErr result (self.new ≡ self.old) }
-        ensures long { IfErr result (λ fault. (fault ≡ TooLong) × (2 ^ 29 ≤ length value.items)) }
+        ensures long { result ≡ Err TooLong → V.is_long value }
     {
-        self.body.set_pointer(5, cp_builder::four_bytes_of(value)?);
+        let whole = value.into_whole(self.body.alloc())?;
+        self.body.set_pointer(5, whole);
         Ok(())
     }
 
     /// Sets `picture`.
-    pub fn set_picture(&mut self, value: Vec<u8>) -> Result<(), BuildError>
-        ensures set { OnOk result (self.new.body ≡ with_pointer self.old.body 6 (bytes_tree value.items)) }
+    pub fn set_picture<'a, V: FieldValue<DataReader<'a>>>(
+        &mut self,
+        value: V,
+    ) -> Result<(), BuildError>
+        ensures set { OnOk result (Sets (V.stands value) self.old.body 6 self.new.body) }
         ensures left { OnErr result (self.new ≡ self.old) }
-        ensures long { IfErr result (λ fault. (fault ≡ TooLong) × (2 ^ 29 ≤ length value.items)) }
+        ensures long { result ≡ Err TooLong → V.is_long value }
     {
-        self.body.set_pointer(6, cp_builder::bytes_of(value)?);
+        let whole = value.into_whole(self.body.alloc())?;
+        self.body.set_pointer(6, whole);
         Ok(())
     }
 
@@ -318,13 +356,49 @@ impl PersonListBuilder {
     }
 }
 
-impl cp_interface_objects::ListValue for PersonListBuilder {
+impl cp_interfaces::ListValue for PersonListBuilder {
     ghost tree = { λ l. l.items };
 
     ghost is_long = { λ l. ¬ (Unit {0}) };
 
     fn into_list(self, alloc: Global) -> Result<Whole, BuildError> {
         let _ = alloc;
+        Ok(self.items.into_whole())
+    }
+}
+
+impl<'a> FieldValue<PersonReader<'a>> for PersonReader<'a> {
+    ghost stands = { λ r t. t ≡ placed [] r.body };
+
+    ghost is_long = { λ r. ¬ (Shaped (placed [] r.body)) };
+
+    fn into_whole(self, alloc: Global) -> Result<Whole, BuildError> {
+        cp_builder::struct_copy(alloc, &self.body, &[])
+    }
+}
+
+impl<'a> FieldValue<PersonReader<'a>> for PersonBuilder {
+    ghost stands = { λ d t. t ≡ d.body };
+
+    ghost is_long = { λ d. ⊥ };
+
+    fn into_whole(self, _alloc: Global) -> Result<Whole, BuildError>
+        ensures value { IfOk result (λ whole. whole ≡ self.body) }
+        ensures long { result ≡ Err TooLong → ⊥ }
+    {
+        Ok(self.body.into_whole())
+    }
+}
+
+impl<'a> FieldValue<List<'a, PersonReader<'a>>> for PersonListBuilder {
+    ghost stands = { λ l t. t ≡ l.items };
+
+    ghost is_long = { λ l. ⊥ };
+
+    fn into_whole(self, _alloc: Global) -> Result<Whole, BuildError>
+        ensures value { IfOk result (λ whole. whole ≡ self.items) }
+        ensures long { result ≡ Err TooLong → ⊥ }
+    {
         Ok(self.items.into_whole())
     }
 }

@@ -1,18 +1,20 @@
 //! `person_phone_number` of addressbook.capnp, made by capnpc_rattle.
 
-ghost use Rattle.std.specs.Prelude.{◌≡◌, IfOk, OnOk, OnErr, Err, ◌≤◌, ◌^◌, length, ◌+◌, []};
+ghost use Rattle.std.specs.Prelude.{◌≡◌, IfOk, OnOk, OnErr, Err, ◌+◌, []};
 ghost use Rattle.cp_words.specs.declared.pointer.ElementSize.TheVariants as sizes;
 ghost use Rattle.cp_tree.specs.Seen.{pointee_of};
+ghost use Rattle.cp_tree.specs.Shaped.{Shaped};
 ghost use Rattle.cp_fields.specs.Numbers.{plain};
 ghost use Rattle.cp_fields.specs.Pointers.{Reads, struct_field, text_field};
 ghost use Rattle.cp_builder.specs.declared.fault.BuildError.TheVariants.{TooLong};
-ghost use Rattle.cp_builder.specs.Drafts.{HoldsOneMore, blank, blank_list, text_tree, with_last, with_pointer, with_uint};
+ghost use Rattle.cp_builder.specs.Copies.{Sets, placed};
+ghost use Rattle.cp_builder.specs.Drafts.{HoldsOneMore, blank, blank_list, with_last, with_uint};
 ghost use Rattle.addressbook.specs.PersonPhoneNumberType.{person_phone_number_type_number};
 ghost use Rattle.addressbook.specs.PersonPhoneNumberType.{person_phone_number_type_of};
 
 use crate::person_phone_number_type::PersonPhoneNumberType;
-use cp_builder::{BuildError, StructBuilder, StructListBuilder};
-use cp_fields::{Element, PointerReader, StructReader, TextReader, WrongKind};
+use cp_builder::{BuildError, FieldValue, StructBuilder, StructListBuilder};
+use cp_fields::{Element, List, PointerReader, StructReader, TextReader, WrongKind};
 use cp_interfaces::{CapTableBuilder, Lends, Results, TypedPipeline};
 use cp_tree::Whole;
 use std::alloc::{AllocError, Global};
@@ -83,12 +85,16 @@ impl PersonPhoneNumberBuilder {
     }
 
     /// Sets `number`.
-    pub fn set_number(&mut self, alloc: Global, value: &str) -> Result<(), BuildError>
-        ensures set { OnOk result (self.new.body ≡ with_pointer self.old.body 0 (text_tree value.now)) }
+    pub fn set_number<'a, V: FieldValue<TextReader<'a>>>(
+        &mut self,
+        value: V,
+    ) -> Result<(), BuildError>
+        ensures set { OnOk result (Sets (V.stands value) self.old.body 0 self.new.body) }
         ensures left { OnErr result (self.new ≡ self.old) }
-        ensures long { result ≡ Err TooLong → 2 ^ 29 ≤ length value.now + 1 }
+        ensures long { result ≡ Err TooLong → V.is_long value }
     {
-        self.body.set_pointer(0, cp_builder::text_of(alloc, value)?);
+        let whole = value.into_whole(self.body.alloc())?;
+        self.body.set_pointer(0, whole);
         Ok(())
     }
 
@@ -127,13 +133,49 @@ impl PersonPhoneNumberListBuilder {
     }
 }
 
-impl cp_interface_objects::ListValue for PersonPhoneNumberListBuilder {
+impl cp_interfaces::ListValue for PersonPhoneNumberListBuilder {
     ghost tree = { λ l. l.items };
 
     ghost is_long = { λ l. ¬ (Unit {0}) };
 
     fn into_list(self, alloc: Global) -> Result<Whole, BuildError> {
         let _ = alloc;
+        Ok(self.items.into_whole())
+    }
+}
+
+impl<'a> FieldValue<PersonPhoneNumberReader<'a>> for PersonPhoneNumberReader<'a> {
+    ghost stands = { λ r t. t ≡ placed [] r.body };
+
+    ghost is_long = { λ r. ¬ (Shaped (placed [] r.body)) };
+
+    fn into_whole(self, alloc: Global) -> Result<Whole, BuildError> {
+        cp_builder::struct_copy(alloc, &self.body, &[])
+    }
+}
+
+impl<'a> FieldValue<PersonPhoneNumberReader<'a>> for PersonPhoneNumberBuilder {
+    ghost stands = { λ d t. t ≡ d.body };
+
+    ghost is_long = { λ d. ⊥ };
+
+    fn into_whole(self, _alloc: Global) -> Result<Whole, BuildError>
+        ensures value { IfOk result (λ whole. whole ≡ self.body) }
+        ensures long { result ≡ Err TooLong → ⊥ }
+    {
+        Ok(self.body.into_whole())
+    }
+}
+
+impl<'a> FieldValue<List<'a, PersonPhoneNumberReader<'a>>> for PersonPhoneNumberListBuilder {
+    ghost stands = { λ l t. t ≡ l.items };
+
+    ghost is_long = { λ l. ⊥ };
+
+    fn into_whole(self, _alloc: Global) -> Result<Whole, BuildError>
+        ensures value { IfOk result (λ whole. whole ≡ self.items) }
+        ensures long { result ≡ Err TooLong → ⊥ }
+    {
         Ok(self.items.into_whole())
     }
 }

@@ -12,3 +12,4 @@ pub mod Caps
 pub mod Content
 pub mod Event
 pub mod Connection
+pub mod Lent

@@ -3,6 +3,7 @@
 use crate::names::{is_ambiguous, is_taken};
 use crate::only::{has_method, has_type};
 use crate::out::{Out, before, file_name};
+use crate::pages::CONSTANTS;
 use crate::reach::{Line, Naming, push_lines, push_naming};
 use cp_schema::{Node, NodeKind, Schema};
 use std::alloc::{AllocError, Global};
@@ -95,7 +96,7 @@ impl<'s> Book<'s> {
     fn name_all(&mut self, path: &str, krate: &str) -> Result<(), AllocError> {
         let schema = self.schema;
         for node in &schema.nodes {
-            // `--crate` names the crate of this file alone.
+            // `--name` names the crate of this file alone.
             let krate = if node.path() == path { krate } else { "" };
             self.names
                 .push(names_of(self.alloc, schema, node, krate, self.only))?;
@@ -215,7 +216,7 @@ fn type_name(alloc: Global, node: &Node) -> Out {
 /// The module that a node is in: that of the struct which a group is in, or of the interface whose params or results it is.
 fn module_of<'s>(alloc: Global, schema: &'s Schema, node: &'s Node) -> Out {
     if matches!(node.kind, NodeKind::Const(_)) {
-        return Out::spelled(alloc, "constants", "");
+        return Out::spelled(alloc, CONSTANTS, "");
     }
     let owner = owner_of(schema, node);
     let name = Out::spelled(alloc, interface_of(owner).unwrap_or(owner.name()), "camel");

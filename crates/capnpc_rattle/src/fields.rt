@@ -2,7 +2,6 @@
 
 use crate::book::{Book, Named, has_name};
 use crate::model::Model;
-use crate::names::has_word;
 use crate::out::Out;
 use crate::reach::Naming;
 use crate::trees::tree;
@@ -14,9 +13,6 @@ pub const DEEPEST: u32 = 64;
 
 /// The most arguments that a method has.
 const MOST: usize = 4;
-
-/// What the code around arguments calls its own.
-const OURS: &str = "alloc call call_id caller params r request table";
 
 /// Adds a node's names, and where a module finds it.
 pub fn named<'m>(model: &mut Model<'m>, book: &'m Book<'_>, key: &'static str, of: &'m Named) {
@@ -257,6 +253,7 @@ fn setter<'m>(
         FieldKind::Slot(at) if !is_void(&of.kind) => {
             model.text("setter", "field");
             setting(model, at, of.is_member());
+            taking(model, book, at);
             type_of(model, book, part, of, at);
             return promised(model, book, at);
         }
@@ -287,6 +284,35 @@ fn promised<'m>(model: &mut Model<'m>, book: &'m Book<'_>, slot: &'m Slot) -> bo
     }
 }
 
+/// Adds what a pointer field is set to if its type can name no capability: what was built or what was read, as a reader's method gives it.
+fn taking(model: &mut Model<'_>, book: &Book<'_>, slot: &Slot) {
+    let shape = if slot.of.lists > 0 {
+        "list"
+    } else {
+        base_of(slot.of.of).0
+    };
+    // Vectors of other numbers, enumerants and lists aren't taken so.
+    let converts = match setting_of(slot).form {
+        "text" | "data" | "struct" | "structs" | "numbers" => !can_name(book, slot),
+        "built" => slot.of.lists == 1 && !can_name(book, slot),
+        _ => false,
+    };
+    model.text("shape", shape);
+    model.numbers(&[
+        ("inner", slot.of.lists.saturating_sub(1) as u64),
+        ("converts", converts as u64),
+    ]);
+}
+
+/// Whether a value of a field's type can name a capability.
+fn can_name(book: &Book<'_>, slot: &Slot) -> bool {
+    match slot.of.of {
+        Base::Interface(_) | Base::AnyPointer => true,
+        Base::Struct(id) => !matches!(book.naming_of(id), Naming::Never),
+        _ => false,
+    }
+}
+
 /// Whether a field has no bits.
 pub fn is_void(kind: &FieldKind) -> bool {
     match kind {
@@ -295,7 +321,7 @@ pub fn is_void(kind: &FieldKind) -> bool {
     }
 }
 
-/// Adds the params that are numbers, texts and capabilities: methods are called with these, in place of a builder.
+/// Adds the params that are values or capabilities: methods are called with these, in place of a builder.
 pub fn plain<'m>(model: &mut Model<'m>, book: &'m Book<'_>, id: u64) {
     let Some(node) = book.schema.find(id) else {
         return;
@@ -369,35 +395,31 @@ fn clients<'m>(
 
 /// Adds what an argument is called.
 fn value(model: &mut Model<'_>, name: &str) {
-    let word = Out::spelled(model.alloc, name, "method");
+    let word = Out::spelled(model.alloc, name, "argument");
     model.own("value", &[word.as_str()]);
     drop(word);
 }
 
-/// Whether a struct has no name in its schema, and all its fields are numbers, texts and capabilities, and few.
+/// Whether a struct has no name in its schema, and all its fields are values or capabilities, and few.
 pub fn is_plain(book: &Book<'_>, node: &Node, of: &Structure) -> bool {
     if has_name(node) {
         return false;
     }
     for field in &of.fields {
         let is_argument = match &field.kind {
-            FieldKind::Slot(slot) => is_value(slot) || client_of(book, slot).is_some(),
+            FieldKind::Slot(slot) => is_value(book, slot) || client_of(book, slot).is_some(),
             _ => false,
         };
-        if !is_argument || has_word(OURS, field.name.as_str()) {
+        if !is_argument {
             return false;
         }
     }
     of.fields.len() <= MOST
 }
 
-/// Whether a field is a number or a text.
-fn is_value(slot: &Slot) -> bool {
-    slot.of.lists == 0
-        && matches!(
-            slot.of.of,
-            Base::Unsigned(_) | Base::Signed(_) | Base::Float(_) | Base::Bool | Base::Text
-        )
+/// Whether a field's value is given by itself, and can name no capability.
+fn is_value(book: &Book<'_>, slot: &Slot) -> bool {
+    !matches!(slot.of.of, Base::Void) && setting_of(slot).form != "whole" && !can_name(book, slot)
 }
 
 /// Adds by which table a struct names capabilities.

@@ -3,9 +3,9 @@
 //! interfaces.
 //!
 //!     capnp compile -oFOLDER/capnpc_rattle:OUT X.capnp
-//!     capnp compile -o- X.capnp | capnpc_rattle [--crate=NAME] [--only=LIST] [--print]
+//!     capnp compile -o- X.capnp | capnpc_rattle [--name=NAME] [--only=LIST] [--print]
 //!
-//! With `--crate=NAME` the crate has this name, and not the file's; with `--only=LIST` it has readers alone, whose methods are those that
+//! With `--name=NAME` the crate has this name, and not the file's; with `--only=LIST` it has readers alone, whose methods are those that
 //! are listed; with `--print` its files go to standard output.
 #![tactic(auto)]
 
@@ -13,6 +13,7 @@ mod book;
 mod fields;
 mod filler;
 mod interfaces;
+mod keep;
 mod model;
 mod names;
 mod nodes;
@@ -31,6 +32,7 @@ use anyhow::{anyhow, bail};
 use book::{Book, crate_name};
 use cp_schema::{Node, Schema};
 use filler::Templates;
+use keep::check_crates;
 use out::{Out, file_name};
 use pages::{Page, Target, line_of, name_twice, pages, root_text, specs_root};
 use std::io::Read;
@@ -42,12 +44,12 @@ use twice::found_twice;
 /// What `--help` prints.
 const USAGE: &str = "\
 usage: capnp compile -oFOLDER/capnpc_rattle:OUT X.capnp
-       capnp compile -o- X.capnp | capnpc_rattle [--crate=NAME] [--only=LIST] [--print]
+       capnp compile -o- X.capnp | capnpc_rattle [--name=NAME] [--only=LIST] [--print]
 
 Writes a crate for each schema file into the current folder: readers and builders
 of its structs, and clients and servers of its interfaces.
 
-  --crate=NAME  The crate's name, in place of the file's
+  --name=NAME   The crate's name, in place of the file's
   --only=LIST   Readers alone, with these methods: STRUCT.FIELD and
                 STRUCT.of with commas between; no types without one, and no members
                 of unions
@@ -75,7 +77,7 @@ impl<'a> Task<'a> {
         };
         for word in words.iter().skip(1) {
             let word = word.as_str();
-            if let Some(name) = word.strip_prefix("--crate=") {
+            if let Some(name) = word.strip_prefix("--name=") {
                 task.krate = name;
             } else if let Some(names) = word.strip_prefix("--only=") {
                 task.only = names;
@@ -84,7 +86,7 @@ impl<'a> Task<'a> {
             } else if word == "--help" {
                 return Ok(None);
             } else {
-                bail!("{word}: neither --crate=NAME nor --only=LIST nor --print");
+                bail!("{word}: neither --name=NAME nor --only=LIST nor --print");
             }
         }
         Ok(Some(task))
@@ -229,6 +231,11 @@ fn put_all(
 ) -> anyhow::Result<()> {
     // Before any file is written.
     check(pages)?;
+    for page in pages {
+        for it in &page.left_out {
+            eprintln!(rt; "{} is left out: {}", it.title, it.why)?;
+        }
+    }
     task.put_pages(rt, of.krate, pages)?;
     task.put_roots(rt, book, pages, of)
 }
@@ -257,6 +264,7 @@ fn check(pages: &[Page<'_>]) -> anyhow::Result<()> {
 
 /// Makes the crates of a request.
 fn answer(rt: &HostRuntime, task: Task<'_>, schema: &Schema) -> anyhow::Result<()> {
+    check_crates(rt, schema, task.krate, task.prints)?;
     for file in &schema.files {
         match schema.find(file.id) {
             Some(node) => {

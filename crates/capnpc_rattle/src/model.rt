@@ -49,8 +49,10 @@ pub struct Model<'m> {
     /// The record or the list that is open.
     open: usize,
     is_full: bool,
-    /// The first thing that can't be written.
+    /// The first thing that can't be written, for which nothing is.
     pub refusal: Option<Refusal<'m>>,
+    /// Constants that can't be written, without which all else is.
+    pub left_out: Vec<Refusal<'m>>,
 }
 
 // Not derived: who lets one go calls this function, and need not prove the drop of its texts.
@@ -64,6 +66,7 @@ impl Drop for Model<'_> {
             open: _,
             is_full: _,
             refusal: _,
+            left_out: _,
         } = self;
     }
 }
@@ -79,6 +82,7 @@ impl<'m> Model<'m> {
             open: 0,
             is_full: false,
             refusal: None,
+            left_out: Vec::new(alloc),
         };
         model.open("", Value::Record);
         model
@@ -88,6 +92,18 @@ impl<'m> Model<'m> {
     pub fn refuse(&mut self, title: &'m str, member: &'m str, why: &'static str) {
         if self.refusal.is_none() {
             self.refusal = Some(Refusal { title, member, why });
+        }
+    }
+
+    /// Says that a constant is left out.
+    pub fn leave_out(&mut self, title: &'m str, why: &'static str) {
+        let of = Refusal {
+            title,
+            member: "",
+            why,
+        };
+        if self.left_out.push(of).is_err() {
+            self.is_full = true;
         }
     }
 

@@ -31,6 +31,13 @@ const OF_CRATES: &str = "\
     body clone into member of of_element size try_into which \
     constants contracts core declared lib main specs std";
 
+/// Words that clauses of calls have, and variables of the code around their arguments: an argument that is called so would hide them.
+pub const OF_CALLS: &str = "\
+    alloc binary32 binary64 bit_xor bits_tree blank bytes_tree call call_id caller cap_tree \
+    cast_unsigned false flag_bit halves_tree length map not on outgoing_call_of params \
+    pointer_naming pointers_tree quads_tree r request request_of table text_tree to_bits true \
+    w16 w32 w64 w8 with_named with_pointer with_uint words_tree";
+
 /// Methods that each promise has.
 pub const PROMISED: &str = "question results";
 
@@ -47,6 +54,23 @@ pub fn has_word(words: &str, name: &str) -> bool {
 /// Whether a method's or a module's name is a word of Rattle or antt, or one that each view or crate has.
 pub fn is_reserved(name: &str) -> bool {
     has_word(OF_RATTLE, name) || has_word(OF_PROOFS, name) || has_word(OF_CRATES, name)
+}
+
+/// Whether a crate can have this name.
+pub fn is_crate_name(name: &str) -> bool {
+    for c in name.chars() {
+        if !c.is_ascii_alphanumeric() && c != '_' {
+            return false;
+        }
+    }
+    let begins = match name.chars().next() {
+        Some(first) => !first.is_ascii_digit() && name != "_",
+        None => false,
+    };
+    begins
+        && !has_word(OF_RATTLE, name)
+        && !has_word(OF_PROOFS, name)
+        && !has_word("core std", name)
 }
 
 /// Whether the name of a struct or a group is one that it can't begin with.

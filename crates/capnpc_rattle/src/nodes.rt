@@ -218,9 +218,8 @@ fn held(model: &mut Model<'_>, kind: &'static str) {
     model.number("holds", (kind != "nothing") as u64);
 }
 
-/// Adds a constant, if it can be written.
+/// Adds a constant, if it can be written. One without a kind is left out.
 fn constant<'m>(model: &mut Model<'m>, book: &'m Book<'_>, node: &'m Node, of: &'m ConstNode) {
-    model.text("kind", "const");
     let (base, width) = base_of(of.of.of);
     model.number("width", width as u64);
     match &of.value {
@@ -235,8 +234,12 @@ fn constant<'m>(model: &mut Model<'m>, book: &'m Book<'_>, node: &'m Node, of: &
         SchemaValue::Bits(bits) if of.of.lists == 0 && number(model, book, of.of.of, *bits) => {
             model.text("base", base);
         }
-        _ => model.refuse(node.name(), "", "a constant of this type can't be written"),
+        _ => {
+            model.leave_out(node.name(), "a constant of this type can't be written");
+            return;
+        }
     }
+    model.text("kind", "const");
 }
 
 /// Adds a number, a bool or a value of an enum, if it can be written.

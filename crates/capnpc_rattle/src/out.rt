@@ -1,6 +1,6 @@
 //! Text that grows, and the spellings of names.
 
-use crate::names::{PROMISED, has_word, is_reserved};
+use crate::names::{OF_CALLS, PROMISED, has_word, is_reserved};
 use std::alloc::{AllocError, Global};
 
 /// A text that grows. It remembers whether memory ran out, and is then without what was put last.
@@ -101,6 +101,7 @@ impl Out {
             // In snake case, and none of the words that have another meaning.
             "method" => self.method(text, ""),
             "promised" => self.method(text, PROMISED),
+            "argument" => self.method(text, OF_CALLS),
             "snake" => self.snake(text),
             "upper" => self.upper(text),
             "camel" => self.camel(text),

@@ -9,6 +9,7 @@ use crate::out::{Out, before, name_of};
 use crate::uses::{is_between, list, of_clauses, of_definitions, paths};
 use cp_schema::{Node, NodeKind};
 use std::alloc::{AllocError, Global};
+use std::mem;
 
 /// The libraries that builders, clients and servers stand on.
 const LIBRARIES: &str = "\
@@ -17,7 +18,6 @@ cp_objects
 cp_refs
 cp_rpc
 cp_servants
-cp_interface_objects
 cp_interfaces
 cp_tables
 cp_vat_machine
@@ -25,6 +25,19 @@ cp_vat_machine
 
 /// The libraries that all generated code stands on.
 const ALWAYS: &str = "cp_words cp_tree cp_fields std";
+
+/// Whether generated code stands on a library of this name.
+pub fn is_library(name: &str) -> bool {
+    for library in LIBRARIES.lines() {
+        if library == name {
+            return true;
+        }
+    }
+    has_word(ALWAYS, name)
+}
+
+/// The module of a crate's constants.
+pub const CONSTANTS: &str = "constants";
 
 /// A module of a generated crate.
 pub struct Page<'b> {
@@ -41,8 +54,9 @@ pub struct Page<'b> {
     /// The definitions of other modules that clauses cite, a line each, and its own.
     cited: Out,
     words: Out,
-    /// The first thing that can't be written.
+    /// The first thing that can't be written, and the constants that are left out.
     pub refusal: Option<Refusal<'b>>,
+    pub left_out: Vec<Refusal<'b>>,
     pub is_full: bool,
 }
 
@@ -59,6 +73,7 @@ impl Drop for Page<'_> {
             cited: _,
             words: _,
             refusal: _,
+            left_out: _,
             is_full: _,
         } = self;
     }
@@ -71,7 +86,7 @@ pub struct Target<'f> {
     pub schema: &'f str,
 }
 
-/// The pages of a crate, in the order of their modules' names.
+/// The pages of a crate, in the order of their modules' names, but that of its constants is the last.
 pub fn pages<'b>(
     book: &'b Book<'_>,
     templates: &Templates<'_>,
@@ -105,29 +120,45 @@ fn push_pages<'b>(
     modules.sort()?;
     // A struct's module has its groups too.
     modules.dedup();
+    let mut has_constants = false;
     for module in modules.iter() {
-        pages.push(page_of(book, templates, target, module))?;
+        if *module == CONSTANTS {
+            has_constants = true;
+        } else {
+            let page = page_of(book, templates, (target, module), &[]);
+            pages.push(page)?;
+        }
+    }
+    if has_constants {
+        let page = page_of(book, templates, (target, CONSTANTS), pages.as_slice());
+        pages.push(page)?;
     }
     Ok(())
 }
 
-/// A page.
+/// A page. Constants have none of the names that these other pages declare.
 fn page_of<'b>(
     book: &'b Book<'_>,
     templates: &Templates<'_>,
-    target: Target<'b>,
-    module: &'b str,
+    (target, module): (Target<'b>, &'b str),
+    others: &[Page<'_>],
 ) -> Page<'b> {
-    let model = model_of(book, target, module);
+    let mut model = model_of(book, target, module, others);
     let mut page = Page::new(book.alloc, module);
     page.fill(templates, &model);
     page.refusal = model.refusal;
+    mem::swap(&mut page.left_out, &mut model.left_out);
     drop(model);
     page
 }
 
 /// What is known of a module.
-fn model_of<'b>(book: &'b Book<'_>, target: Target<'b>, module: &'b str) -> Model<'b> {
+fn model_of<'b>(
+    book: &'b Book<'_>,
+    target: Target<'b>,
+    module: &'b str,
+    others: &[Page<'_>],
+) -> Model<'b> {
     let mut model = Model::new(book.alloc, (target.krate, module));
     let mut here = Out::new(book.alloc);
     here.all(&["Rattle.", target.krate, ".specs."]);
@@ -145,18 +176,29 @@ fn model_of<'b>(book: &'b Book<'_>, target: Target<'b>, module: &'b str) -> Mode
         ("alloc", "alloc"),
     ]);
     model.number("whole", book.is_whole() as u64);
-    let calls = nodes(&mut model, book, target, module);
+    let calls = nodes(&mut model, book, target, (module, others));
     model.number("calls", calls as u64);
     model.close();
     model
 }
 
-/// Adds the types and constants of a module, and says whether it has an interface. Params and results come after their interface.
-fn nodes<'b>(model: &mut Model<'b>, book: &'b Book<'_>, target: Target<'b>, module: &str) -> bool {
+/// Adds the types and constants of a module, and says whether it has an interface. Params and results come after their interface. A
+/// constant whose name another thing has is left out.
+fn nodes<'b>(
+    model: &mut Model<'b>,
+    book: &'b Book<'_>,
+    target: Target<'b>,
+    (module, others): (&str, &[Page<'_>]),
+) -> bool {
     let mut calls = false;
+    let mut constants = Out::new(book.alloc);
     model.list("nodes");
     for of in &book.schema.nodes {
         if has_name(of) && is_here(book, of, target, module) {
+            if module == CONSTANTS && clashes(of, others, &mut constants) {
+                model.leave_out(of.name(), "another thing has its name");
+                continue;
+            }
             add(model, book, of.id);
             if let NodeKind::Interface(it) = &of.kind {
                 calls = true;
@@ -168,7 +210,28 @@ fn nodes<'b>(model: &mut Model<'b>, book: &'b Book<'_>, target: Target<'b>, modu
         }
     }
     model.close();
+    drop(constants);
     calls
+}
+
+/// Whether a constant has a name of these pages, or of these constants, to which it is added if not.
+fn clashes(of: &Node, others: &[Page<'_>], constants: &mut Out) -> bool {
+    let name = Out::spelled(constants.alloc, of.name(), "upper");
+    let is_taken = has_line(constants.as_str(), name.as_str())
+        || count_of(others, name.as_str()) > 0;
+    constants.all(&[name.as_str(), "\n"]);
+    drop(name);
+    is_taken
+}
+
+/// Whether one of these lines is this text, but for its case.
+fn has_line(lines: &str, text: &str) -> bool {
+    for line in lines.lines() {
+        if line.eq_ignore_ascii_case(text) {
+            return true;
+        }
+    }
+    false
 }
 
 /// Whether a node is written in a module.
@@ -210,6 +273,7 @@ impl<'b> Page<'b> {
             cited: Out::new(alloc),
             words: Out::new(alloc),
             refusal: None,
+            left_out: Vec::new(alloc),
             is_full: false,
         }
     }
@@ -331,18 +395,24 @@ fn after(text: &str, start: char) -> &str {
     }
 }
 
+/// How the root of a crate begins that is made of a schema's file.
+pub fn head_of(alloc: Global, schema: &str) -> Out {
+    let mut text = Out::new(alloc);
+    text.all(&["//! The types of ", schema, ", made by capnpc_rattle.\n"]);
+    text
+}
+
 /// The text of the crate's root.
 pub fn root_text(book: &Book<'_>, pages: &[Page<'_>], schema: &str) -> Out {
-    let (mut text, mut exports) = (Out::new(book.alloc), Out::new(book.alloc));
-    text.all(&[
-        "//! The types of ",
-        schema,
-        ", made by capnpc_rattle.\n#![tactic(auto)]\n\n",
-    ]);
+    let (mut text, mut exports) = (head_of(book.alloc, schema), Out::new(book.alloc));
+    text.put("#![tactic(auto)]\n\n");
+    let mut modules = Out::new(book.alloc);
     for page in pages {
-        text.all(&["mod ", page.module, ";\n"]);
+        modules.all(&[page.module, "\n"]);
         exports.put(page.exports.as_str());
     }
+    text.put_sorted(modules.as_str(), ("mod ", ";\n"));
+    drop(modules);
     text.push('\n');
     text.put_sorted(exports.as_str(), ("pub use ", ";\n"));
     drop(exports);

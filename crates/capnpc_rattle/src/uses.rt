@@ -7,12 +7,14 @@ const LIBRARY: &str = "\
 std.specs.Int cast_signed cast_unsigned w16 w32 w64 w8
 std.specs.Float binary32 binary64
 cp_tree.specs.Seen pointee_of
+cp_tree.specs.Shaped Shaped
 cp_fields.specs.Constants constant_of
 cp_fields.specs.Numbers flag plain uint
 cp_fields.specs.Pointers Reads cap_field data_field held list_field or_default struct_field text_field
 cp_fields.specs.declared.kind.WrongKind WrongKind
 cp_builder.specs.Numbers flag_bit
 cp_builder.specs.declared.fault.BuildError.TheVariants TooLong
+cp_builder.specs.Copies Sets placed
 cp_builder.specs.Drafts HoldsOneMore bits_tree blank blank_list bytes_tree cap_tree halves_tree quads_tree text_tree with_last with_pointer with_uint words_tree
 cp_servants.specs.Naming pointer_naming with_named
 cp_interfaces.specs.Calls outgoing_call_of request_of
@@ -38,8 +40,9 @@ const FIELDS: [(&str, &[&str]); 8] = [
 ];
 
 /// The paths of the types of other libraries that the code of builders cites.
-const BUILDERS: [&str; 8] = [
+const BUILDERS: [&str; 9] = [
     "cp_builder::BuildError",
+    "cp_builder::FieldValue",
     "cp_builder::StructBuilder",
     "cp_builder::StructListBuilder",
     "cp_tree::Whole",

@@ -3,7 +3,7 @@
 use crate::asking::converse;
 use crate::fault::CommandFault;
 use crate::words::calls_of;
-use cp_commands::{ACCEPTED, CallPlan, REFUSED, schema_at};
+use cp_commands::{ACCEPTED, CallPlan, REFUSED, schema_at, tell_hint};
 use cp_schema::Schema;
 use mio::net as ready;
 use net_sockets::NonblockingStream;
@@ -35,7 +35,11 @@ fn call_by(rt: &HostRuntime, plan: &CallPlan, schema: Option<&Schema>) -> u8 {
         Ok(true) => ACCEPTED,
         Ok(false) => REFUSED,
         Err(fault) => {
-            let status = fault.tell(&mut rt.stderr());
+            let mut err = rt.stderr();
+            let status = fault.tell(&mut err);
+            if let Some(hint) = fault.hint() {
+                tell_hint(&mut err, hint);
+            }
             drop(fault);
             status
         }

@@ -3,7 +3,7 @@
 use crate::duplex::{DuplexStream, Half};
 use crate::fault::CommandFault;
 use cp_client::{Client, ClientFault, Question};
-use cp_commands::{CallPlan, foreign_protocol, is_other_form};
+use cp_commands::{CallPlan, peer_hint};
 use cp_connection::ConnectionFault;
 use cp_lines::push_outcome_of;
 use cp_methods::results_line;
@@ -127,7 +127,7 @@ fn call_one(
     }
 }
 
-/// Waits for what each call came to, and prints it. Says whether each has results.
+/// Waits for what each call came to, and prints it. Says whether each has results. After a fault what had come before it is printed, too.
 fn tell_all<'p, O: Write>(
     client: &mut PeerClient<'_>,
     peer: &Peer<'_, 'p>,
@@ -135,13 +135,17 @@ fn tell_all<'p, O: Write>(
     out: &mut O,
 ) -> Result<bool, CommandFault<'p>> {
     let mut all = true;
+    let mut first = None;
     for asked in asked {
         match client.wait(asked.question) {
             Ok(outcome) => all &= peer.tell(*asked, outcome, out)?,
-            Err(fault) => return Err(peer.fault(client, fault)),
+            Err(fault) => first = first.or(Some(fault)),
         }
     }
-    Ok(all)
+    match first {
+        Some(fault) => Err(peer.fault(client, fault)),
+        None => Ok(all),
+    }
 }
 
 impl<'a, 'p> Peer<'a, 'p> {
@@ -223,13 +227,10 @@ impl<'a, 'p> Peer<'a, 'p> {
         let Ok(stream) = self.stream.try_borrow_mut() else {
             return CommandFault::Refused(fault);
         };
-        let mode = self.plan.mode;
-        let protocol = foreign_protocol(&stream.first);
-        let is_other_form = is_other_form(mode, &stream.first);
+        let hint = peer_hint(self.plan.mode, &stream.first);
         drop(stream);
-        match protocol {
-            Some(protocol) => CommandFault::Foreign { fault, protocol },
-            None if is_other_form => CommandFault::OtherForm { fault, mode },
+        match hint {
+            Some(hint) => CommandFault::Foreign { fault, hint },
             None => CommandFault::Refused(fault),
         }
     }

@@ -37,6 +37,8 @@ pub(crate) struct DuplexStream {
     given: usize,
     /// Whether the peer takes nothing more.
     is_shut: bool,
+    /// Whether nothing came in time. It isn't waited for again.
+    is_silent: bool,
     /// Why the peer takes nothing more, where a call failed.
     failed: Option<io::Error>,
     /// The first bytes that came.
@@ -62,6 +64,7 @@ impl DuplexStream {
             ahead: Vec::new(alloc),
             given: 0,
             is_shut: false,
+            is_silent: false,
             failed: None,
             first: Vec::new(alloc),
             log: Log::new(alloc, plan),
@@ -179,12 +182,14 @@ impl DuplexStream {
             self.poll(None)?;
             return Ok(());
         };
-        for _ in 0..seconds {
+        let left = if self.is_silent { 0 } else { seconds };
+        for _ in 0..left {
             let came = self.poll(Some(Duration::from_secs(1)))?;
             if came {
                 return Ok(());
             }
         }
+        self.is_silent = true;
         let silence = io::Error::from(ErrorKind::TimedOut);
         Err(self.failed.unwrap_or(silence))
     }

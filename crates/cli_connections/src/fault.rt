@@ -1,10 +1,9 @@
 //! What stops a conversation.
 
 use cp_client::ClientFault;
-use cp_commands::{BROKEN, CLOSED, REFUSED};
+use cp_commands::{BROKEN, CLOSED, REFUSED, limit_hint};
 use cp_connection::ConnectionFault;
 use cp_encoder::{EncodeFault, NotationFault};
-use cp_frame::Mode;
 use cp_lines::Wrong;
 use cp_schema::DecodeFault;
 use std::alloc::{AllocError, AllocFailed};
@@ -60,15 +59,10 @@ pub(crate) enum CommandFault<'a> {
     },
     /// The connection ended, or memory ran out.
     Refused(ClientFault),
-    /// The peer speaks another protocol than Cap'n Proto's.
+    /// The peer's first bytes are no frame, and seem to be something else.
     Foreign {
         fault: ClientFault,
-        protocol: &'static str,
-    },
-    /// The peer's frames can't be read in this form, and seem to have the other one.
-    OtherForm {
-        fault: ClientFault,
-        mode: Mode,
+        hint: &'static str,
     },
 }
 
@@ -84,6 +78,17 @@ impl CommandFault<'_> {
         }
     }
 
+    /// What may be wrong with the peer, or with the words of the command.
+    pub(crate) fn hint(&self) -> Option<&'static str> {
+        match self {
+            CommandFault::Foreign { hint, .. } => Some(*hint),
+            CommandFault::Refused(
+                ClientFault::Connection(ConnectionFault::Unreadable { refusal, .. }),
+            ) => limit_hint(refusal),
+            _ => None,
+        }
+    }
+
     /// The status after it was said.
     fn status(&self) -> u8 {
         match self {
@@ -91,8 +96,7 @@ impl CommandFault<'_> {
             | CommandFault::Closed(_)
             | CommandFault::Unmade { .. }
             | CommandFault::Refused(_)
-            | CommandFault::Foreign { .. }
-            | CommandFault::OtherForm { .. } => REFUSED,
+            | CommandFault::Foreign { .. } => REFUSED,
             _ => BROKEN,
         }
     }
@@ -121,14 +125,7 @@ impl Display for CommandFault<'_> {
             CommandFault::Closed(reason) => f.write_str(reason),
             CommandFault::Unmade { number, fault } => write!(f, "call {number}: refused: {fault}"),
             CommandFault::Refused(ClientFault::Connection(fault)) => refused(f, *fault),
-            CommandFault::Refused(fault) => fault.fmt(f),
-            CommandFault::Foreign { fault, protocol } => {
-                write!(
-                    f,
-                    "{fault}: the peer speaks {protocol}, and not Cap'n Proto"
-                )
-            }
-            CommandFault::OtherForm { fault, mode } => other_form(f, *fault, *mode),
+            CommandFault::Refused(fault) | CommandFault::Foreign { fault, .. } => fault.fmt(f),
         }
     }
 }
@@ -154,19 +151,6 @@ fn wrong_name<W: fmt::Write>(
 /// What a device failed of.
 fn device<W: fmt::Write>(f: &mut fmt::Formatter<W>, what: &str, error: &io::Error) -> fmt::Result {
     write!(f, "device: {what}: {error}")
-}
-
-/// What to do about frames that seem to have the other form.
-fn other_form<W: fmt::Write>(
-    f: &mut fmt::Formatter<W>,
-    fault: ClientFault,
-    mode: Mode,
-) -> fmt::Result {
-    let advice = match mode {
-        Mode::Plain => "seem to be packed: give --packed",
-        Mode::Packed => "don't seem to be packed: leave out --packed",
-    };
-    write!(f, "{fault}: the peer's frames {advice}")
 }
 
 /// What the connection refuses.

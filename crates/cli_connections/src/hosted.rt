@@ -1,7 +1,8 @@
 //! Serving connections of an address or of a path, many at once.
 
-use crate::objects::samples;
+use crate::objects::sample_objects;
 use cp_commands::{ACCEPTED, BROKEN, ListenAddress, REFUSED, Service};
+use cp_objects::ServantObject;
 use cp_servants::Sample;
 use cp_session::SessionLimits;
 use cp_words::Limits;
@@ -74,7 +75,7 @@ where
 }
 
 /// Serves the connections of a host until the last has ended, and gives the status.
-fn run<N, E: Write>(rt: &N, host: &mut Host<Vec<Sample>>, err: &mut E) -> io::Result<u8>
+fn run<N, E: Write>(rt: &N, host: &mut Host<ServantObject<Sample>>, err: &mut E) -> io::Result<u8>
 where
     N: Net + Clock + AllocGlobal,
 {
@@ -96,7 +97,7 @@ where
 /// others go on.
 fn hear<E: Write>(
     alloc: Global,
-    host: &mut Host<Vec<Sample>>,
+    host: &mut Host<ServantObject<Sample>>,
     news: &HostEvent,
     err: &mut E,
 ) -> u8 {
@@ -111,8 +112,8 @@ fn hear<E: Write>(
 }
 
 /// Serves the connection that came last with a Desk and a Cell.
-fn admit(alloc: Global, host: &mut Host<Vec<Sample>>) -> io::Result<()> {
-    host.admit(samples(alloc)?)
+fn admit(alloc: Global, host: &mut Host<ServantObject<Sample>>) -> io::Result<()> {
+    host.admit(sample_objects(alloc)?)
 }
 
 /// Listens, and says where.

@@ -2,6 +2,7 @@
 
 use cp_commands::{BROKEN, REFUSED};
 use cp_frame::Mode;
+use cp_objects::{Objects, ServantObject};
 use cp_servants::{Cell, Desk, Sample};
 use cp_serve::{ServeFault, serve_each};
 use cp_stream::{StreamFault, Tap};
@@ -25,8 +26,13 @@ pub(crate) enum Ending {
 #[derive(Clone, Copy)]
 pub(crate) struct Unserved(pub ServeFault);
 
+/// A Desk and a Cell, as the objects of a session.
+pub(crate) fn sample_objects(alloc: Global) -> Result<Objects<ServantObject<Sample>>, AllocError> {
+    Objects::of_servants(alloc, samples(alloc)?)
+}
+
 /// A Desk and a Cell.
-pub(crate) fn samples(alloc: Global) -> Result<Vec<Sample>, AllocError> {
+fn samples(alloc: Global) -> Result<Vec<Sample>, AllocError> {
     let mut objects = Vec::with_capacity(alloc, 2)?;
     objects.push(Sample::Desk(Desk::new(alloc)))?;
     objects.push(Sample::Cell(Cell::new(alloc)))?;

@@ -4,3 +4,4 @@ pub mod ReadBack
 pub mod Rows
 pub mod Widened
 pub mod Words
+pub mod Copied

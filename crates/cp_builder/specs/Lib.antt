@@ -1,2 +1,3 @@
 pub mod Numbers
 pub mod Drafts
+pub mod Copies

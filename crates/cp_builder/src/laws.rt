@@ -1,12 +1,14 @@
 //! What is set is read back, and all else stays.
 
-ghost use Rattle.std.specs.Prelude.{◌≡◌, ◌≢◌, ℕ, ◌*◌, ◌/◌, ◌^◌, ◌<◌, Bool, bit_xor, not, List, length, Ok};
+ghost use Rattle.std.specs.Prelude.{◌≡◌, ◌≢◌, ℕ, ◌*◌, ◌/◌, ◌^◌, ◌<◌, Bool, bit_xor, not, List, length, map, Ok};
+ghost use Rattle.cp_words.specs.declared.pointer.ElementSize.TheVariants as sizes;
 ghost use Rattle.cp_tree.specs.Node.{Node, data_of, count};
 ghost use Rattle.cp_tree.specs.Seen.{pointee_of};
 ghost use Rattle.cp_fields.specs.Numbers.{plain, uint, flag};
-ghost use Rattle.cp_fields.specs.Pointers.{pointers_of, text_field};
+ghost use Rattle.cp_fields.specs.Items.{bit_number, number_item};
+ghost use Rattle.cp_fields.specs.Pointers.{data_field, list_field, pointers_of, text_field};
 ghost use Rattle.cp_builder.specs.Numbers.{AreApart, IsInWord, IsNumber, flag_bit};
-ghost use Rattle.cp_builder.specs.Drafts.{widened, with_uint, with_pointer, text_tree};
+ghost use Rattle.cp_builder.specs.Drafts.{bits_tree, bytes_tree, halves_tree, quads_tree, text_tree, widened, with_pointer, with_uint, words_tree};
 
 /// A number that was set is read back, if it lies within the data section.
 #[tactic(auto, using(crate::proofs::ReadBack::number_back))]
@@ -63,4 +65,18 @@ pub fn fields_are_kept()
 #[tactic(auto, using(crate::proofs::ReadBack::text_back))]
 pub fn texts_come_back()
     ensures { (default bs : List ℕ) → text_field default (text_tree bs) ≡ Ok bs }
+{}
+
+/// Data that was written is read back.
+pub fn data_comes_back()
+    ensures { (default bs : List ℕ) → data_field default (bytes_tree bs) ≡ Ok bs }
+{}
+
+/// A list of bits or numbers that was written is read back.
+pub fn lists_come_back()
+    ensures bits { (bs : List Bool) → list_field sizes.Bit (bits_tree bs) ≡ Ok (map number_item (map bit_number bs)) }
+    ensures bytes { (ns : List ℕ) → list_field sizes.Byte (bytes_tree ns) ≡ Ok (map number_item ns) }
+    ensures halves { (ns : List ℕ) → list_field sizes.TwoBytes (halves_tree ns) ≡ Ok (map number_item ns) }
+    ensures quads { (ns : List ℕ) → list_field sizes.FourBytes (quads_tree ns) ≡ Ok (map number_item ns) }
+    ensures words { (ns : List ℕ) → list_field sizes.EightBytes (words_tree ns) ≡ Ok (map number_item ns) }
 {}

@@ -2,19 +2,22 @@
 //! `cp_fields` is for reading.
 #![tactic(auto)]
 
+mod copies;
 mod fault;
 mod laws;
 mod lists;
 mod numbers;
 mod parts;
 mod structure;
+mod value;
 mod views;
 
+pub use copies::{data_copy, list_copy, mark_named, placed, pointer_copy, struct_copy, text_copy};
 pub use fault::BuildError;
 pub use laws::{
-    bits_come_back, fields_are_kept, numbers_come_back, numbers_stay,
-    numbers_with_defaults_come_back, pointers_come_back, pointers_stay, sections_stay,
-    texts_come_back,
+    bits_come_back, data_comes_back, fields_are_kept, lists_come_back, numbers_come_back,
+    numbers_stay, numbers_with_defaults_come_back, pointers_come_back, pointers_stay,
+    sections_stay, texts_come_back,
 };
 pub use lists::StructListBuilder;
 pub use parts::{
@@ -22,3 +25,4 @@ pub use parts::{
     words_of,
 };
 pub use structure::StructBuilder;
+pub use value::FieldValue;

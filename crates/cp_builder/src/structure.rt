@@ -65,6 +65,11 @@ impl<const W: usize, const P: usize> StructBuilder<W, P> {
         Ok(StructBuilder { words, pointers })
     }
 
+    /// Where its memory comes from.
+    pub fn alloc(&self) -> Global {
+        *self.words.allocator()
+    }
+
     /// Sets what pointer `i` stands for.
     #[inline(always)]
     pub fn set_pointer(&mut self, i: u32, whole: Whole)

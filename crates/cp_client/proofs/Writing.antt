@@ -3,18 +3,10 @@ use Rattle.std.proofs.Common.{◌≡◌, ◌∙◌, ◌<◌, ℕ, ap, length, ar
 use Rattle.std.proofs.lemmas.List.{length-drop}
 use Rattle.cp_connection.specs.Link.{Link}
 use Rattle.cp_objects.specs.ObjectTable.{ObjectTableKind}
-use Rattle.cp_session.specs.Doing as doing
+use Rattle.cp_session.proofs.Living.{settles_link}
 use Rattle.cp_session.specs.State.{State, link_of}
 use Rattle.cp_client.specs.Conversation.{Conversation}
 use Rattle.cp_client.specs.Writing.{WritesSome}
-
--- that a session is left is nothing to its connection
-left_link : {H : Type 0} {table : ObjectTableKind H} {old new : State H} {now : ℕ} → doing.Leaves table old now new → link_of new ≡ link_of old
-left_link {H = H} (doing.stays why same) = ap (λ (s : State H). link_of s) same
-left_link {H = H} (doing.leaves settled same) = ap (λ (s : State H). link_of s) same
-
-settles_link : {H : Type 0} {table : ObjectTableKind H} {old new : State H} {now : ℕ} → doing.Settles table old now new → link_of new ≡ link_of old
-settles_link {H = H} h = left_link h.left_so ∙ ap (λ (s : State H). link_of s) h.heeds
 
 -- fewer bytes wait
 pub fewer_unwritten : {H : Type 0} {table : ObjectTableKind H} (old new : Conversation H) (count : ℕ) → 0 < count → 0 < length (link_of old.session).unwritten → WritesSome table old count new

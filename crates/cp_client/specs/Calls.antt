@@ -1,9 +1,9 @@
 -- What a client's program has it do.
-use Rattle.std.specs.Prelude.{◌≡◌, ◌⊎◌, ℕ, Option, Some, None, Result, Ok, Err, length}
+use Rattle.std.specs.Prelude.{◌≡◌, ◌⊎◌, ℕ, Option, Some, None, Result, Ok, Err}
 use Rattle.std.specs.FinMap.{insert, remove}
-use Rattle.std.specs.Global.{Vec}
 use Rattle.cp_refs.specs.declared.call.Request.{Request}
 use Rattle.cp_refs.specs.declared.cap.Cap.{Cap}
+use Rattle.cp_objects.specs.declared.objects.Objects.{Objects}
 use Rattle.cp_objects.specs.ObjectTable.{ObjectTableKind}
 use Rattle.cp_objects.specs.declared.waker.Waker.{Waker}
 use Rattle.cp_vat_machine.specs.declared.event.Event.{Event}
@@ -40,9 +40,16 @@ module _ {H : Type 0} where
   abbrev pub Finishes : Conversation H → ℕ → Conversation H → Type 0
   Finishes old q new = Did old (events.Finish q) (Ok values.Nothing) (remove old.asked q) new
 
-  -- an import was given back
+  -- The program gave an import back, and this came of it. Nothing else was done.
+  abbrev pub GivesBack : Conversation H → ℕ → Result Value ConnectionFault → Conversation H → Type 0
+  GivesBack old import result new = sessions.GivesBack import old.session result new.session × (new ≡ record old { session = new.session })
+
+  -- an import was given back, or why it wasn't
   abbrev pub Releases : Conversation H → ℕ → Conversation H → Type 0
-  Releases old import new = Did old (events.Release import) (Ok values.Nothing) old.asked new
+  Releases old import new = GivesBack old import (Ok values.Nothing) new
+
+  abbrev pub IsUnreleased : Conversation H → ℕ → ClientFault → Conversation H → Type 0
+  IsUnreleased old import fault new = (f : ConnectionFault) × (fault ≡ client_faults.Connection f) × GivesBack old import (Err f) new
 
   -- A capability was called, and a question was asked by it; or none was: the client refuses it, or memory ran out before.
   abbrev pub AsksOrNot : Conversation H → Cap → Request → Result ℕ ClientFault → Conversation H → Type 0
@@ -63,17 +70,6 @@ module _ {H : Type 0} (table : ObjectTableKind H) where
   abbrev pub HandsOn : Option Waker → Conversation H → Conversation H → Type 0
   HandsOn waker old new = sessions.HandsOn table waker old.session new.session × (new ≡ record old { session = new.session })
 
--- no object more is there, and nothing was done
-abbrev pub Rests : {A : Type 0} → Conversation (Vec A) → Conversation (Vec A) → Type 0
-Rests old new = sessions.Lists old.session.objects.items old.session new.session × (new ≡ record old { session = new.session })
-
--- an object more is there, which this capability names
-pub record Exports {A : Type 0} (old : Conversation (Vec A)) (object : A) (cap : Cap) (new : Conversation (Vec A)) : Type 0 where
-  pub named : sessions.next_cap (length old.session.objects.items) ≡ Some cap
-  pub exports : sessions.Exports (Some cap) object old.session new.session
-  pub same : new ≡ record old { session = new.session }
-
--- why no object more is there: no number is left for one, or memory ran out
-abbrev pub IsUnexported : {A : Type 0} → Conversation (Vec A) → ClientFault → Type 0
-IsUnexported old fault =
-    ((fault ≡ client_faults.TooManyObjects) × (sessions.next_cap (length old.session.objects.items) ≡ None)) ⊎ (fault ≡ client_faults.Connection faults.OutOfMemory)
+-- an object more is there, which stays, and nothing else was done
+abbrev pub Exports : {A : Type 0} → A → Conversation (Objects A) → Conversation (Objects A) → Type 0
+Exports object old new = sessions.Adds object old.session new.session × (new ≡ record old { session = new.session })

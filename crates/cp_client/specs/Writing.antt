@@ -19,7 +19,7 @@ module _ {H : Type 0} where
     pub appended : Appends old.to.bytes new.to.bytes []
     pub same : new ≡ record old { to = new.to }
 
-  -- the writer was flushed
+  -- the writer was flushed, of which its contract says that it took no byte, and no call of it failed
   pub record FlushesWriter (old new : Conversation H) : Type 0 where
     pub none_failed : new.to.failures ≡ old.to.failures
     pub appended : Appends old.to.bytes new.to.bytes []

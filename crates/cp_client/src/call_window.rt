@@ -4,12 +4,12 @@ ghost use Rattle.std.specs.Prelude.{◌≡◌, [], drop, IfErr, OnOk};
 ghost use Rattle.cp_client.specs.ConversationOf.{seen};
 ghost use Rattle.cp_client.specs.CallWindows.{Breaks, ComesTo, Ends, EndsEach, IsFull, IsUnended, IsUnsent, MakesRoom, Sends, due, new_flow, oldest};
 
-use crate::client::Client;
+use crate::client::SessionClient;
 use crate::fault::CallError;
 use crate::question::Question;
 use cp_interfaces::{CallTarget, NoResults, payload_of};
-use cp_objects::ObjectTable;
 use cp_refs::{Outcome, Request};
+use cp_session::CallingSession;
 use std::alloc::Global;
 use std::collections::VecDeque;
 use std::io::{Read, Write};
@@ -52,14 +52,14 @@ impl CallWindow {
 
     /// Calls a capability. Where as many calls are under way as the window has, the oldest is waited for before. Where memory
     /// runs out the call may have been made, and isn't under way.
-    pub fn send<R: Read + Drop, W: Write + Drop, H: ObjectTable>(
+    pub fn send<R: Read + Drop, W: Write + Drop, S: CallingSession>(
         &mut self,
-        client: &mut Client<R, W, H>,
+        client: &mut SessionClient<R, W, S>,
         target: &CallTarget,
         request: Request,
     ) -> Result<(), CallError>
-        ensures sends { let at = seen R.remaining W.contents in OnOk result (Sends H.table self.old (at client.old) target.now request self.new (at client.new)) }
-        ensures unsent { let at = seen R.remaining W.contents in IfErr result (λ f. IsUnsent H.table self.old (at client.old) target.now request f self.new.under_way (at client.new)) }
+        ensures sends { let at = seen S.state R.remaining W.contents in OnOk result (Sends S.table self.old (at client.old) target.now request self.new (at client.new)) }
+        ensures unsent { let at = seen S.state R.remaining W.contents in IfErr result (λ f. IsUnsent S.table self.old (at client.old) target.now request f self.new.under_way (at client.new)) }
         ensures same_window { self.new.window ≡ self.old.window }
     {
         self.make_room(client)?;
@@ -69,13 +69,13 @@ impl CallWindow {
     }
 
     /// Waits for all calls that are under way, in order.
-    pub fn end<R: Read + Drop, W: Write + Drop, H: ObjectTable>(
+    pub fn end<R: Read + Drop, W: Write + Drop, S: CallingSession>(
         &mut self,
-        client: &mut Client<R, W, H>,
+        client: &mut SessionClient<R, W, S>,
     ) -> Result<(), CallError>
-        ensures ends { let at = seen R.remaining W.contents in OnOk result (EndsEach H.table (at client.old) self.old.under_way (at client.new)) }
+        ensures ends { let at = seen S.state R.remaining W.contents in OnOk result (EndsEach S.table (at client.old) self.old.under_way (at client.new)) }
         ensures none_left { OnOk result (self.new.under_way ≡ []) }
-        ensures breaks { let at = seen R.remaining W.contents in IfErr result (λ f. Breaks H.table self.old.under_way (at client.old) f self.new.under_way (at client.new)) }
+        ensures breaks { let at = seen S.state R.remaining W.contents in IfErr result (λ f. Breaks S.table self.old.under_way (at client.old) f self.new.under_way (at client.new)) }
         ensures same_window { self.new.window ≡ self.old.window }
     {
         'ending: while let Some(question) = self.oldest() {
@@ -85,12 +85,12 @@ impl CallWindow {
     }
 
     /// Waits for the question that has to end before another is asked, if there is one.
-    fn make_room<R: Read + Drop, W: Write + Drop, H: ObjectTable>(
+    fn make_room<R: Read + Drop, W: Write + Drop, S: CallingSession>(
         &mut self,
-        client: &mut Client<R, W, H>,
+        client: &mut SessionClient<R, W, S>,
     ) -> Result<(), CallError>
-        ensures room { let at = seen R.remaining W.contents in OnOk result (MakesRoom H.table self.old.under_way (at client.old) (due self.old) self.new.under_way (at client.new)) }
-        ensures full { let at = seen R.remaining W.contents in IfErr result (λ f. IsFull H.table self.old (at client.old) f self.new.under_way (at client.new)) }
+        ensures room { let at = seen S.state R.remaining W.contents in OnOk result (MakesRoom S.table self.old.under_way (at client.old) (due self.old) self.new.under_way (at client.new)) }
+        ensures full { let at = seen S.state R.remaining W.contents in IfErr result (λ f. IsFull S.table self.old (at client.old) f self.new.under_way (at client.new)) }
         ensures same_window { self.new.window ≡ self.old.window }
     {
         match self.due() {
@@ -117,14 +117,14 @@ impl CallWindow {
     }
 
     /// Waits for the outcome of the oldest question, and gives the question up.
-    fn end_oldest<R: Read + Drop, W: Write + Drop, H: ObjectTable>(
+    fn end_oldest<R: Read + Drop, W: Write + Drop, S: CallingSession>(
         &mut self,
-        client: &mut Client<R, W, H>,
+        client: &mut SessionClient<R, W, S>,
         question: u32,
     ) -> Result<(), CallError>
-        ensures ends { let at = seen R.remaining W.contents in OnOk result (Ends H.table (at client.old) question (at client.new)) }
+        ensures ends { let at = seen S.state R.remaining W.contents in OnOk result (Ends S.table (at client.old) question (at client.new)) }
         ensures left { OnOk result (self.new.under_way ≡ drop 1 self.old.under_way) }
-        ensures unended { let at = seen R.remaining W.contents in IfErr result (λ f. IsUnended H.table self.old.under_way (at client.old) question f self.new.under_way (at client.new)) }
+        ensures unended { let at = seen S.state R.remaining W.contents in IfErr result (λ f. IsUnended S.table self.old.under_way (at client.old) question f self.new.under_way (at client.new)) }
         ensures same_window { self.new.window ≡ self.old.window }
     {
         let number = question;

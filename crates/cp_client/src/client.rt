@@ -2,8 +2,10 @@
 
 ghost use Rattle.std.specs.Prelude.{◌≡◌, ◌<◌, ℕ, [], None, Some, IfOk, IfErr, OnOk, OnErr, option_copied};
 ghost use Rattle.cp_vat_machine.specs.declared.event.Event.TheVariants as events;
+ghost use Rattle.cp_objects.specs.Objects.{alone, objects_of};
+ghost use Rattle.cp_session.specs.Doing.{next_cap};
 ghost use Rattle.cp_session.specs.State.{link_of, state_of};
-ghost use Rattle.cp_client.specs.Calls.{Asks, Exports, Finishes, HandsOn, IsUnasked, IsUndone, IsUnexported, KeepsRest, Releases, Rests, Wakes};
+ghost use Rattle.cp_client.specs.Calls.{Asks, Exports, Finishes, HandsOn, IsUnasked, IsUndone, IsUnreleased, KeepsRest, Releases, Wakes};
 ghost use Rattle.cp_client.specs.Devices.{fresh};
 ghost use Rattle.cp_client.specs.Conversation.{beginning, new_conversation, options_of};
 ghost use Rattle.cp_client.specs.ConversationOf.{seen};
@@ -20,10 +22,11 @@ use crate::question::Question;
 use crate::questions::Questions;
 use cp_connection::{ConnectionFault, ConnectionStats};
 use cp_frame::Mode;
-use cp_objects::{ObjectTable, Objects, ServedObject, Waker};
+use cp_objects::{Objects, ServedObject, Waker};
 use cp_refs::{Cap, Outcome, Request};
-use cp_servants::Servant;
-use cp_session::{Session, SessionEvent, SessionLimits, SessionOptions};
+use cp_session::{
+    CallingSession, DrivenSession, Session, SessionEvent, SessionLimits, SessionOptions,
+};
 use cp_stream::{DeviceError, Tap};
 use cp_vat_machine::Reason;
 use cp_words::Limits;
@@ -38,7 +41,7 @@ const NOW: u64 = 0;
 ///
 /// # In which order calls are made
 ///
-/// 1. `new` makes it, or `with_servants`, or `with_objects`.
+/// 1. `new` makes it, or `exporting`, or `with_objects`.
 /// 2. `bootstrap` asks for the peer's object. Its question may be called at once, by `Question::cap`.
 /// 3. `call` calls a capability: what a question will give, at a path by `Question::at`, an import that an outcome named, or an
 ///    object of the client's. A call is sent when the client next waits, in one go with all that was called before. `export` adds an
@@ -52,15 +55,14 @@ const NOW: u64 = 0;
 ///
 /// # Its objects
 ///
-/// `H` is a list of objects that make none, of one type or of `Box<dyn Servant>`; or `Objects` of objects that may make others. Object
-/// 0 is the one that was exported, or added, first. A call of an object that isn't there fails with `no such object`.
+/// `O` is the one type of its objects, which may make others. Object 0 is the one that was added first. A call of an object that isn't
+/// there fails with `no such object`. Without objects it is a type that has no values.
 ///
-/// An object that wakes another of its connection has that polled before more is read. A client has no clock: nobody is woken by
+/// An object that wakes another one has that polled before more is read. A client has no clock: nobody is woken by
 /// `wake_after`. Objects of other sessions are to be woken that `next_wake` names.
 ///
-/// An import that several objects were given is released when each of them gave it up. What the program was given isn't
-/// counted: an object that gives up the same import takes it from the program too, unless a question that wasn't finished
-/// still gives it.
+/// An import is released when all who were given it gave it up: each object, once for each call and outcome that named it, and the
+/// program, once for each outcome that it waited for or might have (`release`).
 ///
 /// # Errors, and what each leaves
 ///
@@ -73,10 +75,13 @@ const NOW: u64 = 0;
 ///   Where the vat closed, `closed` says why.
 ///
 /// Outcomes that came before a fault are given out after it.
-pub struct Client<R, W, H = Vec<Nobody>> {
+pub type Client<R, W, O = Nobody> = SessionClient<R, W, Session<O>>;
+
+/// A `Client` over a session of this type: generic over it, since its proofs cost least so.
+pub struct SessionClient<R, W, S> {
     from: Tap<R>,
     to: Tap<W>,
-    session: Session<H>,
+    session: S,
     /// The bytes that were read and weren't taken.
     piece: Piece,
     questions: Questions,
@@ -85,9 +90,9 @@ pub struct Client<R, W, H = Vec<Nobody>> {
 }
 
 // Not derived: a crate that lets one go calls this function, and need not prove the drop of all that it holds.
-impl<R: Drop, W: Drop, H: Drop> Drop for Client<R, W, H> {
+impl<R: Drop, W: Drop, S: Drop> Drop for SessionClient<R, W, S> {
     fn drop(self) {
-        let Client {
+        let SessionClient {
             from: _,
             to: _,
             session: _,
@@ -98,63 +103,28 @@ impl<R: Drop, W: Drop, H: Drop> Drop for Client<R, W, H> {
     }
 }
 
-impl<R: Read + Drop, W: Write + Drop> Client<R, W, Vec<Nobody>> {
+impl<R: Read + Drop, W: Write + Drop> SessionClient<R, W, Session<Nobody>> {
     /// A client without objects, that asked nothing. What comes is read within these limits; what goes out keeps to the standard ones.
-    pub fn new(
-        alloc: Global,
-        from: R,
-        to: W,
-        mode: Mode,
-        limits: Limits,
-    ) -> Client<R, W, Vec<Nobody>>
-        ensures begun { let at = seen R.remaining W.contents in at result ≡ new_conversation mode limits None (at result).session.objects (fresh (R.remaining from)) (fresh (W.contents to)) }
-        ensures nobody { (seen R.remaining W.contents result).session.objects.items ≡ [] }
+    pub fn new(alloc: Global, from: R, to: W, mode: Mode, limits: Limits) -> Client<R, W>
+        ensures begun { let at = seen (λ (it : _). state_of it) R.remaining W.contents in at result ≡ new_conversation mode limits None (at result).session.objects (fresh (R.remaining from)) (fresh (W.contents to)) }
+        ensures nobody { objects_of (seen (λ (it : _). state_of it) R.remaining W.contents result).session.objects ≡ alone }
     {
-        Client::with_servants(alloc, from, to, mode, limits, None)
+        SessionClient::exporting(alloc, from, to, mode, limits)
     }
 }
 
-impl<R: Read + Drop, W: Write + Drop, O: Servant> Client<R, W, Vec<O>> {
-    /// The same, that may have objects, of which the peer gets this one for its Bootstrap.
-    pub fn with_servants(
-        alloc: Global,
-        from: R,
-        to: W,
-        mode: Mode,
-        limits: Limits,
-        bootstrap: Option<u32>,
-    ) -> Client<R, W, Vec<O>>
-        ensures begun { let at = seen R.remaining W.contents in at result ≡ new_conversation mode limits bootstrap (at result).session.objects (fresh (R.remaining from)) (fresh (W.contents to)) }
-        ensures nobody { (seen R.remaining W.contents result).session.objects.items ≡ [] }
+impl<R: Read + Drop, W: Write + Drop, O: ServedObject<Makes = O>> SessionClient<R, W, Session<O>> {
+    /// The same, to which `export` may add objects. The peer gets none for its Bootstrap.
+    pub fn exporting(alloc: Global, from: R, to: W, mode: Mode, limits: Limits) -> Client<R, W, O>
+        ensures begun { let at = seen (λ (it : _). state_of it) R.remaining W.contents in at result ≡ new_conversation mode limits None (at result).session.objects (fresh (R.remaining from)) (fresh (W.contents to)) }
+        ensures nobody { objects_of (seen (λ (it : _). state_of it) R.remaining W.contents result).session.objects ≡ alone }
     {
-        let options = options(mode, limits, bootstrap);
-        let session = Session::new(alloc, &options, Vec::new(alloc), NOW);
-        Client::begin(alloc, from, to, session)
+        let options = options(mode, limits, None);
+        let session = Session::new(alloc, &options, Objects::new(alloc), NOW);
+        SessionClient::begin(alloc, from, to, session)
     }
 
-    /// Adds an object, and gives the capability of it. `TooManyObjects` says that there are 2^32 of them; at any other `Err` memory
-    /// ran out.
-    pub fn export(&mut self, object: O) -> Result<Cap, ClientFault>
-        ensures exports { let at = seen R.remaining W.contents in IfOk result (λ cap. Exports (at self.old) object cap (at self.new)) }
-        ensures unexported { let at = seen R.remaining W.contents in IfErr result (λ f. IsUnexported (at self.old) f) }
-        ensures same { let at = seen R.remaining W.contents in OnErr result (Rests (at self.old) (at self.new)) }
-    {
-        match self.session.export(object)? {
-            Some(cap) => Ok(cap),
-            None => Err(ClientFault::TooManyObjects),
-        }
-    }
-
-    /// The objects, in the order in which they were exported.
-    pub fn objects(&self) -> &[O]
-        ensures { result.now ≡ (seen R.remaining W.contents self.now).session.objects.items }
-    {
-        self.session.objects()
-    }
-}
-
-impl<R: Read + Drop, W: Write + Drop, O: ServedObject<Makes = O>> Client<R, W, Objects<O>> {
-    /// The same, with objects that may make others. The peer gets the first for its Bootstrap.
+    /// A client with these objects, of which the peer gets the first for its Bootstrap.
     pub fn with_objects(
         alloc: Global,
         from: R,
@@ -162,20 +132,36 @@ impl<R: Read + Drop, W: Write + Drop, O: ServedObject<Makes = O>> Client<R, W, O
         mode: Mode,
         limits: Limits,
         objects: Objects<O>,
-    ) -> Client<R, W, Objects<O>>
-        ensures { seen R.remaining W.contents result ≡ new_conversation mode limits (Some 0) objects (fresh (R.remaining from)) (fresh (W.contents to)) }
+    ) -> Client<R, W, O>
+        ensures { seen (λ (it : _). state_of it) R.remaining W.contents result ≡ new_conversation mode limits (Some 0) objects (fresh (R.remaining from)) (fresh (W.contents to)) }
     {
         let options = options(mode, limits, Some(0));
         let session = Session::new(alloc, &options, objects, NOW);
-        Client::begin(alloc, from, to, session)
+        SessionClient::begin(alloc, from, to, session)
+    }
+
+    /// Adds an object, and gives the capability of it, as `Objects::add`. At an `Err` memory ran out.
+    pub fn export(&mut self, object: O) -> Result<Cap, AllocError>
+        ensures cap { IfOk result (λ cap. cap ≡ next_cap (seen (λ (it : _). state_of it) R.remaining W.contents self.old).session) }
+        ensures exports { let at = seen (λ (it : _). state_of it) R.remaining W.contents in OnOk result (Exports object (at self.old) (at self.new)) }
+        ensures unexported { let at = seen (λ (it : _). state_of it) R.remaining W.contents in OnErr result (KeepsRest (at self.old) (at self.new)) }
+    {
+        self.session.add(object)
+    }
+
+    /// The objects.
+    pub fn objects(&self) -> &Objects<O>
+        ensures { result.now ≡ (seen (λ (it : _). state_of it) R.remaining W.contents self.now).session.objects }
+    {
+        self.session.objects()
     }
 }
 
-impl<R: Read + Drop, W: Write + Drop, H: ObjectTable> Client<R, W, H> {
+impl<R: Read + Drop, W: Write + Drop, S: CallingSession> SessionClient<R, W, S> {
     /// Asks for the peer's bootstrap capability. Refused as `Vat::bootstrap`.
     pub fn bootstrap(&mut self) -> Result<Question, ClientFault>
-        ensures asks { let at = seen R.remaining W.contents in IfOk result (λ q. Asks (at self.old) events.Bootstrap q.number (at self.new)) }
-        ensures unasked { let at = seen R.remaining W.contents in IfErr result (λ f. IsUnasked (at self.old) events.Bootstrap f (at self.new)) }
+        ensures asks { let at = seen S.state R.remaining W.contents in IfOk result (λ q. Asks (at self.old) events.Bootstrap q.number (at self.new)) }
+        ensures unasked { let at = seen S.state R.remaining W.contents in IfErr result (λ f. IsUnasked (at self.old) events.Bootstrap f (at self.new)) }
     {
         let number = self.session.bootstrap()?;
         self.questions.ask(number)?;
@@ -184,8 +170,8 @@ impl<R: Read + Drop, W: Write + Drop, H: ObjectTable> Client<R, W, H> {
 
     /// Calls a capability. Refused as `Vat::call`.
     pub fn call(&mut self, cap: Cap, request: Request) -> Result<Question, ClientFault>
-        ensures asks { let at = seen R.remaining W.contents in IfOk result (λ q. Asks (at self.old) (events.Call cap request) q.number (at self.new)) }
-        ensures unasked { let at = seen R.remaining W.contents in IfErr result (λ f. IsUnasked (at self.old) (events.Call cap request) f (at self.new)) }
+        ensures asks { let at = seen S.state R.remaining W.contents in IfOk result (λ q. Asks (at self.old) (events.Call cap request) q.number (at self.new)) }
+        ensures unasked { let at = seen S.state R.remaining W.contents in IfErr result (λ f. IsUnasked (at self.old) (events.Call cap request) f (at self.new)) }
     {
         let number = self.session.call(cap, request)?;
         self.questions.ask(number)?;
@@ -196,8 +182,8 @@ impl<R: Read + Drop, W: Write + Drop, H: ObjectTable> Client<R, W, H> {
     /// question until that is finished, and its imports until they are released. An outcome that comes for another
     /// question is kept for it.
     pub fn wait(&mut self, question: Question) -> Result<Outcome, ClientFault>
-        ensures waits { let at = seen R.remaining W.contents in IfOk result (λ outcome. Waits H.table (at self.old) question.number outcome (at self.new)) }
-        ensures stops { let at = seen R.remaining W.contents in IfErr result (λ f. Stops H.table (at self.old) question.number f (at self.new)) }
+        ensures waits { let at = seen S.state R.remaining W.contents in IfOk result (λ outcome. Waits S.table (at self.old) question.number outcome (at self.new)) }
+        ensures stops { let at = seen S.state R.remaining W.contents in IfErr result (λ f. Stops S.table (at self.old) question.number f (at self.new)) }
     {
         for _ in 0..u64::MAX {
             // The outcome is looked for before anything is written: one that has come needs no writer.
@@ -214,8 +200,8 @@ impl<R: Read + Drop, W: Write + Drop, H: ObjectTable> Client<R, W, H> {
     /// Calls a capability, waits for the outcome, and finishes the question.
     /// Where memory runs out as the question is given up, the outcome is lost; `call`, `wait` and `finish` lose none.
     pub fn call_and_wait(&mut self, cap: Cap, request: Request) -> Result<Outcome, ClientFault>
-        ensures answered { let at = seen R.remaining W.contents in IfOk result (λ outcome. IsAnswered H.table (at self.old) cap request outcome (at self.new)) }
-        ensures unanswered { let at = seen R.remaining W.contents in IfErr result (λ f. IsUnanswered H.table (at self.old) cap request f (at self.new)) }
+        ensures answered { let at = seen S.state R.remaining W.contents in IfOk result (λ outcome. IsAnswered S.table (at self.old) cap request outcome (at self.new)) }
+        ensures unanswered { let at = seen S.state R.remaining W.contents in IfErr result (λ f. IsUnanswered S.table (at self.old) cap request f (at self.new)) }
     {
         let question = self.call(cap, request)?;
         let outcome = self.wait(question)?;
@@ -230,19 +216,21 @@ impl<R: Read + Drop, W: Write + Drop, H: ObjectTable> Client<R, W, H> {
 
     /// Gives a question up, before or after its outcome. Refused as `Vat::finish`.
     pub fn finish(&mut self, question: Question) -> Result<(), ClientFault>
-        ensures finishes { let at = seen R.remaining W.contents in OnOk result (Finishes (at self.old) question.number (at self.new)) }
-        ensures undone { let at = seen R.remaining W.contents in IfErr result (λ f. IsUndone (at self.old) (events.Finish question.number) f (at self.new)) }
+        ensures finishes { let at = seen S.state R.remaining W.contents in OnOk result (Finishes (at self.old) question.number (at self.new)) }
+        ensures undone { let at = seen S.state R.remaining W.contents in IfErr result (λ f. IsUndone (at self.old) (events.Finish question.number) f (at self.new)) }
     {
         self.session.finish(question.number)?;
         self.questions.forget(question.number);
         Ok(())
     }
 
-    /// Gives an import back, with its whole count. Refused as `Vat::release`: so while results of a call of the peer's name it,
-    /// as those of a tail call do until the peer finishes that.
+    /// Gives an import back: once for each outcome that named it. The peer gets it back, with its whole count, from the last who holds it:
+    /// while another outcome's wasn't given back, or an object holds it, nothing is sent. Refused as `Vat::release`: so while results of a
+    /// question that wasn't finished name it, or of a call of the peer's, as those of a tail call do until the peer finishes that. And
+    /// refused with `InUse` where the program holds it no more and objects do.
     pub fn release(&mut self, import: u32) -> Result<(), ClientFault>
-        ensures releases { let at = seen R.remaining W.contents in OnOk result (Releases (at self.old) import (at self.new)) }
-        ensures undone { let at = seen R.remaining W.contents in IfErr result (λ f. IsUndone (at self.old) (events.Release import) f (at self.new)) }
+        ensures releases { let at = seen S.state R.remaining W.contents in OnOk result (Releases (at self.old) import (at self.new)) }
+        ensures unreleased { let at = seen S.state R.remaining W.contents in IfErr result (λ f. IsUnreleased (at self.old) import f (at self.new)) }
     {
         self.session.release(import)?;
         Ok(())
@@ -250,8 +238,8 @@ impl<R: Read + Drop, W: Write + Drop, H: ObjectTable> Client<R, W, H> {
 
     /// Writes all that was sent, and waits for nothing.
     pub fn flush(&mut self) -> Result<(), ClientFault>
-        ensures flushes { let at = seen R.remaining W.contents in OnOk result (Flushes H.table (at self.old) (at self.new)) }
-        ensures part { let at = seen R.remaining W.contents in IfErr result (λ f. WritesPart H.table (at self.old) f (at self.new)) }
+        ensures flushes { let at = seen S.state R.remaining W.contents in OnOk result (Flushes S.table (at self.old) (at self.new)) }
+        ensures part { let at = seen S.state R.remaining W.contents in IfErr result (λ f. WritesPart S.table (at self.old) f (at self.new)) }
     {
         self.write()?;
         // The writer may keep bytes that the peer waits for.
@@ -261,8 +249,8 @@ impl<R: Read + Drop, W: Write + Drop, H: ObjectTable> Client<R, W, H> {
 
     /// Takes the peer's messages until they end, while the objects answer.
     pub fn serve(&mut self) -> Result<(), ClientFault>
-        ensures serves { let at = seen R.remaining W.contents in OnOk result (ServesUntil H.table (at self.old) Ended (at self.new)) }
-        ensures stops { let at = seen R.remaining W.contents in IfErr result (λ f. ServesUntil H.table (at self.old) f (at self.new)) }
+        ensures serves { let at = seen S.state R.remaining W.contents in OnOk result (ServesUntil S.table (at self.old) Ended (at self.new)) }
+        ensures stops { let at = seen S.state R.remaining W.contents in IfErr result (λ f. ServesUntil S.table (at self.old) f (at self.new)) }
     {
         for _ in 0..u64::MAX {
             self.note();
@@ -277,46 +265,48 @@ impl<R: Read + Drop, W: Write + Drop, H: ObjectTable> Client<R, W, H> {
 
     /// Has an object polled, if it is there, when the client next waits.
     pub fn wake(&mut self, object: u32) -> Result<(), AllocError>
-        ensures wakes { let at = seen R.remaining W.contents in OnOk result (Wakes H.table object (at self.old) (at self.new)) }
-        ensures unwoken { let at = seen R.remaining W.contents in OnErr result (KeepsRest (at self.old) (at self.new)) }
+        ensures wakes { let at = seen S.state R.remaining W.contents in OnOk result (Wakes S.table object (at self.old) (at self.new)) }
+        ensures unwoken { let at = seen S.state R.remaining W.contents in OnErr result (KeepsRest (at self.old) (at self.new)) }
     {
         self.session.wake(object)
     }
 
     /// Takes out the first object of another session that an object here wants to be woken.
     pub fn next_wake(&mut self) -> Option<Waker>
-        ensures { let at = seen R.remaining W.contents in HandsOn H.table result (at self.old) (at self.new) }
+        ensures { let at = seen S.state R.remaining W.contents in HandsOn S.table result (at self.old) (at self.new) }
     {
         self.session.next_wake()
     }
 
     /// Why the vat closed, if it did.
     pub fn closed(&self) -> Option<&Reason>
-        ensures { option_copied result ≡ (seen R.remaining W.contents self.now).closed }
+        ensures { option_copied result ≡ (seen S.state R.remaining W.contents self.now).closed }
     {
         self.closed.as_ref()
     }
 
     /// How many bytes and messages were taken, and how many messages were sent.
     pub fn stats(&self) -> ConnectionStats
-        ensures { result ≡ (seen R.remaining W.contents self.now).session.service.work.link.stats }
+        ensures { result ≡ (seen S.state R.remaining W.contents self.now).session.service.work.link.stats }
     {
         self.session.stats()
     }
 
-    /// Ends the client, and gives its reader and its writer back. What is still to be sent isn't written then.
+    /// Ends the client, and gives its reader and its writer back. What is still to be sent isn't written then. Its objects are told their
+    /// end.
     pub fn into_devices(self) -> (R, W)
-        ensures from { R.remaining result.0 ≡ (seen R.remaining W.contents self).from.bytes }
-        ensures to { W.contents result.1 ≡ (seen R.remaining W.contents self).to.bytes }
+        ensures from { R.remaining result.0 ≡ (seen S.state R.remaining W.contents self).from.bytes }
+        ensures to { W.contents result.1 ≡ (seen S.state R.remaining W.contents self).to.bytes }
     {
-        let Client {
+        let SessionClient {
             from,
             to,
-            session,
+            mut session,
             piece,
             questions,
             closed,
         } = self;
+        session.close(NOW);
         drop(session);
         drop(piece);
         drop(questions);
@@ -325,10 +315,10 @@ impl<R: Read + Drop, W: Write + Drop, H: ObjectTable> Client<R, W, H> {
     }
 
     /// A client that does nothing yet, over a session that does nothing yet.
-    fn begin(alloc: Global, from: R, to: W, session: Session<H>) -> Client<R, W, H>
-        ensures { seen R.remaining W.contents result ≡ beginning (state_of session) (fresh (R.remaining from)) (fresh (W.contents to)) }
+    fn begin(alloc: Global, from: R, to: W, session: S) -> SessionClient<R, W, S>
+        ensures { seen S.state R.remaining W.contents result ≡ beginning (S.state session) (fresh (R.remaining from)) (fresh (W.contents to)) }
     {
-        Client {
+        SessionClient {
             from: Tap::new(from),
             to: Tap::new(to),
             session,
@@ -340,8 +330,8 @@ impl<R: Read + Drop, W: Write + Drop, H: ObjectTable> Client<R, W, H> {
 
     /// Writes all that was sent. Then the objects go on where one may give more, or else bytes of the peer are taken.
     fn step(&mut self) -> Result<(), ClientFault>
-        ensures steps { let at = seen R.remaining W.contents in OnOk result (Steps H.table (at self.old) (at self.new)) }
-        ensures fails { let at = seen R.remaining W.contents in IfErr result (λ f. Fails H.table (at self.old) f (at self.new)) }
+        ensures steps { let at = seen S.state R.remaining W.contents in OnOk result (Steps S.table (at self.old) (at self.new)) }
+        ensures fails { let at = seen S.state R.remaining W.contents in IfErr result (λ f. Fails S.table (at self.old) f (at self.new)) }
     {
         self.flush()?;
         if self.session.has_more() {
@@ -353,15 +343,15 @@ impl<R: Read + Drop, W: Write + Drop, H: ObjectTable> Client<R, W, H> {
 
     /// Has the objects go on. Where memory runs out `is_open` says so, once all is written.
     fn poll(&mut self)
-        ensures { let at = seen R.remaining W.contents in Polls H.table (at self.old) (at self.new) }
+        ensures { let at = seen S.state R.remaining W.contents in Polls S.table (at self.old) (at self.new) }
     {
         let _ = self.session.poll(NOW);
     }
 
     /// Takes bytes up to the end of a message, or of those that were read; or ends them.
     fn go_on(&mut self) -> Result<(), ClientFault>
-        ensures goes_on { let at = seen R.remaining W.contents in OnOk result (GoesOn H.table (at self.old) (at self.new)) }
-        ensures halts { let at = seen R.remaining W.contents in IfErr result (λ f. Halts (at self.old) f (at self.new)) }
+        ensures goes_on { let at = seen S.state R.remaining W.contents in OnOk result (GoesOn S.table (at self.old) (at self.new)) }
+        ensures halts { let at = seen S.state R.remaining W.contents in IfErr result (λ f. Halts (at self.old) f (at self.new)) }
     {
         self.is_open()?;
         let has_bytes = self.read()?;
@@ -375,8 +365,8 @@ impl<R: Read + Drop, W: Write + Drop, H: ObjectTable> Client<R, W, H> {
 
     /// Says why nothing more is taken, if nothing is.
     fn is_open(&self) -> Result<(), ClientFault>
-        ensures is_open { let at = seen R.remaining W.contents in OnOk result (IsOpen (at self.now).session) }
-        ensures closed { let at = seen R.remaining W.contents in IfErr result (λ f. IsClosed (at self.now).session f) }
+        ensures is_open { let at = seen S.state R.remaining W.contents in OnOk result (IsOpen (at self.now).session) }
+        ensures closed { let at = seen S.state R.remaining W.contents in IfErr result (λ f. IsClosed (at self.now).session f) }
     {
         if let Some(fault) = self.session.fault() {
             return Err(ClientFault::Connection(fault));
@@ -389,8 +379,8 @@ impl<R: Read + Drop, W: Write + Drop, H: ObjectTable> Client<R, W, H> {
 
     /// Reads a piece, where nothing is left of one. Says whether there are bytes; else the peer's ended.
     fn read(&mut self) -> Result<bool, ClientFault>
-        ensures reads { let at = seen R.remaining W.contents in IfOk result (λ some. Reads (at self.old) some (at self.new)) }
-        ensures failed { let at = seen R.remaining W.contents in IfErr result (λ f. ReadFailed (at self.old) f (at self.new)) }
+        ensures reads { let at = seen S.state R.remaining W.contents in IfOk result (λ some. Reads (at self.old) some (at self.new)) }
+        ensures failed { let at = seen S.state R.remaining W.contents in IfErr result (λ f. ReadFailed (at self.old) f (at self.new)) }
     {
         if !self.piece.is_empty() {
             return Ok(true);
@@ -400,7 +390,7 @@ impl<R: Read + Drop, W: Write + Drop, H: ObjectTable> Client<R, W, H> {
 
     /// Takes the bytes that were read, up to the end of a message. Where they can't be taken `is_open` says so, once all is written.
     fn take(&mut self)
-        ensures { let at = seen R.remaining W.contents in Takes H.table (at self.old) (at self.new) }
+        ensures { let at = seen S.state R.remaining W.contents in Takes S.table (at self.old) (at self.new) }
     {
         match self.session.receive(self.piece.bytes(), NOW) {
             Ok(count) => self.piece.took(count),
@@ -410,14 +400,14 @@ impl<R: Read + Drop, W: Write + Drop, H: ObjectTable> Client<R, W, H> {
 
     /// Ends the peer's bytes. The objects still give what they owe. Once that is written, `is_open` says that the peer ended.
     fn end(&mut self)
-        ensures { let at = seen R.remaining W.contents in Ends H.table (at self.old) (at self.new) }
+        ensures { let at = seen S.state R.remaining W.contents in Ends S.table (at self.old) (at self.new) }
     {
         let _ = self.session.end(NOW);
     }
 
     /// Keeps what happened: each outcome for its question, and why the vat closed.
     fn note(&mut self)
-        ensures { let at = seen R.remaining W.contents in Knows (at self.old) (at self.new) }
+        ensures { let at = seen S.state R.remaining W.contents in Knows (at self.old) (at self.new) }
     {
         'noting: while let Some(event) = self.session.poll_event() {
             self.note_one(event);
@@ -426,7 +416,7 @@ impl<R: Read + Drop, W: Write + Drop, H: ObjectTable> Client<R, W, H> {
 
     /// Keeps what an event says. Of what else ended the session its fault says why.
     fn note_one(&mut self, event: SessionEvent)
-        ensures { let at = seen R.remaining W.contents in at self.new ≡ knowing event (at self.old) }
+        ensures { let at = seen S.state R.remaining W.contents in at self.new ≡ knowing event (at self.old) }
     {
         match event {
             SessionEvent::Outcome { question, outcome } => self.questions.come(question, outcome),
@@ -439,9 +429,9 @@ impl<R: Read + Drop, W: Write + Drop, H: ObjectTable> Client<R, W, H> {
 
     /// Writes all that was sent.
     fn write(&mut self) -> Result<(), ClientFault>
-        ensures writes { let at = seen R.remaining W.contents in OnOk result (WritesOn H.table (at self.old) (at self.new)) }
-        ensures all { let at = seen R.remaining W.contents in OnOk result ((link_of (at self.new).session).unwritten ≡ []) }
-        ensures part { let at = seen R.remaining W.contents in IfErr result (λ f. WritesPart H.table (at self.old) f (at self.new)) }
+        ensures writes { let at = seen S.state R.remaining W.contents in OnOk result (WritesOn S.table (at self.old) (at self.new)) }
+        ensures all { let at = seen S.state R.remaining W.contents in OnOk result ((link_of (at self.new).session).unwritten ≡ []) }
+        ensures part { let at = seen S.state R.remaining W.contents in IfErr result (λ f. WritesPart S.table (at self.old) f (at self.new)) }
     {
         'writing: while !self.session.outgoing().is_empty() {
             self.write_some()?;
@@ -451,8 +441,8 @@ impl<R: Read + Drop, W: Write + Drop, H: ObjectTable> Client<R, W, H> {
 
     /// Offers the writer what was sent, and notes how much it took.
     fn write_some(&mut self) -> Result<(), ClientFault>
-        ensures writes { let at = seen R.remaining W.contents in OnOk result ((count : ℕ) × (0 < count) × WritesSome H.table (at self.old) count (at self.new)) }
-        ensures failed { let at = seen R.remaining W.contents in IfErr result (λ f. WriteFailed (at self.old) f (at self.new)) }
+        ensures writes { let at = seen S.state R.remaining W.contents in OnOk result ((count : ℕ) × (0 < count) × WritesSome S.table (at self.old) count (at self.new)) }
+        ensures failed { let at = seen S.state R.remaining W.contents in IfErr result (λ f. WriteFailed (at self.old) f (at self.new)) }
     {
         // Each count is noted, so that after a failed call it is known to the byte what was written.
         let count = self.to.write(self.session.outgoing())?;

@@ -28,8 +28,6 @@ pub enum ClientFault {
     NotAsked,
     /// A struct, a list, a text or data of a call, or its table of capabilities, is longer than a message's can be.
     TooLong,
-    /// There are 2^32 objects, and their numbers name no more.
-    TooManyObjects,
     /// The connection ended, or memory ran out, or the vat refuses the call.
     Connection(ConnectionFault),
 }
@@ -45,7 +43,6 @@ impl ClientFault {
         match self {
             ClientFault::Device(_) | ClientFault::Ended => ExceptionKind::Disconnected,
             ClientFault::NotAsked | ClientFault::TooLong => ExceptionKind::Failed,
-            ClientFault::TooManyObjects => ExceptionKind::Overloaded,
             ClientFault::Connection(fault) => fault.kind(),
         }
     }
@@ -58,7 +55,6 @@ impl fmt::Display for ClientFault {
             ClientFault::Ended => f.write_str("the peer's messages ended"),
             ClientFault::NotAsked => f.write_str("V1 UnknownQuestion"),
             ClientFault::TooLong => BuildError::TooLong.fmt(f),
-            ClientFault::TooManyObjects => f.write_str("there are 2^32 objects already"),
             ClientFault::Connection(fault) => fault.fmt(f),
         }
     }

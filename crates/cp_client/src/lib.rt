@@ -14,7 +14,7 @@ mod questions;
 mod results;
 
 pub use call_window::CallWindow;
-pub use client::Client;
+pub use client::{Client, SessionClient};
 pub use contents::{request_of, word_at};
 pub use fault::{CallError, ClientFault};
 pub use nobody::Nobody;

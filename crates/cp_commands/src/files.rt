@@ -1,13 +1,13 @@
 //! A command on the file at a path.
 
 use crate::by_schema::{encode_by, show_by};
-use crate::plan::{Plan, act};
+use crate::plan::{Plan, act_to_end};
 use crate::status::{BROKEN, CLOSED};
 use crate::task::FileTask;
 use crate::texts::{Encoding, encode};
 use cp_schema::{RequestFault, Schema};
 use std::fs::{self, File};
-use std::io::{self, BufWriter, ErrorKind, Read};
+use std::io::{self, BufWriter, ErrorKind, IsTerminal, Read, Stderr, Write};
 
 /// The FILE that stands for standard input.
 pub const STDIN: &str = "-";
@@ -39,6 +39,13 @@ pub fn failed(rt: &HostRuntime, device: &str, error: io::Error) -> u8 {
     }
     let _ = eprintln!(rt; "device: {device}: {error}");
     BROKEN
+}
+
+/// Gives a hint, a line of its own. Standard error has it only as a terminal: a program that reads it gets the promised lines alone.
+pub fn tell_hint(err: &mut Stderr, hint: &str) {
+    if err.is_terminal() {
+        let _ = writeln!(err, "hint: {hint}");
+    }
 }
 
 /// The schema of the file at a path, or the status after it couldn't be had, which a line says.
@@ -81,7 +88,13 @@ fn on_reader<R: Read + Drop>(rt: &HostRuntime, work: Work<'_>, mut from: R) -> i
     let mut out = BufWriter::with_capacity(rt.alloc(), BUFFER, io::writer(rt))?;
     let mut err = rt.stderr();
     let status = match work {
-        Work::Frames(plan) => act(rt.alloc(), plan, &mut from, &mut out, &mut err),
+        Work::Frames(plan) => {
+            let ended = act_to_end(rt.alloc(), plan, &mut from, &mut out, &mut err);
+            if let Some(hint) = ended.hint {
+                tell_hint(&mut err, hint);
+            }
+            ended.status
+        }
         Work::Texts(by) => encode(rt.alloc(), by, &mut from, &mut out, &mut err),
     };
     drop(out);

@@ -15,11 +15,12 @@ mod task;
 mod texts;
 
 pub use asked::Asked;
-pub use files::{BUFFER, STDIN, act_on_file, failed, schema_at};
-pub use foreign::{foreign_protocol, is_other_form};
+pub use files::{BUFFER, STDIN, act_on_file, failed, schema_at, tell_hint};
+pub use foreign::peer_hint;
 pub use names::Names;
-pub use plan::{Plan, act};
+pub use plan::{Plan, act, act_to_end};
 pub use status::{ACCEPTED, BROKEN, CLOSED, REFUSED};
+pub use stop::{Ended, limit_hint};
 pub use task::{
     CallPlan, EncodePlan, FileTask, Guarding, ListenAddress, RelayForm, RelayRoute, RelayTask,
     ServePlan, Service, ShowPlan, Task, TypesPlan,

@@ -6,7 +6,7 @@ use crate::fault::Stop;
 use crate::foreign::is_other_form;
 use crate::names::Names;
 use crate::status::ACCEPTED;
-use crate::stop::stopped;
+use crate::stop::{Ended, stopped};
 use cp_frame::{FrameReader, Mode};
 use cp_lines::push_line;
 use cp_reading::{View, read_root};
@@ -103,6 +103,14 @@ impl Plan<'_> {
                 Stop::OtherForm(fault, mode)
             }
             stop => stop,
+        }
+    }
+
+    /// What may be wrong with what was refused. These three have no option for a limit.
+    fn hint(&self, stop: &Stop) -> Option<&'static str> {
+        match (self, stop) {
+            (Plan::Pack | Plan::Unpack | Plan::Recut { .. }, Stop::Refused(_)) => None,
+            (_, stop) => stop.hint(),
         }
     }
 
@@ -226,6 +234,17 @@ pub fn act<R: Read, W: Write, E: Write>(
     out: &mut W,
     err: &mut E,
 ) -> u8 {
+    act_to_end(alloc, plan, from, out, err).status
+}
+
+/// Does what `act` does, and gives a hint where it has one.
+pub fn act_to_end<R: Read, W: Write, E: Write>(
+    alloc: Global,
+    plan: &Plan<'_>,
+    from: &mut R,
+    out: &mut W,
+    err: &mut E,
+) -> Ended {
     let mut progress = Progress {
         frames: 0,
         bytes: 0,
@@ -237,8 +256,14 @@ pub fn act<R: Read, W: Write, E: Write>(
         done = Err(Stop::Writing(error));
     }
     match done {
-        Ok(()) => ACCEPTED,
-        Err(stop) => stopped(stop, progress.bytes, err),
+        Ok(()) => Ended {
+            status: ACCEPTED,
+            hint: None,
+        },
+        Err(stop) => Ended {
+            status: stopped(stop, progress.bytes, err),
+            hint: plan.hint(&stop),
+        },
     }
 }
 

@@ -1,11 +1,18 @@
 -- How promises are forgotten and objects are dropped, one after another.
-use Rattle.std.proofs.Common.{◌≡◌, ◌<◌, ◌+◌, Bool, true, false, drop, get_or, add-one, length, refl, ℕ, List}
+use Rattle.std.proofs.Common.{◌≡◌, ◌<◌, ◌+◌, Bool, true, false, drop, get_or, add-one, length, refl, sym, subst, ℕ, List, [], ◌∷◌, Some, None, slice_get}
 use Rattle.std.proofs.Math.Seq.{drop-cons}
+use Rattle.cp_vat_machine.specs.InUse.{is_object_used}
+use Rattle.cp_vat_machine.proofs.Basics.{none_out, some_out}
+use Rattle.cp_servants.specs.declared.servant.OutgoingCall.{OutgoingCall}
+use Rattle.cp_objects.specs.declared.departed.Departed.{Departed}
 use Rattle.cp_objects.specs.ObjectTable.{ObjectTableKind}
 use Rattle.cp_connection.specs.Link.{Link}
-use Rattle.cp_dispatch.specs.Dropping.{Forgets, ForgetsEach, Goes, LosesEach, LosesIdle}
+use Rattle.cp_dispatch.specs.Calling.{SettlesEach}
+use Rattle.cp_dispatch.specs.Dropping.{Forgets, ForgetsEach, Goes, LosesEach, LosesIdle, MakesLast, MakesLastCall}
+use Rattle.cp_dispatch.specs.Dropping as dropping
 use Rattle.cp_dispatch.specs.Idle.{UnknownGo, UnknownGoes}
-use Rattle.cp_dispatch.specs.Work.{Work}
+use Rattle.cp_dispatch.specs.PromiseRequests.{KeepsPromiseRequests}
+use Rattle.cp_dispatch.specs.Work.{Work, GivesUp}
 
 -- one is looked at, and then the others
 pub loses_next : {H : Type 0} (table : ObjectTableKind H) (items : List ℕ) (i d : ℕ) {old mid : Work} (last : Work) {objects between : H} (others : H) → i < length items
@@ -32,3 +39,25 @@ known_stays table objects id link b is knows = rw (← is, knows) refl
 pub unknown_goes : {H : Type 0} (table : ObjectTableKind H) (objects : H) (id : ℕ) (old new : Link) (b went : Bool) → b ≡ table.knows id objects → b ≡ false → Goes id old went new
     → UnknownGoes table objects id old new
 unknown_goes table objects id old new b went is unknown goes = rw (← is, unknown) (went, goes)
+
+-- an object goes, and what it left came through as it was
+pub goes_with : {H : Type 0} (table : ObjectTableKind H) (number : ℕ) (left came : Departed) (link : Link) {old called given new : Work} {objects between kept last others : H} → came ≡ left
+    → is_object_used old.link.vat number ≡ false → table.ends number left objects between → KeepsPromiseRequests table old.link link between kept
+    → MakesLast table number came.next_calls (record old { link = link }) called kept last → SettlesEach table called given last others → GivesUp came.imports given new
+    → LosesIdle table number old new objects others
+goes_with table number left came link {called = called} {given = given} {objects = objects} {between = between} {kept = kept} {last = last} same unused ends kept_all made settled given_up =
+    dropping.goes came link called given between kept last unused (subst (λ (d : Departed). table.ends number d objects between) (sym same) ends) kept_all made settled given_up
+
+-- no call is left that is to be made
+pub makes_no_more : {H : Type 0} (table : ObjectTableKind H) (number : ℕ) (next_calls : List OutgoingCall) (old : Work) (objects : H) → None ≡ slice_get next_calls 0
+    → MakesLast table number next_calls old old objects objects
+makes_no_more table number [] old objects none = (refl, refl)
+makes_no_more table number (first ∷ more) old objects none = none_out none
+
+-- the first of the calls is made, if objects may call, and then the others
+pub makes_next : {H : Type 0} (table : ObjectTableKind H) (number : ℕ) (next_calls more : List OutgoingCall) (next_call : OutgoingCall) {old mid : Work} (last : Work) {objects between : H} (others : H)
+    → Some next_call ≡ slice_get next_calls 0 → more ≡ drop 1 next_calls → MakesLastCall table number next_call old mid objects between → MakesLast table number more mid last between others
+    → MakesLast table number next_calls old last objects others
+makes_next table number [] more next_call last others first is made rest = none_out (sym first)
+makes_next table number (head ∷ tail) more next_call {mid = mid} last {between = between} others first is made rest =
+    (mid, between, rw (some_out first) at made, rw is at rest)

@@ -7,7 +7,7 @@ use Rattle.cp_tables.proofs.TableLemmas.{is_remove}
 use Rattle.cp_refs.specs.declared.cap.Cap.{Cap}
 use Rattle.cp_servants.specs.Outcomes.{named_imports}
 use Rattle.cp_dispatch.specs.Holders.{holders, held_by_more}
-use Rattle.cp_dispatch.specs.Work.{Work, Holds, LetsGo, others_hold, none_holds, GivesUp, Tries, TriesUnheld, is_held, is_free}
+use Rattle.cp_dispatch.specs.Work.{Work, Holds, LetsGo, others_hold, none_holds, GivesUp, IsGiven, Tries, TriesUnheld, is_held, is_given, is_free}
 
 -- an object that is given no capability holds no import more
 pub holds_none : (w : Work) → Holds [] w w
@@ -44,7 +44,12 @@ gives_up_all (i ∷ more) old none (mid, one, rest) =
     ∙ ap (λ (w : Work). record w { given_up = w.given_up ++ more }) first
     ∙ ap (λ (g : List ℕ). record old { given_up = g }) (append_assoc old.given_up (i ∷ []) more)
 
+-- where objects may not call, it isn't noted what the program is given
+pub gives_unnoted : (caps : List Cap) (old : Work) {new : Work} → old.may_call ≡ false → IsGiven caps old new → new ≡ old
+gives_unnoted caps old off h = h ∙ ap (λ (b : Bool). record old { given = if b then held_by_more old.given (named_imports caps) else old.given }) off
+
 -- where none holds an import, each that was given up is tried
-pub tries_all : (i : ℕ) {old new : Work} → old.held ≡ empty → TriesUnheld old i new → Tries old i new
-tries_all i {old = old} none (is_held some is) = absurd (omega (arith, some, no_holders old.held i none))
-tries_all i {old = old} none (is_free free tried) = tried
+pub tries_all : (i : ℕ) {old new : Work} → old.held ≡ empty → old.given ≡ empty → TriesUnheld old i new → Tries old i new
+tries_all i {old = old} none nothing (is_held some is) = absurd (omega (arith, some, no_holders old.held i none))
+tries_all i {old = old} none nothing (is_given some is) = absurd (omega (arith, some, no_holders old.given i nothing))
+tries_all i {old = old} none nothing (is_free free ungiven tried) = tried

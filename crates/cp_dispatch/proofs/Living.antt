@@ -15,7 +15,7 @@ use Rattle.cp_connection.specs.Link.{Link}
 use Rattle.cp_connection.specs.Doing.{Acts, answered}
 use Rattle.cp_connection.specs.Receiving.{HandsOut}
 use Rattle.cp_connection.specs.Lives.{IsCall, acts, hands, Life, begins, goes_on}
-use Rattle.cp_dispatch.specs.Work.{Lives}
+use Rattle.cp_dispatch.specs.Work.{Work, GivesBack, holds_more, leaves_it, is_last, is_unreleased, Leaves, leaves, is_anothers, Lives}
 
 -- a list that has grown, and then grows
 then_more : {X : Type 0} (a b c all more : List X) → all ≡ b ++ c → more ≡ a ++ all → more ≡ (a ++ b) ++ c
@@ -69,3 +69,11 @@ lives_forget old new id result h = lives_act (events.Forget id) (answered (λ _.
 -- what came of asking what isn't in use
 pub lives_idle : (old new : Link) (result : Result Idle ConnectionFault) → Acts old events.Idle (answered (λ idle. values.Idle idle.imports idle.promises) result) new → Lives old new
 lives_idle old new result h = lives_act events.Idle (answered (λ idle. values.Idle idle.imports idle.promises) result) tt h
+
+-- what came of giving back what the program was given
+pub lives_back : {i : ℕ} {old new : Work} {result : Result Value ConnectionFault} → GivesBack i old result new → Lives old.link new.link
+lives_back {old = old} (holds_more many is same) = rw same (lives_none old.link)
+lives_back {old = old} (leaves_it few held (leaves some is same)) = rw same (lives_none old.link)
+lives_back {old = old} (leaves_it few held (is_anothers none is same)) = rw same (lives_none old.link)
+lives_back {i = i} {result = result} (is_last link few free acted is same) = rw same (lives_act (events.Release i) result tt acted)
+lives_back {i = i} {result = result} (is_unreleased fault link few free acted is same) = rw same (lives_act (events.Release i) result tt acted)

@@ -12,10 +12,9 @@ use Rattle.cp_connection.specs.Link.{Link}
 use Rattle.cp_servants.specs.declared.servant.Settled.{Settled}
 use Rattle.cp_objects.specs.ObjectTable.{ObjectTableKind}
 use Rattle.cp_dispatch.specs.declared.question_owner.QuestionOwner.{QuestionOwner}
-use Rattle.cp_dispatch.specs.declared.event.DispatchEvent.TheVariants as notices
-use Rattle.cp_dispatch.specs.Work.{Work, Answers, GivesUp, IsDone, LetsGo, Notes, TriesEach, TriesUnheld}
-use Rattle.cp_dispatch.specs.Calling.{HandsBack, to_user, to_object, Hears, MakesCalls}
-use Rattle.cp_dispatch.specs.Rounds.{Settles, is_stranger, is_awaited, PollsFrom, WorksOff, none_left}
+use Rattle.cp_dispatch.specs.Work.{Work, Answers, GivesUp, IsDone, LetsGo, TriesEach, TriesUnheld}
+use Rattle.cp_dispatch.specs.Calling.{HandsBack, to_user, to_object, Hears, MakesCalls, NotesOutcome, Settles, is_stranger, is_awaited}
+use Rattle.cp_dispatch.specs.Rounds.{PollsFrom, WorksOff, none_left}
 
 -- what follows from a fact of a success
 pub after_ok : {T E : Type 0} {P Q : Type 0} (r : Result T E) → OnOk r P → (P → Q) → OnOk r Q
@@ -70,7 +69,7 @@ module _ {H : Type 0} {table : ObjectTableKind H} where
   works_off_none old link objects e none = rw e (none_left none)
 
   pub hands_to_user : (old : Work) (asked : Table QuestionOwner) (question : ℕ) (outcome : Outcome) {new : Work} {objects : H} → get old.asked question ≡ None
-      → asked ≡ remove old.asked question → Notes (notices.Settled question outcome) (record old { asked = asked }) new → HandsBack table question outcome old new objects objects
+      → asked ≡ remove old.asked question → NotesOutcome question outcome (record old { asked = asked }) new → HandsBack table question outcome old new objects objects
   hands_to_user old asked question outcome none r noted =
       to_user none (rw (r, ← is_remove old.asked old.asked question none (λ q h. refl)) at noted) refl
 

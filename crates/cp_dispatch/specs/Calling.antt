@@ -1,6 +1,7 @@
 -- The calls that objects make, and what they are told.
-use Rattle.std.specs.Prelude.{◌≡◌, ◌⊎◌, ℕ, true, false, IsSome, Option, Some, None, Ok, Err}
+use Rattle.std.specs.Prelude.{◌≡◌, ◌⊎◌, ℕ, Bool, true, false, IsSome, Option, Some, None, Ok, Err}
 use Rattle.std.specs.FinMap.{get, insert, remove}
+use Rattle.cp_refs.specs.declared.call.Origin.{Origin}
 use Rattle.cp_refs.specs.declared.outcome.Outcome.{Outcome}
 use Rattle.cp_vat_machine.specs.InUse.{caps_of}
 use Rattle.cp_vat_machine.specs.declared.event.Event.TheVariants as events
@@ -14,9 +15,23 @@ use Rattle.cp_objects.specs.ObjectTable.{ObjectTableKind}
 use Rattle.cp_dispatch.specs.declared.question_owner.QuestionOwner.{QuestionOwner}
 use Rattle.cp_dispatch.specs.declared.event.DispatchEvent.TheVariants as notices
 use Rattle.cp_servants.specs.declared.servant.OutgoingCall.{OutgoingCall}
+use Rattle.cp_servants.specs.declared.servant.Settled.{Settled}
 use Rattle.cp_servants.specs.Outcomes.{refused_call}
-use Rattle.cp_dispatch.specs.Work.{Work, Holds, IsDone, IsEnd, Notes}
+use Rattle.cp_dispatch.specs.Work.{Work, Answers, GivesUp, Holds, IsDone, IsEnd, IsGiven, Notes}
 use Rattle.cp_dispatch.specs.PromiseRequests.{KeepsPromiseRequests}
+
+-- What an object gave settles a call that is awaited, once the object gave imports up, with what its outcome means to the vat. A ticket that isn't awaited is
+-- dropped.
+pub data Settles (means : Outcome → Outcome) (old : Work) : Option Settled → Bool → Work → Type 0 where
+  gives_none : Settles means old None false old
+  is_stranger : (settled : Settled) → get old.awaited settled.ticket ≡ None → Settles means old (Some settled) false old
+  is_awaited : (settled : Settled) (origin : Origin) (link : Link) {mid new : Work} → get old.awaited settled.ticket ≡ Some origin
+      → GivesUp settled.gives_up (record old { awaited = remove old.awaited settled.ticket }) mid → Answers mid.link origin (means settled.outcome) link
+      → new ≡ record mid { link = link } → Settles means old (Some settled) true new
+
+-- An outcome is noted for the program, which is given what it names.
+abbrev pub NotesOutcome : ℕ → Outcome → Work → Work → Type 0
+NotesOutcome question outcome old new = (given : Work) × IsGiven (caps_of outcome) old given × Notes (notices.Settled question outcome) given new
 
 module _ {H : Type 0} (table : ObjectTableKind H) where
   -- there is no object of this number
@@ -49,15 +64,24 @@ module _ {H : Type 0} (table : ObjectTableKind H) where
     had_ended : (fault : ConnectionFault) (link : Link) → IsEnd fault → Acts old.link (events.Call next_call.cap next_call.request) (Err fault) link
         → new ≡ record old { link = link } → others ≡ objects → MakesCall number next_call old new objects others
 
-  -- The calls of the object of this number are made, as they mean to the vat, one after another, until it makes no more.
+  -- The calls are answered that objects settled beside a poll, and those that were dropped, until none is left.
+  pub data SettlesEach : Work → Work → H → H → Type 0 where
+    none_left : {old : Work} {objects others : H} → table.hands_settled None objects others → SettlesEach old old objects others
+    settles : {old mid new : Work} {objects between others : H} (settled : Settled) (gave : Bool) → table.hands_settled (Some settled) objects between
+        → Settles (λ outcome. table.means outcome between) old (Some settled) gave mid → SettlesEach mid new between others → SettlesEach old new objects others
+
+  -- The calls of the object of this number are made, as they mean to the vat, one after another, until it makes no more. Then the calls are answered that were
+  -- settled meanwhile.
   pub data MakesCalls (number : ℕ) : Work → Work → H → H → Type 0 where
-    makes_none : {old new : Work} {objects others : H} → NextCall number old None new objects others → MakesCalls number old new objects others
+    makes_none : {old mid new : Work} {objects between others : H} → NextCall number old None mid objects between → SettlesEach mid new between others
+        → MakesCalls number old new objects others
     makes_one : {old asked mid new : Work} {objects between last others : H} (next_call : OutgoingCall) → NextCall number old (Some next_call) asked objects between
         → MakesCall number (table.means_call next_call between) asked mid between last → MakesCalls number mid new last others → MakesCalls number old new objects others
 
-  -- An outcome is handed back: to the object whose call it is of, whose question is finished, and which may make calls then; or it is noted for the user.
+  -- An outcome is handed back: to the object whose call it is of, whose question is finished, and which may make calls then; or it is noted for the program, which
+  -- is given what it names.
   pub data HandsBack (question : ℕ) (outcome : Outcome) (old new : Work) (objects others : H) : Type 0 where
-    to_user : get old.asked question ≡ None → Notes (notices.Settled question outcome) old new → others ≡ objects → HandsBack question outcome old new objects others
+    to_user : get old.asked question ≡ None → NotesOutcome question outcome old new → others ≡ objects → HandsBack question outcome old new objects others
     to_object : {told : Work} {between : H} (owner : QuestionOwner) (link : Link) → get old.asked question ≡ Some owner → IsDone old.link (events.Finish question) link
         → Hears owner.number owner.call_id outcome (record old { link = link; asked = remove old.asked question }) told objects between
         → MakesCalls owner.number told new between others → HandsBack question outcome old new objects others

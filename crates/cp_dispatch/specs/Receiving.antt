@@ -2,16 +2,22 @@
 use Rattle.std.specs.Prelude.{◌≡◌, ◌↔◌, ℕ, Bool, true, List, Option, Some, None}
 use Rattle.cp_frame.specs.Reader.{taken_of}
 use Rattle.cp_vat.specs.declared.borrowed_call.BorrowedCall.{BorrowedCall}
-use Rattle.cp_vat.specs.Lending.{asked_by}
 use Rattle.cp_connection.specs.declared.fault.ConnectionFault.{ConnectionFault}
 use Rattle.cp_connection.specs.declared.fault.ConnectionFault.TheVariants as faults
+use Rattle.cp_connection.specs.declared.event.ConnectionEvent.{ConnectionEvent}
+use Rattle.cp_connection.specs.declared.event.ConnectionEvent.TheVariants as happenings
 use Rattle.cp_connection.specs.Lending.{delivered}
 use Rattle.cp_connection.specs.Link.{Link}
 use Rattle.cp_connection.specs.Receiving as connection
 use Rattle.cp_objects.specs.ObjectTable.{ObjectTableKind}
-use Rattle.cp_servants.specs.declared.servant.Reply.{Reply}
-use Rattle.cp_dispatch.specs.Rounds.{Gives, Handles, WorksOff}
+use Rattle.cp_servants.specs.Requests.{request_of}
+use Rattle.cp_dispatch.specs.declared.incoming.IncomingCall.{IncomingCall}
+use Rattle.cp_dispatch.specs.Rounds.{Handles, WorksOff}
 use Rattle.cp_dispatch.specs.Work.{Work, Lives}
+
+-- a call that comes, as one that was delivered
+abbrev pub delivered_by : IncomingCall → ConnectionEvent
+delivered_by call = happenings.Delivered call.object call.origin call.ticket (request_of call.request)
 
 module _ {H : Type 0} (table : ObjectTableKind H) where
   -- The connection took the first bytes of a piece, and it is said whether a frame ended with them. What then happened was worked off, and nothing else was
@@ -20,10 +26,6 @@ module _ {H : Type 0} (table : ObjectTableKind H) where
   Receives old piece count has_ended new objects others =
       (link : Link) × connection.Receives old.link piece count link × ((has_ended ≡ true) ↔ (taken_of link.reading ≡ 0))
       × WorksOff table (record old { link = link }) new objects others × Lives link new.link
-
-  -- a call that is lent is given to its object, which replies this
-  abbrev pub GivesLent : BorrowedCall → Reply → Work → Work → H → H → Type 0
-  GivesLent lent reply old new objects others = Gives table lent.object lent.ticket (asked_by lent) reply old new objects others
 
   -- a call that is lent is done as one that was delivered, if there is one
   abbrev pub HandlesLent : Option BorrowedCall → Work → Work → H → H → Type 0

@@ -16,17 +16,8 @@ use Rattle.cp_servants.specs.declared.servant.Reply.TheVariants as replies
 use Rattle.cp_servants.specs.declared.servant.Settled.{Settled}
 use Rattle.cp_servants.specs.Outcomes.{no_such_object}
 use Rattle.cp_dispatch.specs.Work.{Work, Answers, GivesUp, Holds, Notes, Replies, Releases}
-use Rattle.cp_dispatch.specs.Calling.{HandsBack, Lacks, MakesCalls}
+use Rattle.cp_dispatch.specs.Calling.{HandsBack, Lacks, MakesCalls, Settles}
 use Rattle.cp_dispatch.specs.PromiseRequests.{KeepsPromiseRequests}
-
--- What a poll gave settles a call that is awaited, once the object gave imports up, with what its outcome means to the vat. A ticket that isn't awaited is
--- dropped.
-pub data Settles (means : Outcome → Outcome) (old : Work) : Option Settled → Bool → Work → Type 0 where
-  gives_none : Settles means old None false old
-  is_stranger : (settled : Settled) → get old.awaited settled.ticket ≡ None → Settles means old (Some settled) false old
-  is_awaited : (settled : Settled) (origin : Origin) (link : Link) {mid new : Work} → get old.awaited settled.ticket ≡ Some origin
-      → GivesUp settled.gives_up (record old { awaited = remove old.awaited settled.ticket }) mid → Answers mid.link origin (means settled.outcome) link
-      → new ≡ record mid { link = link } → Settles means old (Some settled) true new
 
 -- Of the objects of one table.
 module _ {H : Type 0} (table : ObjectTableKind H) where

@@ -22,22 +22,24 @@ use Rattle.cp_dispatch.specs.declared.event.DispatchEvent.{DispatchEvent}
 use Rattle.cp_servants.specs.declared.servant.Reply.{Reply}
 use Rattle.cp_servants.specs.declared.servant.Reply.TheVariants as replies
 use Rattle.cp_servants.specs.Outcomes.{bad_outcome, named_imports}
-use Rattle.cp_dispatch.specs.Holders.{holders, held_by_more}
+use Rattle.cp_dispatch.specs.Holders.{holders, held_by_more, lowered}
 
 -- The connection, whether objects may call, the calls whose objects answer later, by their tickets, the calls that objects made, by their questions, how many
--- objects hold each import, the imports that objects gave up and that none held then, and what is no object's business and wasn't taken.
+-- objects hold each import, how often results named each to the program, which holds it so often, the imports that objects gave up and that none of them held
+-- then, and what is no object's business and wasn't taken.
 pub record Work : Type 0 where
   pub link : Link
   pub may_call : Bool
   pub awaited : Table Origin
   pub asked : Table QuestionOwner
   pub held : Table ℕ
+  pub given : Table ℕ
   pub given_up : List ℕ
   pub notices : List DispatchEvent
 
 -- nothing is owed yet
 abbrev pub begun : Bool → Link → Work
-begun may_call link = record { link = link; may_call = may_call; awaited = empty; asked = empty; held = empty; given_up = []; notices = [] }
+begun may_call link = record { link = link; may_call = may_call; awaited = empty; asked = empty; held = empty; given = empty; given_up = []; notices = [] }
 
 -- Of the connection nothing was done but calls of the application, and that it was asked what happened: no byte of the peer was taken, and none written.
 abbrev pub Lives : Link → Link → Type 0
@@ -50,6 +52,10 @@ Notes notice old new = new ≡ record old { notices = old.notices ++ notice ∷ 
 -- An object is given these capabilities. Where objects may call, each import that they name has a holder more.
 abbrev pub Holds : List Cap → Work → Work → Type 0
 Holds caps old new = new ≡ record old { held = if old.may_call then held_by_more old.held (named_imports caps) else old.held }
+
+-- The program is given these capabilities. Where objects may call, it holds each import that they name once more.
+abbrev pub IsGiven : List Cap → Work → Work → Type 0
+IsGiven caps old new = new ≡ record old { given = if old.may_call then held_by_more old.given (named_imports caps) else old.given }
 
 -- an import more is to be released
 abbrev pub Frees : ℕ → Work → Work → Type 0
@@ -111,10 +117,11 @@ pub data Tries (old : Work) (i : ℕ) (new : Work) : Type 0 where
   had_ended : (fault : ConnectionFault) (link : Link) → IsEnd fault → Acts old.link (events.Release i) (Err fault) link → new ≡ record old { link = link }
       → Tries old i new
 
--- An import that was given up is tried; but where an object holds it again it is dropped, until that gives it up.
+-- An import that was given up is tried; but where an object holds it again, or the program does, it is dropped, until that gives it up.
 pub data TriesUnheld (old : Work) (i : ℕ) (new : Work) : Type 0 where
   is_held : 1 ≤ holders old.held i → new ≡ old → TriesUnheld old i new
-  is_free : holders old.held i ≡ 0 → Tries old i new → TriesUnheld old i new
+  is_given : 1 ≤ holders old.given i → new ≡ old → TriesUnheld old i new
+  is_free : holders old.held i ≡ 0 → holders old.given i ≡ 0 → Tries old i new → TriesUnheld old i new
 
 -- imports are tried one after another
 abbrev pub TriesEach : Work → List ℕ → Work → Type 0
@@ -124,3 +131,18 @@ TriesEach old (i ∷ more) new = (mid : Work) × TriesUnheld old i mid × TriesE
 -- All imports that were given up are tried, but for those that are held again. Those that are still in use stay.
 abbrev pub Releases : Work → Work → Type 0
 Releases old new = TriesEach (record old { given_up = [] }) old.given_up new
+
+-- The program gives an import up that it holds once at most: then it holds it no more. Where it doesn't hold it, that is refused.
+pub data Leaves (i : ℕ) (old : Work) (result : Result Value ConnectionFault) (new : Work) : Type 0 where
+  leaves : 1 ≤ holders old.given i → result ≡ Ok values.Nothing → new ≡ record old { given = lowered old.given i } → Leaves i old result new
+  is_anothers : holders old.given i ≡ 0 → result ≡ Err (faults.Refused refusals.InUse) → new ≡ old → Leaves i old result new
+
+-- The program gives an import back. Where it holds it more than once it holds it once less, and where an object holds it too it is the object's alone: nothing
+-- is sent. Else the connection is to release it: if it does, with the whole count, the program holds it no more.
+pub data GivesBack (i : ℕ) (old : Work) (result : Result Value ConnectionFault) (new : Work) : Type 0 where
+  holds_more : 1 < holders old.given i → result ≡ Ok values.Nothing → new ≡ record old { given = lowered old.given i } → GivesBack i old result new
+  leaves_it : holders old.given i ≤ 1 → 1 ≤ holders old.held i → Leaves i old result new → GivesBack i old result new
+  is_last : (link : Link) → holders old.given i ≤ 1 → holders old.held i ≡ 0 → Acts old.link (events.Release i) result link → result ≡ Ok values.Nothing
+      → new ≡ record old { link = link; given = lowered old.given i } → GivesBack i old result new
+  is_unreleased : (fault : ConnectionFault) (link : Link) → holders old.given i ≤ 1 → holders old.held i ≡ 0 → Acts old.link (events.Release i) result link → result ≡ Err fault
+      → new ≡ record old { link = link } → GivesBack i old result new

@@ -10,6 +10,7 @@ work_of o link = record {
   awaited = o.awaited;
   asked = o.asked;
   held = o.holders.counts;
+  given = o.given.counts;
   given_up = o.given_up.items;
   notices = o.notices.items;
 }

@@ -3,30 +3,34 @@
 ghost use Rattle.std.specs.Prelude.{◌≡◌, ◌<◌, ◌↔◌, [], true, false, IfErr, IfOk, IsSome, IsTrue, OnOk, length};
 ghost use Rattle.std.specs.FinMap as map;
 ghost use Rattle.cp_vat_machine.specs.InUse.{caps_of};
-ghost use Rattle.cp_vat_machine.specs.declared.event.Event.TheVariants as events;
+ghost use Rattle.cp_vat_machine.specs.declared.event.Value.TheVariants as values;
+ghost use Rattle.cp_connection.specs.Doing.{answered};
 ghost use Rattle.cp_connection.specs.Link.{Link};
 ghost use Rattle.cp_refs.specs.Memory.{counted};
-ghost use Rattle.cp_servants.specs.Outcomes.{bad_outcome, no_such_object};
+ghost use Rattle.cp_servants.specs.Outcomes.{no_such_object};
+ghost use Rattle.cp_servants.specs.Requests.{request_of};
 ghost use Rattle.cp_servants.specs.declared.servant.Reply.TheVariants.{Now};
-ghost use Rattle.cp_dispatch.specs.Work.{begun, Answers, Frees, GivesUp, Holds, IsDone, LetsGo, Lives, Notes, Releases, Replies, Stays, Tries, TriesEach, TriesUnheld};
-ghost use Rattle.cp_dispatch.specs.Calling.{HandsBack, Hears, MakesCall, MakesCalls, NextCall};
-ghost use Rattle.cp_dispatch.specs.Rounds.{Gives, GivesUpBeside, Handles, HandsOver, PollsFrom, Rounds, Settles, WorksOff};
+ghost use Rattle.cp_dispatch.specs.Work.{begun, Frees, GivesBack, GivesUp, Holds, IsGiven, Leaves, LetsGo, Lives, Notes, Releases, Replies, Stays, Tries, TriesEach, TriesUnheld};
+ghost use Rattle.cp_dispatch.specs.Calling.{HandsBack, Hears, NotesOutcome, MakesCall, MakesCalls, NextCall, Settles, SettlesEach};
+ghost use Rattle.cp_dispatch.specs.Rounds.{Gives, GivesUpBeside, Handles, HandsOver, PollsFrom, Rounds, WorksOff};
 ghost use Rattle.cp_dispatch.specs.Idle.{ReleasesIdle};
 ghost use Rattle.cp_dispatch.specs.Noticed.{event_memory};
-ghost use Rattle.cp_dispatch.specs.Receiving.{GivesLent, HandlesLent, IsCutShort, Receives};
+ghost use Rattle.cp_dispatch.specs.Receiving.{HandlesLent, IsCutShort, Receives, delivered_by};
 ghost use Rattle.cp_dispatch.specs.WorkOf.{work_of};
 
+use crate::answers::{answer, finish};
 use crate::event::{DispatchEvent, event_memory};
 use crate::holders::ImportHolders;
 use crate::idle::forget_unknown;
+use crate::incoming::IncomingCall;
 use crate::promise_requests::with_promise_requests_kept;
 use crate::question_owner::QuestionOwner;
 use cp_connection::{Connection, ConnectionEvent, ConnectionFault};
+use cp_fields::PointerReader;
 use cp_objects::ObjectTable;
 use cp_refs::{Caps, Origin, Outcome, Request};
 use cp_servants::{
-    Awaited, OutgoingCall, Reply, RequestView, Settled, bad_outcome, named_imports, no_such_object,
-    refused_call,
+    Awaited, OutgoingCall, Reply, RequestView, Settled, named_imports, no_such_object, refused_call,
 };
 use cp_tables::Entries;
 use cp_vat::BorrowedCall;
@@ -57,7 +61,8 @@ use std::mem;
 ///
 /// # What becomes of a call
 ///
-/// Its object answers at once, or says `Later` and settles it at a poll. A call of an object that doesn't exist fails
+/// Its object answers at once, or says `Later`: then it settles it at a poll, or any other object does (`Context::settle`), and that
+/// is answered as soon as the calls are made that were made with it. A call of an object that doesn't exist fails
 /// with `no such object`, and where the vat refuses an outcome the call fails with `bad outcome`. Once the connection
 /// ended no call is answered any more, and no object is polled.
 ///
@@ -75,8 +80,8 @@ use std::mem;
 ///
 /// So an object may keep an import that others were given too. Made by `that_call`, it counts the holders of each import:
 /// an object holds one once for each call, and each outcome of its own calls, whose table names it. The import is
-/// released when it was given up as often. What you yourself hold or release isn't counted. Made by `new`, it counts
-/// none, and the first object that gives an import up releases it.
+/// released when it was given up as often. You hold one once for each outcome that named it to you, until you `give_back` it; the last
+/// of all who hold it has it released. Made by `new`, it counts none, and the first object that gives an import up releases it.
 ///
 /// Some imports no object is given: those of a call that fails before it reaches one, and what a promise of the peer's came
 /// to. `release_idle` releases them. It forgets promises that no object is given, too.
@@ -90,11 +95,13 @@ use std::mem;
 pub struct Dispatcher {
     pub(crate) alloc: Global,
     /// Whether objects may call.
-    may_call: bool,
+    pub(crate) may_call: bool,
     awaited: Awaited,
     /// The calls that objects made, by their questions.
     asked: Entries<QuestionOwner>,
     holders: ImportHolders,
+    /// How often outcomes named each import to the program, which holds it so often.
+    given: ImportHolders,
     /// The imports that objects gave up and that none held then, until they are released.
     given_up: Vec<u32>,
     /// What is no object's business, in order.
@@ -110,6 +117,7 @@ impl Drop for Dispatcher {
             awaited: _,
             asked: _,
             holders: _,
+            given: _,
             given_up: _,
             notices: _,
         } = self;
@@ -204,7 +212,7 @@ impl Dispatcher {
     /// such a call, and what a promise of the peer's came to. Both in the order in which `idle` of the connection names them. It goes over
     /// all imports and promises of the vat.
     ///
-    /// It is for a connection whose imports and promises nobody holds but these objects: what you yourself were given goes too.
+    /// It is for a connection whose promises nobody holds but these objects. What outcomes gave you stays until you `give_back` it.
     /// Nothing goes where holders aren't counted (`new`), and while something that happened wasn't worked off, as that may give it to
     /// an object.
     pub fn release_idle<H: ObjectTable>(
@@ -233,6 +241,33 @@ impl Dispatcher {
             ConnectionFault::OutOfMemory => Err(AllocError),
             _ => Ok(()),
         }
+    }
+
+    /// Gives an import back that an outcome named to you: once for each that did. Where you hold it more often, or an object holds it,
+    /// nothing is sent.
+    ///
+    /// # Errors
+    ///
+    /// Those of `Connection::release`, where nobody else holds it; and `InUse`, where objects hold it and you don't. Then nothing changed.
+    pub fn give_back(
+        &mut self,
+        connection: &mut Connection,
+        import: u32,
+    ) -> Result<(), ConnectionFault>
+        ensures { GivesBack import (work_of self.old connection.old) (answered (λ _. values.Nothing) result) (work_of self.new connection.new) }
+    {
+        let given = self.given.of(import);
+        if given > 1 {
+            let _ = self.given.lower(import);
+            return Ok(());
+        }
+        let is_held = self.holders.of(import) > 0;
+        if is_held {
+            return self.leave(import);
+        }
+        connection.release(import)?;
+        let _ = self.given.lower(import);
+        Ok(())
     }
 
     /// How many imports are held by objects: none where holders aren't counted (`new`).
@@ -266,6 +301,7 @@ impl Dispatcher {
             awaited: Awaited::new(alloc),
             asked: Entries::new(alloc),
             holders: ImportHolders::new(alloc),
+            given: ImportHolders::new(alloc),
             given_up: Vec::new(alloc),
             notices: VecDeque::new(alloc),
         }
@@ -288,10 +324,25 @@ impl Dispatcher {
                 ticket,
                 call,
             } => {
-                let said = self.reply_of(objects, object, ticket, call)?;
-                let reply = with_promise_requests_kept(self.alloc, connection, objects, said)?;
-                self.reply(connection, objects, origin, ticket, reply)?;
-                self.make_calls(connection, objects, object)
+                let Request {
+                    interface,
+                    method,
+                    content,
+                    caps,
+                } = call;
+                let request = RequestView {
+                    interface,
+                    method,
+                    content: PointerReader::of_whole(&content),
+                    caps,
+                };
+                let call = IncomingCall {
+                    object,
+                    origin,
+                    ticket,
+                    request,
+                };
+                self.take_call(connection, objects, call)
             }
             ConnectionEvent::Settled { question, outcome } => {
                 self.hand_back(connection, objects, question, outcome)
@@ -313,34 +364,50 @@ impl Dispatcher {
         let Some(lent) = lent else {
             return Ok(());
         };
-        let (object, origin, ticket) = (lent.object, lent.origin, lent.ticket);
-        let said = self.reply_to_lent(objects, lent)?;
+        let BorrowedCall {
+            object,
+            origin,
+            ticket,
+            interface,
+            method,
+            content,
+            caps,
+        } = lent;
+        let request = RequestView {
+            interface,
+            method,
+            content: PointerReader::of_view(content),
+            caps,
+        };
+        let call = IncomingCall {
+            object,
+            origin,
+            ticket,
+            request,
+        };
+        self.take_call(connection, objects, call)
+    }
+
+    /// Hands a call to its object, answers it at once where the object does, and makes the calls that follow.
+    fn take_call<H: ObjectTable>(
+        &mut self,
+        connection: &mut Connection,
+        objects: &mut H,
+        call: IncomingCall<'_>,
+    ) -> Result<(), AllocError>
+        ensures done { OnOk result (Handles H.table (delivered_by call.entry) (work_of self.old connection.old) (work_of self.new connection.new) objects.old objects.new) }
+        ensures lives { Lives connection.old connection.new }
+    {
+        let IncomingCall {
+            object,
+            origin,
+            ticket,
+            request,
+        } = call;
+        let said = self.reply_of(objects, object, ticket, request)?;
         let reply = with_promise_requests_kept(self.alloc, connection, objects, said)?;
         self.reply(connection, objects, origin, ticket, reply)?;
         self.make_calls(connection, objects, object)
-    }
-
-    /// What an object replies to a call that is lent, as `reply_of` says it.
-    fn reply_to_lent<H: ObjectTable>(
-        &mut self,
-        objects: &mut H,
-        lent: BorrowedCall<'_>,
-    ) -> Result<Reply, AllocError>
-        ensures { IfOk result (λ reply. (link : Link) → GivesLent H.table lent.entry reply (work_of self.old link) (work_of self.new link) objects.old objects.new) }
-    {
-        let number = lent.object;
-        if objects.has(number) {
-            self.hold(&lent.caps)?;
-            let request = RequestView {
-                interface: lent.interface,
-                method: lent.method,
-                content: lent.content,
-                caps: lent.caps,
-            };
-            let reply = objects.call_view_at(self.alloc, number, lent.ticket, request)?;
-            return Ok(reply);
-        }
-        self.reply_of_none()
     }
 
     /// What a call of an object that doesn't exist fails with.
@@ -373,7 +440,7 @@ impl Dispatcher {
         ensures lives { Lives connection.old connection.new }
     {
         let Some(owner) = self.asked.remove(question) else {
-            return self.note(DispatchEvent::Settled { question, outcome });
+            return self.note_outcome(question, outcome);
         };
         // An object names no question, so none of its paths is needed any more.
         finish(connection, question)?;
@@ -381,7 +448,42 @@ impl Dispatcher {
         self.make_calls(connection, objects, owner.number)
     }
 
-    /// Makes the calls that an object asks for, until it asks for no more.
+    /// The program gives up what an object holds too, if it holds it.
+    fn leave(&mut self, import: u32) -> Result<(), ConnectionFault>
+        ensures { (link : Link) → Leaves import (work_of self.old link) (answered (λ _. values.Nothing) result) (work_of self.new link) }
+    {
+        if self.given.of(import) == 0 {
+            return Err(ConnectionFault::Refused(VatFault::InUse));
+        }
+        let _ = self.given.lower(import);
+        Ok(())
+    }
+
+    /// Notes an outcome for the program, which is given what it names.
+    fn note_outcome(&mut self, question: u32, outcome: Outcome) -> Result<(), AllocError>
+        ensures { OnOk result ((link : Link) → NotesOutcome question outcome (work_of self.old link) (work_of self.new link)) }
+    {
+        if let Err(error) = self.give(&outcome) {
+            drop(outcome);
+            return Err(error);
+        }
+        self.note(DispatchEvent::Settled { question, outcome })
+    }
+
+    /// Notes that the program is given what an outcome gives: where objects may call, it holds each import that is named once more.
+    fn give(&mut self, outcome: &Outcome) -> Result<(), AllocError>
+        ensures { OnOk result ((link : Link) → IsGiven (caps_of outcome.now) (work_of self.old link) (work_of self.new link)) }
+    {
+        match outcome {
+            Outcome::Results { caps, .. } if self.may_call => {
+                let named = named_imports(self.alloc, caps)?;
+                self.given.raise_each(named.ids())
+            }
+            _ => Ok(()),
+        }
+    }
+
+    /// Makes the calls that an object asks for, until it asks for no more. Then answers what objects settled meanwhile.
     fn make_calls<H: ObjectTable>(
         &mut self,
         connection: &mut Connection,
@@ -393,10 +495,28 @@ impl Dispatcher {
     {
         for _ in 0..u64::MAX {
             let Some(next_call) = self.next_call(connection, objects, number)? else {
-                return Ok(());
+                return self.settle_each(connection, objects);
             };
             let meant = objects.meant_call(next_call);
             self.make_call(connection, objects, number, meant)?;
+        }
+        Err(AllocError)
+    }
+
+    /// Answers the calls that objects settled beside a poll, and those whose later calls were dropped, until none is left.
+    pub(crate) fn settle_each<H: ObjectTable>(
+        &mut self,
+        connection: &mut Connection,
+        objects: &mut H,
+    ) -> Result<(), AllocError>
+        ensures done { OnOk result (SettlesEach H.table (work_of self.old connection.old) (work_of self.new connection.new) objects.old objects.new) }
+        ensures lives { Lives connection.old connection.new }
+    {
+        for _ in 0..u64::MAX {
+            let Some(settled) = objects.next_settled()? else {
+                return Ok(());
+            };
+            let _ = self.settle(connection, objects, Some(settled))?;
         }
         Err(AllocError)
     }
@@ -422,7 +542,7 @@ impl Dispatcher {
     }
 
     /// Makes a call of an object. Where the vat refuses it the object is told so.
-    fn make_call<H: ObjectTable>(
+    pub(crate) fn make_call<H: ObjectTable>(
         &mut self,
         connection: &mut Connection,
         objects: &mut H,
@@ -476,13 +596,13 @@ impl Dispatcher {
         objects: &mut H,
         number: u32,
         ticket: u64,
-        request: Request,
+        request: RequestView<'_>,
     ) -> Result<Reply, AllocError>
-        ensures { IfOk result (λ r. (link : Link) → Gives H.table number ticket request r (work_of self.old link) (work_of self.new link) objects.old objects.new) }
+        ensures { IfOk result (λ r. (link : Link) → Gives H.table number ticket (request_of request.entry) r (work_of self.old link) (work_of self.new link) objects.old objects.new) }
     {
         if objects.has(number) {
             self.hold(&request.caps)?;
-            let reply = objects.call_at(number, ticket, request)?;
+            let reply = objects.call_at(self.alloc, number, ticket, request)?;
             return Ok(reply);
         }
         self.reply_of_none()
@@ -627,7 +747,7 @@ impl Dispatcher {
         self.release_each(connection, &imports)
     }
 
-    /// Tries to release each of these imports, unless an object holds it.
+    /// Tries to release each of these imports, unless an object holds it, or the program.
     fn release_each(
         &mut self,
         connection: &mut Connection,
@@ -642,13 +762,17 @@ impl Dispatcher {
         Ok(())
     }
 
-    /// Tries to release an import, unless an object holds it.
+    /// Tries to release an import, unless an object holds it, or the program.
     fn release_unheld(&mut self, connection: &mut Connection, import: u32) -> Result<(), AllocError>
         ensures done { OnOk result (TriesUnheld (work_of self.old connection.old) import (work_of self.new connection.new)) }
         ensures lives { Lives connection.old connection.new }
     {
         // Its holder puts it on the list again when it gives the import up.
         if self.holders.of(import) > 0 {
+            return Ok(());
+        }
+        // So does the program.
+        if self.given.of(import) > 0 {
             return Ok(());
         }
         self.release(connection, import)
@@ -690,67 +814,9 @@ impl Dispatcher {
     }
 }
 
-/// Finishes the question of an object's call. Nothing is sent once the connection ended.
-fn finish(connection: &mut Connection, question: u32) -> Result<(), AllocError>
-    ensures done { OnOk result (IsDone connection.old (events.Finish question) connection.new) }
-    ensures lives { Lives connection.old connection.new }
-{
-    let fault = match connection.finish(question) {
-        Ok(()) => return Ok(()),
-        Err(fault) => fault,
-    };
-    match fault {
-        ConnectionFault::OutOfMemory => Err(AllocError),
-        _ => Ok(()),
-    }
-}
-
 /// Whether a connection ended.
 fn has_ended(connection: &Connection) -> bool
     ensures { IsTrue result ↔ IsSome connection.now.fault }
 {
     connection.fault().is_some()
-}
-
-/// Answers a call with its outcome, or with an exception where the vat refuses that. Nothing is answered once the
-/// connection ended.
-fn answer(
-    alloc: Global,
-    connection: &mut Connection,
-    origin: Origin,
-    outcome: Outcome,
-) -> Result<(), AllocError>
-    ensures done { OnOk result (Answers connection.old origin outcome connection.new) }
-    ensures lives { Lives connection.old connection.new }
-{
-    let fault = match connection.answer(origin, outcome) {
-        Ok(()) => return Ok(()),
-        Err(fault) => fault,
-    };
-    match fault {
-        ConnectionFault::OutOfMemory => Err(AllocError),
-        ConnectionFault::Refused(_) => answer_badly(alloc, connection, origin),
-        ConnectionFault::Closed => Ok(()),
-        ConnectionFault::Unreadable { .. } => Ok(()),
-    }
-}
-
-/// Answers a call with the exception in place of an outcome that the vat refused.
-fn answer_badly(
-    alloc: Global,
-    connection: &mut Connection,
-    origin: Origin,
-) -> Result<(), AllocError>
-    ensures done { OnOk result (IsDone connection.old (events.Answer origin bad_outcome) connection.new) }
-    ensures lives { Lives connection.old connection.new }
-{
-    let outcome = bad_outcome(alloc)?;
-    let fault = match connection.answer(origin, outcome) {
-        Ok(()) => return Ok(()),
-        Err(fault) => fault,
-    };
-    match fault {
-        ConnectionFault::OutOfMemory => Err(AllocError),
-        _ => Ok(()),
-    }
 }

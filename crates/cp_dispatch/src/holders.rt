@@ -2,7 +2,7 @@
 
 ghost use Rattle.std.specs.Prelude.{◌≡◌, ℕ, ◌<◌, ◌≤◌, ◌+◌, ◌-◌, true, false, OnOk, OnErr, take};
 ghost use Rattle.std.specs.FinMap as map;
-ghost use Rattle.cp_dispatch.specs.Holders.{holders, held_by_one_more, held_by_more};
+ghost use Rattle.cp_dispatch.specs.Holders.{holders, held_by_one_more, held_by_more, lowered};
 
 use cp_tables::Entries;
 use std::alloc::{AllocError, Global};
@@ -54,6 +54,7 @@ impl ImportHolders {
         ensures less { result ≡ true → self.new.counts ≡ map.insert self.old.counts import (holders self.old.counts import - 1) }
         ensures last { result ≡ false → holders self.old.counts import ≤ 1 }
         ensures none { result ≡ false → self.new.counts ≡ map.remove self.old.counts import }
+        ensures lowered { self.new.counts ≡ lowered self.old.counts import }
     {
         let count = self.of(import);
         if count > 1 {

@@ -1,22 +1,24 @@
 //! Objects and promises that nothing refers to.
 
 ghost use Rattle.std.specs.Prelude.{IfOk, OnOk};
-ghost use Rattle.cp_dispatch.specs.Dropping.{DropsIdle, Forgets, ForgetsEach, Goes, LosesEach, LosesIdle};
+ghost use Rattle.cp_dispatch.specs.Dropping.{DropsIdle, Forgets, ForgetsEach, Goes, LosesEach, LosesIdle, MakesLast, MakesLastCall};
 ghost use Rattle.cp_dispatch.specs.Idle.{UnknownGo, UnknownGoes};
 ghost use Rattle.cp_dispatch.specs.Work.{Lives};
 ghost use Rattle.cp_dispatch.specs.WorkOf.{work_of};
 
 use crate::dispatcher::Dispatcher;
+use crate::promise_requests::with_promise_requests_kept;
 use cp_connection::{Connection, ConnectionFault};
-use cp_objects::ObjectTable;
+use cp_objects::{CallQueue, Departed, ObjectTable};
 use cp_refs::PromiseId;
+use cp_servants::OutgoingCall;
 use std::alloc::AllocError;
 
 impl Dispatcher {
     /// Forgets each promise that objects made, or that calls and outcomes of theirs named, if it is resolved and nothing refers to it. Then
-    /// drops each object that may go and that nothing of the connection refers to, and tries to release the imports that were given up,
-    /// with those that it held. Nothing is done while something that happened wasn't worked off, as that may be a call of an object, or
-    /// name a promise. What you yourself hold isn't counted.
+    /// drops each object that may go and that nothing of the connection refers to: it is told its end, and the calls that it made then are
+    /// made. Last it tries to release the imports that were given up, with those that these objects held. Nothing is done while something
+    /// that happened wasn't worked off, as that may be a call of an object, or name a promise. What you yourself hold isn't counted.
     pub fn drop_idle<H: ObjectTable>(
         &mut self,
         connection: &mut Connection,
@@ -38,11 +40,12 @@ impl Dispatcher {
     /// Drops each of these objects that nothing of the connection refers to.
     fn drop_each<H: ObjectTable>(
         &mut self,
-        connection: &Connection,
+        connection: &mut Connection,
         objects: &mut H,
         numbers: &[u32],
     ) -> Result<(), AllocError>
-        ensures { OnOk result (LosesEach H.table numbers.now (work_of self.old connection.now) (work_of self.new connection.now) objects.old objects.new) }
+        ensures done { OnOk result (LosesEach H.table numbers.now (work_of self.old connection.old) (work_of self.new connection.new) objects.old objects.new) }
+        ensures lives { Lives connection.old connection.new }
     {
         for number in numbers {
             self.drop_one(connection, objects, *number)?;
@@ -50,20 +53,66 @@ impl Dispatcher {
         Ok(())
     }
 
-    /// Drops an object, if nothing of the connection refers to it.
+    /// Drops an object, if nothing of the connection refers to it and it is there.
     fn drop_one<H: ObjectTable>(
         &mut self,
-        connection: &Connection,
+        connection: &mut Connection,
         objects: &mut H,
         number: u32,
     ) -> Result<(), AllocError>
-        ensures { OnOk result (LosesIdle H.table number (work_of self.old connection.now) (work_of self.new connection.now) objects.old objects.new) }
+        ensures done { OnOk result (LosesIdle H.table number (work_of self.old connection.old) (work_of self.new connection.new) objects.old objects.new) }
+        ensures lives { Lives connection.old connection.new }
     {
-        if connection.uses_object(number) {
+        if connection.uses_object(number) || !objects.has(number) {
             return Ok(());
         }
-        let imports = objects.remove(self.alloc, number);
+        let said = objects.end(self.alloc, number)?;
+        let Departed {
+            imports,
+            next_calls,
+        } = with_promise_requests_kept(self.alloc, connection, objects, said)?;
+        self.make_last_calls(connection, objects, number, next_calls)?;
+        self.settle_each(connection, objects)?;
         self.give_up(&imports)
+    }
+
+    /// Makes the calls that an object made last, in order, where objects may call. Nobody is told what they come to.
+    fn make_last_calls<H: ObjectTable>(
+        &mut self,
+        connection: &mut Connection,
+        objects: &mut H,
+        number: u32,
+        mut next_calls: CallQueue,
+    ) -> Result<(), AllocError>
+        ensures done { OnOk result (MakesLast H.table number next_calls (work_of self.old connection.old) (work_of self.new connection.new) objects.old objects.new) }
+        ensures lives { Lives connection.old connection.new }
+    {
+        for _ in 0..u64::MAX {
+            let Some(next_call) = next_calls.pop() else {
+                return Ok(());
+            };
+            self.make_last_call(connection, objects, number, next_call)?;
+        }
+        Err(AllocError)
+    }
+
+    /// Makes a call that an object made last, where objects may call.
+    fn make_last_call<H: ObjectTable>(
+        &mut self,
+        connection: &mut Connection,
+        objects: &mut H,
+        number: u32,
+        next_call: OutgoingCall,
+    ) -> Result<(), AllocError>
+        ensures done { OnOk result (MakesLastCall H.table number next_call (work_of self.old connection.old) (work_of self.new connection.new) objects.old objects.new) }
+        ensures lives { Lives connection.old connection.new }
+    {
+        if !self.may_call {
+            drop(next_call);
+            return Ok(());
+        }
+        let meant = objects.meant_call(next_call);
+        self.make_call(connection, objects, number, meant)
     }
 }
 

@@ -1,10 +1,12 @@
 //! What is done for the objects of a connection: its peer's calls go to them, and what they answer goes back.
 #![tactic(auto)]
 
+mod answers;
 mod dispatcher;
 mod event;
 mod holders;
 mod idle;
+mod incoming;
 mod laws;
 mod promise_requests;
 mod question_owner;

@@ -1,7 +1,7 @@
 -- Bytes that are tested block by block, with zeros after the last.
-use Rattle.std.proofs.Common.{◌≡◌, ℕ, zero, suc, ◌+◌, ◌-◌, ◌*◌, ◌<◌, ◌≤◌, nat_lt, true, false, List, ◌∷◌, ◌++◌, map, take, drop, get_or, IsUtf8, ◌↔◌, refl, sym, ap, ◌∙◌, subst, arith}
+use Rattle.std.proofs.Common.{◌≡◌, ℕ, zero, suc, ◌+◌, ◌*◌, ◌/◌, ◌%◌, ◌<◌, ◌≤◌, nat_lt, true, false, List, ◌∷◌, ◌++◌, map, take, drop, get_or, IsUtf8, ◌↔◌, refl, sym, ap, ◌∙◌, subst, arith}
 use Rattle.std.proofs.lemmas.Bool.Decides.{nat_tests}
-use Rattle.std.proofs.lemmas.List.{get_or-drop, take-append-drop}
+use Rattle.std.proofs.lemmas.List.{get_or-drop, get_or-take, take-append-drop}
 use Rattle.std.specs.Int.{div_ceil}
 use Rattle.std.proofs.lemmas.List.FromFn.{take-map-range_with_len, length-map-range_with_len}
 use Rattle.std.proofs.lemmas.Str.{IsUtf8-append, IsUtf8-take, IsUtf8-from_ascii}
@@ -75,3 +75,23 @@ padded ws n m h =
 -- as many blocks as hold n bytes
 pub blocks-hold : (n i : ℕ) → div_ceil n 64 ≤ i → n ≤ i * 64
 blocks-hold n i h = omega (arith, h)
+
+-- a byte of words from a whole word on
+byte-from : (ws : List ℕ) (first k : ℕ) → first % 8 ≡ 0 → k < 64 → element (take 8 (drop (first / 8) ws)) 8 k ≡ element ws 8 (first + k)
+byte-from ws first k even lt =
+    let word : (first + k) * 8 / 64 ≡ first / 8 + k * 8 / 64 = omega (arith, even) in
+    let rest : (first + k) * 8 % 64 ≡ k * 8 % 64 = omega (arith, even) in
+    let near : k * 8 / 64 < 8 = omega (arith, lt) in
+    rw (word, rest, get_or-take 8 (drop (first / 8) ws) (k * 8 / 64) 0 near, get_or-drop (first / 8) ws (k * 8 / 64) 0) refl
+
+-- a block that is whole words
+pub block-words : (ws : List ℕ) (first end : ℕ) → first % 8 ≡ 0 → first + 64 ≤ end → numbers (take 8 (drop (first / 8) ws)) 8 64 ≡ map (λ k. byte_before ws end (first + k)) (range_with_len 0 64)
+block-words ws first end even within =
+    same (element (take 8 (drop (first / 8) ws)) 8) (λ k. byte_before ws end (first + k)) 0 64
+    (λ k lt. byte-from ws first k even (omega (arith, lt)) ∙ sym (byte-within ws end (first + k) (omega (arith, lt, within))))
+
+-- one more whole block
+pub block-more : (ws : List ℕ) (end m : ℕ) → m + 64 ≤ end → numbers ws 8 (m + 64) ≡ numbers ws 8 m ++ map (λ k. byte_before ws end (m + k)) (range_with_len 0 64)
+block-more ws end m within =
+    range-append (element ws 8) m 64
+    ∙ ap (λ l. numbers ws 8 m ++ l) (same (λ k. element ws 8 (m + k)) (λ k. byte_before ws end (m + k)) 0 64 (λ k lt. sym (byte-within ws end (m + k) (omega (arith, lt, within)))))

@@ -4,9 +4,12 @@ use Rattle.cp_tree.specs.Node.{null, struct, ptrs, structs}
 use Rattle.cp_tree.specs.NodeOf.{nodes_of, bodies_of}
 use Rattle.cp_tree.specs.Seen.{node_at, pointee_of}
 use Rattle.cp_fields.specs.Constants.{constant_of, constant_body_of}
-use Rattle.cp_fields.specs.Items.{pointer_items, struct_items, items_of}
+use Rattle.cp_fields.specs.Items.{number_item, numbers_of, pointer_items, struct_items, items_of}
 use Rattle.cp_fields.specs.Rows.{tree_item, body_item}
 use Rattle.cp_fields.specs.declared.constant.Constant.{Constant, Ptrs, Structs}
+use Rattle.cp_fields.specs.declared.constant.Constant.TheVariants as constants
+use Rattle.cp_tree.specs.Lent.{elements_in}
+use Rattle.cp_tree.specs.declared.lent.ListRef.{ListRef}
 use Rattle.cp_fields.specs.declared.constant.ConstantBody.{ConstantBody, the_lemmas}
 
 pub pointee-body : (b : ConstantBody) (i : ℕ) → pointee_of (struct (constant_body_of b).0 (constant_body_of b).1) i ≡ node_at (nodes_of (map constant_of b.ptrs.now)) i
@@ -41,3 +44,6 @@ items-Ptrs v = ap items_of (node-Ptrs v) ∙ pointer_items-map v.now
 
 pub items-Structs : (d k : ℕ) (v : Bor (List ConstantBody)) → items_of (constant_of (Structs d k v)) ≡ map body_item v.now
 items-Structs d k v = ap items_of (node-Structs d k v) ∙ struct_items-map v.now
+
+pub items-List : (l : ListRef) → items_of (constant_of (constants.List l)) ≡ map number_item (numbers_of (elements_in l))
+items-List l = search (rules, the_lemmas)

@@ -1,5 +1,5 @@
 -- The elements of lists, where they lie.
-use Rattle.std.proofs.Common.{◌≡◌, ℕ, zero, suc, ◌+◌, ◌<◌, ◌==◌, List, [], length, map, get_or, replicate, refl, sym, ap, ◌∙◌, arith, zero-add}
+use Rattle.std.proofs.Common.{◌≡◌, ℕ, zero, suc, ◌+◌, ◌<◌, ◌≤◌, ◌==◌, List, [], length, map, get_or, replicate, refl, sym, ap, ◌∙◌, arith, zero-add}
 use Rattle.std.proofs.lemmas.List.{length-map, get_or-map, length-replicate, get_or-replicate}
 use Rattle.std.proofs.lemmas.List.FromFn.{length-map-range_with_len, get_or-map-range_with_len}
 use Rattle.std.specs.List.{range_with_len}
@@ -163,3 +163,30 @@ pub zero_at : (n i : ℕ) → i < length (map number_item (replicate n 0)) → n
 zero_at n i h =
     let inside : i < n = omega (arith, length-map (replicate n 0) number_item, length-replicate {A = ℕ} n 0) in
     ap number_item (sym (get_or-replicate n i 0 0 inside)) ∙ number_at (replicate n 0) i h
+
+-- what a look at a list in place says of its elements: how many, and which numbers
+length-items : (t : Node) (ns : List ℕ) → items_of t ≡ map number_item ns → length (items_of t) ≡ length ns
+length-items t ns e = ap (λ (l : List Node). length l) e ∙ length-map ns number_item
+
+pub void_row : (t : Node) (n : ℕ) → items_of t ≡ map number_item (replicate n 0) → length (items_of t) ≡ n
+void_row t n e = length-items t (replicate n 0) e ∙ length-replicate {A = ℕ} n 0
+
+pub packed_row : (t : Node) (ws : List ℕ) (w n : ℕ) → items_of t ≡ map number_item (numbers ws w n) → length (items_of t) ≡ n
+packed_row t ws w n e = length-items t (numbers ws w n) e ∙ length-numbers ws w n
+
+pub void_at : (t : Node) (n i : ℕ) → items_of t ≡ map number_item (replicate n 0) → i < length (items_of t) → number_item 0 ≡ get_or (items_of t) i null
+void_at t n i e h = rw e (zero_at n i (rw e at h))
+
+pub packed_at_of : (t : Node) (ws : List ℕ) (w n i : ℕ) → items_of t ≡ map number_item (numbers ws w n) → i < length (items_of t) → number_item (element ws w i) ≡ get_or (items_of t) i null
+packed_at_of t ws w n i e h = rw e (packed_at ws w n i (rw e at h))
+
+-- how many bits an element has
+pub bits_some : (size : ElementSize) → (size ≡ sizes.Void → ⊥) → (0 < bits_of size) × (bits_of size ≤ 64)
+bits_some sizes.Void not = absurd (not refl)
+bits_some sizes.Bit not = (omega arith, omega arith)
+bits_some sizes.Byte not = (omega arith, omega arith)
+bits_some sizes.TwoBytes not = (omega arith, omega arith)
+bits_some sizes.FourBytes not = (omega arith, omega arith)
+bits_some sizes.EightBytes not = (omega arith, omega arith)
+bits_some sizes.Pointer not = (omega arith, omega arith)
+bits_some sizes.Composite not = (omega arith, omega arith)

@@ -50,6 +50,11 @@ list_field size (ptrs ts) = if reads_from size sizes.Pointer then Ok (items_of (
 list_field size (structs d n bs) = if reads_from_structs size d n then Ok (items_of (structs d n bs)) else wrong (kinds.List size) (structs d n bs)
 list_field size t = wrong (kinds.List size) t
 
+-- what is read is the tree of a list whose elements are wanted of this size; or the fault
+abbrev pub Lists : ElementSize → Node → Result Node WrongKind → Type 0
+Lists size t (Ok found) = (found ≡ t) × (list_field size t ≡ Ok (items_of t))
+Lists size t (Err fault) = list_field size t ≡ Err fault
+
 -- this tree, or where it is null, a default
 abbrev pub or_default : Node → Node → Node
 or_default null default = default

@@ -1,6 +1,6 @@
 //! Lists of bytes that are read where they lie.
 
-ghost use Rattle.std.specs.Prelude.{◌≡◌, ◌==◌, ◌<◌, ◌≤◌, ◌-◌, ◌^◌, ◌↔◌, if◌then◌else◌, Some, None, MatchOption, List, ℕ, length, take, slice_index, IfOk, IsTrue, IsUtf8};
+ghost use Rattle.std.specs.Prelude.{◌≡◌, ◌==◌, ◌<◌, ◌≤◌, ◌-◌, ◌^◌, ◌↔◌, if◌then◌else◌, Some, None, MatchOption, List, ℕ, ◌++◌, length, take, slice_index, IfOk, OnOk, IsTrue, IsUtf8};
 ghost use Rattle.cp_tree.specs.Elements.{numbers};
 ghost use Rattle.cp_tree.specs.Node.{bytes, list};
 ghost use Rattle.cp_tree.specs.NodeOf.{node_of};
@@ -10,7 +10,7 @@ use crate::constant::Constant;
 use crate::data::number_at;
 use crate::kind::{Kind, WrongKind};
 use crate::pointer_reader::{Part, PointerReader};
-use crate::utf8;
+use crate::utf8::{BLOCK, is_utf8, next_block};
 use cp_reading::View;
 use cp_tree::{ListRef, Shape, Tree};
 use cp_words::ElementSize;
@@ -43,7 +43,7 @@ impl<'a> Model for DataReader<'a> {
 }
 
 impl<'a> DataReader<'a> {
-    ghost use Rattle.std.specs.Prelude.{◌≡◌, ◌==◌, ◌<◌, ◌≤◌, ◌-◌, ◌^◌, ◌↔◌, if◌then◌else◌, Some, None, length, take, slice_index, IfOk, IsTrue, IsUtf8};
+    ghost use Rattle.std.specs.Prelude.{◌≡◌, ◌==◌, ◌<◌, ◌≤◌, ◌-◌, ◌^◌, ◌↔◌, if◌then◌else◌, Some, None, ◌++◌, length, take, slice_index, IfOk, OnOk, IsTrue, IsUtf8};
     ghost use Rattle.cp_tree.specs.Elements.{numbers};
     ghost use Rattle.cp_fields.specs.Pointers.{data_field, ends_in_zero};
 
@@ -109,9 +109,18 @@ impl<'a> DataReader<'a> {
     pub fn to_vec(&self, alloc: Global) -> Result<Vec<u8>, AllocError>
         ensures { IfOk result (λ v. v.items ≡ self.now) }
     {
+        let mut bytes = Vec::with_capacity(alloc, self.len())?;
+        self.append_to(&mut bytes)?;
+        Ok(bytes)
+    }
+
+    /// Adds the bytes after others.
+    pub fn append_to(&self, bytes: &mut Vec<u8>) -> Result<(), AllocError>
+        ensures { OnOk result (bytes.new.items ≡ bytes.old.items ++ self.now) }
+    {
         match self.bytes {
-            BorrowedBytes::Words(words, count) => copy_of(alloc, words, count),
-            BorrowedBytes::Slice(bytes) => bytes.to_vec(alloc),
+            BorrowedBytes::Words(words, count) => append_words(words, count, bytes),
+            BorrowedBytes::Slice(slice) => bytes.extend_from_slice(slice),
         }
     }
 
@@ -120,7 +129,7 @@ impl<'a> DataReader<'a> {
         ensures { IsTrue result ↔ IsUtf8 self.now }
     {
         match self.bytes {
-            BorrowedBytes::Words(words, count) => utf8::is_utf8(words, count),
+            BorrowedBytes::Words(words, count) => is_utf8(words, count),
             BorrowedBytes::Slice(bytes) => simdutf8::is_utf8(bytes),
         }
     }
@@ -205,14 +214,17 @@ fn bytes_in_place<'a>(view: &View<'a>) -> Option<DataReader<'a>>
     }
 }
 
-/// The first bytes that words hold, this many, owned.
-fn copy_of(alloc: Global, words: &[u64], count: usize) -> Result<Vec<u8>, AllocError>
+/// Adds the first bytes that words hold, this many.
+fn append_words(words: &[u64], count: usize, bytes: &mut Vec<u8>) -> Result<(), AllocError>
     requires { count < 2 ^ 32 }
-    ensures { IfOk result (λ v. v.items ≡ numbers words.now 8 count) }
+    ensures { OnOk result (bytes.new.items ≡ bytes.old.items ++ numbers words.now 8 count) }
 {
-    let mut bytes = Vec::with_capacity(alloc, count)?;
-    for i in 0..count {
+    let blocks = count / BLOCK;
+    'whole: for i in 0..blocks {
+        bytes.extend_from_slice(&next_block(words, i * BLOCK, count))?;
+    }
+    'rest: for i in blocks * BLOCK..count {
         bytes.push(number_at(words, 8, i) as u8)?;
     }
-    Ok(bytes)
+    Ok(())
 }

@@ -9,7 +9,7 @@ ghost use Rattle.cp_words.specs.declared.pointer.ElementSize.{ElementSize};
 ghost use Rattle.cp_fields.specs.Constants.{constant_of};
 ghost use Rattle.cp_fields.specs.Items.{items_of};
 ghost use Rattle.cp_fields.specs.Kinds.{wrong};
-ghost use Rattle.cp_fields.specs.Pointers.{list_field};
+ghost use Rattle.cp_fields.specs.Pointers.{Lists, list_field};
 ghost use Rattle.cp_fields.specs.declared.kind.Kind.TheVariants as kinds;
 
 use crate::constant::Constant;
@@ -50,11 +50,14 @@ impl<'a, T> Model for List<'a, T> {
 
     ghost coded = { coded_list tree_code };
 
-    ghost view = { λ l. l.elements };
+    ghost use Rattle.cp_fields.specs.Items.{items_of};
+
+    ghost view = { λ l. items_of l.elements };
 }
 
 impl<'a, T> List<'a, T> {
     ghost use Rattle.std.specs.Prelude.{◌≡◌, ◌==◌, length};
+    ghost use Rattle.cp_fields.specs.Items.{items_of};
 
     /// The number of elements.
     #[inline(always)]
@@ -69,6 +72,13 @@ impl<'a, T> List<'a, T> {
         ensures { result ≡ (length self.now == 0) }
     {
         self.len() == 0
+    }
+
+    /// What its pointer stands for, as it lies: with all that a newer schema's program wrote. Null stands for the empty list.
+    pub fn pointer(&self) -> PointerReader<'a>
+        ensures { items_of result ≡ self.now }
+    {
+        self.elements.pointer()
     }
 }
 
@@ -147,10 +157,10 @@ impl<'a, T: Element<'a>> Iterator for ListIter<'a, T> {
 /// The elements of a list, where elements of a size are wanted.
 #[inline(always)]
 fn elements_of(at: PointerReader<'_>, wanted: ElementSize) -> Result<Elements<'_>, WrongKind>
-    ensures { result ≡ list_field wanted at.entry }
+    ensures { Lists wanted at.entry result }
 {
     match at.into_part() {
-        Part::Null => Ok(Elements::empty()),
+        Part::Null => Ok(Elements::null()),
         Part::View(view) => elements_in_place(view, wanted),
         Part::Tree(tree) => elements_owned(tree, wanted),
         Part::Constant(tree) => elements_constant(tree, wanted),
@@ -160,7 +170,7 @@ fn elements_of(at: PointerReader<'_>, wanted: ElementSize) -> Result<Elements<'_
 /// The elements of a list that is read in place, where elements of a size are wanted.
 #[inline(always)]
 fn elements_in_place<'a>(view: View<'a>, wanted: ElementSize) -> Result<Elements<'a>, WrongKind>
-    ensures { result ≡ list_field wanted view.entry }
+    ensures { Lists wanted view.entry result }
 {
     if reads_shape(wanted, view.shape()) {
         Ok(Elements::of_view(view))
@@ -185,7 +195,7 @@ fn reads_shape(wanted: ElementSize, shape: Shape) -> bool
 
 /// The elements of a list that is owned, where elements of a size are wanted.
 fn elements_owned(tree: &Tree, wanted: ElementSize) -> Result<Elements<'_>, WrongKind>
-    ensures { result ≡ list_field wanted (node_of tree.now) }
+    ensures { Lists wanted (node_of tree.now) result }
 {
     let at = PointerReader::of_tree(tree);
     let reads = match tree {
@@ -208,7 +218,7 @@ fn elements_constant<'a>(
     tree: &'a Constant<'a>,
     wanted: ElementSize,
 ) -> Result<Elements<'a>, WrongKind>
-    ensures { result ≡ list_field wanted (constant_of tree.now) }
+    ensures { Lists wanted (constant_of tree.now) result }
 {
     let at = PointerReader::of_constant(tree);
     let reads = match tree {

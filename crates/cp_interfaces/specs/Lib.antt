@@ -3,3 +3,7 @@ pub mod Dispatch
 pub mod Promises
 pub mod Calls
 pub mod Payloads
+pub mod Services
+pub mod Resolvers
+pub mod ServiceCalls
+pub mod Lists

@@ -3,18 +3,19 @@
 ghost use Rattle.std.specs.Prelude.{◌≡◌};
 ghost use Rattle.cp_fields.specs.Pointers.{struct_field};
 
-use cp_fields::{PointerReader, StructReader, WrongKind};
-use cp_refs::{Caps, Request};
+use cp_fields::{StructReader, WrongKind};
+use cp_refs::Caps;
+use cp_servants::RequestView;
 
-/// A call of a method.
-pub struct MethodCall {
+/// A call of a method, whose params are lent by their frame.
+pub struct MethodCall<'c> {
     /// No other call of the connection has it. An answer that is given later names it.
     pub ticket: u64,
-    pub request: Request,
+    pub request: RequestView<'c>,
 }
 
 // Not derived: a crate that lets one go calls this function, and need not prove the drop of all that it holds.
-impl Drop for MethodCall {
+impl Drop for MethodCall<'_> {
     fn drop(self) {
         let MethodCall {
             ticket: _,
@@ -23,12 +24,12 @@ impl Drop for MethodCall {
     }
 }
 
-impl MethodCall {
+impl<'c> MethodCall<'c> {
     /// The struct of its params.
-    pub fn params(&self) -> Result<StructReader<'_>, WrongKind>
+    pub fn params(&self) -> Result<StructReader<'c>, WrongKind>
         ensures { result ≡ struct_field self.now.request.content }
     {
-        StructReader::of(PointerReader::of_whole(&self.request.content))
+        StructReader::of(self.request.content.reborrow())
     }
 
     /// The table of the capabilities that its params name.

@@ -1,4 +1,4 @@
-//! What generated code of interfaces stands on: the answers of objects, and the calls of typed clients.
+//! What generated code of interfaces stands on: objects that take calls of their methods, and the calls of typed clients.
 #![tactic(auto)]
 
 mod call;
@@ -6,11 +6,19 @@ mod caller;
 mod cap_table_builder;
 mod client;
 mod fault;
+mod later;
+mod lists;
+mod named_results;
 mod no_fields;
+mod numbers;
+mod object;
 mod payload;
 mod pipeline;
 mod replies;
+mod resolving;
 mod results;
+mod served;
+mod service_call;
 mod target;
 mod typed_pipeline;
 
@@ -19,10 +27,21 @@ pub use caller::Caller;
 pub use cap_table_builder::CapTableBuilder;
 pub use client::TypedClient;
 pub use fault::{CapFault, MethodFault, NoResults};
+pub use later::LaterAnswer;
+pub use lists::{CapListBuilder, DataListBuilder, ListValue, ListsBuilder, TextListBuilder};
+pub use named_results::NamedResults;
 pub use no_fields::{NoFieldsBuilder, NoFieldsPipeline, NoFieldsReader};
+pub use numbers::{
+    Enumerant, enumerants_of, float32_of, float64_of, signed8_of, signed16_of, signed32_of,
+    signed64_of,
+};
+pub use object::ServiceObject;
 pub use payload::{ResultPayload, payload_of};
 pub use pipeline::Pipeline;
 pub use replies::{given_up, refuse, reply};
+pub use resolving::{TypedResolver, fail};
 pub use results::Results;
+pub use served::{Dispatch, ObjectDispatch};
+pub use service_call::{MethodResult, ServiceCall};
 pub use target::CallTarget;
 pub use typed_pipeline::{Lends, TypedPipeline};

@@ -15,7 +15,7 @@ use std::alloc::{AllocError, Global};
 /// kept.
 pub fn reply(
     alloc: Global,
-    call: &MethodCall,
+    call: &MethodCall<'_>,
     outcome: Outcome,
     keeps: &Ids,
 ) -> Result<Reply, AllocError>
@@ -28,7 +28,7 @@ pub fn reply(
 }
 
 /// What goes to the peer for a call that a method, or the dispatch, has no results for. `Err`: memory ran out.
-pub fn refuse(alloc: Global, call: &MethodCall, fault: MethodFault) -> Result<Reply, AllocError>
+pub fn refuse(alloc: Global, call: &MethodCall<'_>, fault: MethodFault) -> Result<Reply, AllocError>
     ensures { IfOk result (λ reply. refusal_of call.now.request.caps fault ≡ Some reply) }
 {
     let outcome = Outcome::Failed(fault.exception(alloc)?);

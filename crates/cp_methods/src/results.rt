@@ -2,10 +2,13 @@
 
 use cp_reading::View;
 use cp_schema::{DecodeFault, MethodNumber, Schema, return_line};
-use cp_tree::Whole;
+use cp_tree::{Tree, Whole};
 use cp_words::{Limits, Segments};
 use cp_writing::write_root;
 use std::alloc::Global;
+
+/// The pointer to a struct of size zero.
+const EMPTY: u64 = 0xffff_fffc;
 
 /// The line of results whose line by numbers is `plain`, with the name of their method, and their fields by its struct of
 /// results. `None`: the schema has no such method, or the results aren't as it says.
@@ -31,18 +34,27 @@ pub fn results_line(
     line
 }
 
-/// A struct in one segment.
+/// A struct in one segment. A null pointer stands for one whose fields have their defaults.
 fn segments_of(alloc: Global, tree: Whole, limits: Limits) -> Option<Segments> {
     let object = match tree.into_object() {
         Ok(object) => object,
         Err(tree) => {
+            let is_null = matches!(tree.tree(), Tree::Null);
             drop(tree);
-            return None;
+            return if is_null { empty(alloc) } else { None };
         }
     };
     let words = write_root(alloc, &object, limits);
     drop(object);
     match words {
+        Ok(words) => Some(Segments::one(words)),
+        Err(_) => None,
+    }
+}
+
+/// A struct of size zero.
+fn empty(alloc: Global) -> Option<Segments> {
+    match vec![in alloc; EMPTY; 1] {
         Ok(words) => Some(Segments::one(words)),
         Err(_) => None,
     }

@@ -6,8 +6,8 @@ use Rattle.cp_objects.specs.ServedObject.{ServedObjectKind}
 
 pub goes_by : {A : Type 0} (kind : ServedObjectKind A A) (number : ℕ) (object : A) (state new : ObjectsState A) (given : Option Settled) (more : Bool)
     → ((settled : Settled) → given ≡ Some settled → new ≡ answering number settled state) → (given ≡ None → more ≡ true → new ≡ state)
-    → (given ≡ None → more ≡ false → new ≡ resting number state) → (more ≡ true → kind.may_go_on object) → GoesOn kind number object state given new
-goes_by {A} kind number object state new (Some given) more gave still rested may =
+    → (given ≡ None → more ≡ false → new ≡ resting number state) → kind.says_more more object → GoesOn kind number object state given new
+goes_by {A} kind number object state new (Some given) more gave still rested says =
     subst (λ (k : ObjectsState A). GoesOn kind number object state (Some given) k) (sym (gave given refl)) (gave_some given)
-goes_by {A} kind number object state new None true gave still rested may = subst (λ (k : ObjectsState A). GoesOn kind number object state None k) (sym (still refl refl)) (says_more (may refl))
-goes_by {A} kind number object state new None false gave still rested may = subst (λ (k : ObjectsState A). GoesOn kind number object state None k) (sym (rested refl refl)) rests
+goes_by {A} kind number object state new None true gave still rested says = subst (λ (k : ObjectsState A). GoesOn kind number object state None k) (sym (still refl refl)) (says_more says)
+goes_by {A} kind number object state new None false gave still rested says = subst (λ (k : ObjectsState A). GoesOn kind number object state None k) (sym (rested refl refl)) (rests says)

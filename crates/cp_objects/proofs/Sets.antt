@@ -1,7 +1,6 @@
 -- Ordered sets of numbers, seen as finite sets.
 use Rattle.std.proofs.Common.{◌≡◌, ℕ, ◌<◌, ◌≤◌, ◌==◌, Bool, true, false, cond, List, [], ◌∷◌, Option, Some, None, IfSome, refl, sym, ap, subst, ◌∙◌, arith}
 use Rattle.std.specs.Prelude.{◌||◌, ◌&&◌, not, slice_get}
-use Rattle.std.specs.List.{list_any}
 use Rattle.std.proofs.lemmas.Bool.Decides.{nat_tests}
 use Rattle.std.specs.BTreeMap.Range.{IsLeBy}
 use Rattle.std.specs.declared.ops.Bound.TheVariants.{Included, Unbounded}
@@ -11,7 +10,7 @@ use Rattle.std.specs.FinMap.{nat_cmp-IsAntisymmetric}
 use Rattle.std.specs.FinSet.{FinSet, contains, empty, insert, remove, from_list, same_set, contains-empty, contains-from_list, contains-insert, contains-remove}
 use Rattle.std.specs.BTreeSet.{BTreeSet, Updates}
 use Rattle.std.specs.BTreeSet as tree
-use Rattle.cp_objects.specs.Numbers.{IsFirst, IsFirstBy, Numbers, inserted, inserted_each, is_among}
+use Rattle.cp_objects.specs.Numbers.{IsFirst, IsFirstBy, Numbers, inserted, is_among}
 
 -- a set's numbers
 abbrev pub seen : BTreeSet ℕ → FinSet nat_cmp
@@ -70,32 +69,14 @@ or_first : (a b c : Bool) → ((a || b) || c) ≡ (a || (b || c))
 or_first true b c = refl
 or_first false b c = refl
 
--- so are those of several lists
-contains-inserted_each : (nss : List (List ℕ)) (s : Numbers) (k : ℕ) → contains (inserted_each nss s) k ≡ (contains s k || list_any (λ ns. is_among k ns) nss)
-contains-inserted_each [] s k = or_none (contains s k)
-contains-inserted_each (ns ∷ more) s k =
-    contains-inserted_each more (inserted ns s) k
-    ∙ ap (λ b. b || list_any (λ ms. is_among k ms) more) (contains-inserted ns s k)
-    ∙ or_first (contains s k) (is_among k ns) (list_any (λ ms. is_among k ms) more)
+-- what is kept at first, and what is once more numbers are put in
+pub kept_first : (makers : List ℕ) (kept : Numbers) (k : ℕ) (others : Bool) → kept ≡ inserted makers empty → (contains kept k || others) ≡ (is_among k makers || others)
+kept_first makers kept k others e =
+    rw e (ap (λ b. b || others) (contains-inserted makers empty k ∙ ap (λ b. b || is_among k makers) (contains-empty nat_cmp k)))
 
-three : (a b c d : Bool) → (((a || b) || c) || d) ≡ (a || (b || (c || d)))
-three true b c d = refl
-three false true c d = refl
-three false false c d = refl
-
--- what is held at first, and what is once more numbers are put in
-pub held_first : (owing makers : List ℕ) (param_caps : List (List ℕ)) (held : Numbers) (k : ℕ) (others : Bool)
-    → held ≡ inserted_each param_caps (inserted makers (inserted owing empty))
-    → (contains held k || others) ≡ (is_among k owing || (is_among k makers || (list_any (λ named. is_among k named) param_caps || others)))
-held_first owing makers param_caps held k others e =
-    let first = contains-inserted owing empty k ∙ ap (λ b. b || is_among k owing) (contains-empty nat_cmp k) in
-    let both = contains-inserted makers (inserted owing empty) k ∙ ap (λ b. b || is_among k makers) first in
-    let all = contains-inserted_each param_caps (inserted makers (inserted owing empty)) k ∙ ap (λ b. b || list_any (λ named. is_among k named) param_caps) both in
-    rw e (ap (λ b. b || others) all ∙ three (is_among k owing) (is_among k makers) (list_any (λ named. is_among k named) param_caps) others)
-
-pub held_next : (ns : List ℕ) (held new : Numbers) (k : ℕ) (others all : Bool) → new ≡ inserted ns held → (contains held k || (is_among k ns || others)) ≡ all → (contains new k || others) ≡ all
-held_next ns held new k others all e h =
-    rw e (ap (λ b. b || others) (contains-inserted ns held k) ∙ or_first (contains held k) (is_among k ns) others ∙ h)
+pub kept_next : (ns : List ℕ) (kept new : Numbers) (k : ℕ) (others all : Bool) → new ≡ inserted ns kept → (contains kept k || (is_among k ns || others)) ≡ all → (contains new k || others) ≡ all
+kept_next ns kept new k others all e h =
+    rw e (ap (λ b. b || others) (contains-inserted ns kept k) ∙ or_first (contains kept k) (is_among k ns) others ∙ h)
 
 -- ---- the first of a set from a number on
 not_above : (a b : ℕ) → is_gt (nat_cmp a b) ≡ false → a ≤ b

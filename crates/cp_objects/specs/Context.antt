@@ -34,6 +34,10 @@ module _ {M : Type 0} where
   abbrev pub with_promise : ContextState M → ContextState M
   with_promise place = record place { made = place.made ++ new_caps.Promise ∷ [] }
 
+  -- what it made isn't kept, and the numbers of that aren't given again
+  abbrev pub without_those_made : ContextState M → ContextState M
+  without_those_made place = record place { next = next_number place; made = [] }
+
   -- it did one thing more
   abbrev pub with_effect : ContextState M → ObjectEffect → ContextState M
   with_effect place effect = record place { effects = place.effects ++ effect ∷ [] }

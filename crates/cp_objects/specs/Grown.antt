@@ -1,10 +1,10 @@
 -- Objects that grow, as those of a connection.
-use Rattle.std.specs.Prelude.{◌≡◌, ℕ, true, [], ◌∷◌, Option, Some, None, IsSome, ◌+◌, ◌-◌, ◌^◌, min}
+use Rattle.std.specs.Prelude.{◌≡◌, ◌↔◌, ℕ, true, [], ◌∷◌, Option, Some, None, IsSome, IsTrue, ◌+◌, ◌-◌, ◌^◌, min}
 use Rattle.std.specs.FinMap.{get, len}
 use Rattle.std.specs.FinSet as set
 use Rattle.cp_objects.specs.declared.objects.Objects.{Objects}
 use Rattle.cp_objects.specs.declared.waker.Waker.{Waker}
-use Rattle.cp_objects.specs.Objects.{ObjectsState, objects_of, Calls, Polls, NextCalls, Responds, changing, idle_of, loose_of, losing, held_by, promised_so, waking, woken}
+use Rattle.cp_objects.specs.Objects.{ObjectsState, objects_of, Calls, Polls, NextCalls, Responds, Ends, EndsAll, HandsSettled, changing, idle_of, in_session, loose_of, promised_so, waking, woken}
 use Rattle.cp_objects.specs.ObjectTable.{ObjectTableKind}
 use Rattle.cp_objects.specs.ServedObject.{ServedObjectKind}
 use Rattle.cp_objects.specs.Members.{without_next_calls}
@@ -30,11 +30,13 @@ grown kind = record {
   drops_next_calls = λ number old new. objects_of new ≡ changing number without_next_calls (objects_of old);
   tells = λ number call_id outcome old new. Responds kind number call_id outcome (objects_of old) (objects_of new);
   is_next = λ from next f. IsFirst from next (objects_of f).awake;
-  may_go_on = λ f. IsAwake (objects_of f).awake;
+  says_more = λ more f. IsTrue more ↔ IsAwake (objects_of f).awake;
   guests = λ f. min (len (objects_of f).members + len (objects_of f).promised.names) (2 ^ 64 - 1);
   idle = λ f. idle_of (objects_of f);
-  loses = λ number imports old new. (imports ≡ held_by number (objects_of old)) × (objects_of new ≡ losing number (objects_of old));
-  is_in = λ session old new. objects_of new ≡ record (objects_of old) { context = record (objects_of old).context { this = record (objects_of old).context.this { session = session } } };
+  ends = λ number left old new. Ends kind number left (objects_of old) (objects_of new);
+  ends_all = λ old new. EndsAll kind (objects_of old) (objects_of new);
+  hands_settled = λ given old new. HandsSettled given (objects_of old) (objects_of new);
+  is_in = λ session old new. objects_of new ≡ in_session session (objects_of old);
   is_at = λ now old new. objects_of new ≡ record (objects_of old) { context = record (objects_of old).context { now = now } };
   wakes_due = λ old new. objects_of new ≡ woken (objects_of old);
   wakes = λ number old new. objects_of new ≡ waking number (objects_of old);

@@ -3,8 +3,10 @@ pub mod ServedObject
 pub mod Either
 pub mod Numbers
 pub mod Members
+pub mod Counts
 pub mod Promises
 pub mod Objects
 pub mod ObjectTable
 pub mod Listed
 pub mod Grown
+pub mod ServantObject

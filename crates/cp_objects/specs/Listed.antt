@@ -9,8 +9,8 @@ abbrev pub IsListed : {A : Type 0} → ℕ → Option ℕ → List A → Type 0
 IsListed from (Some number) objects = (number ≡ from) × (from < length objects)
 IsListed from None objects = length objects ≤ from
 
--- What is done to the list is done to the object at a place of it. None goes, none is woken, none makes promises, and none gives imports up beside what it answers.
--- Any may know each promise of the vat's.
+-- What is done to the list is done to the object at a place of it. None goes, none is told its end, none is woken, none makes promises, and none gives imports
+-- up beside what it answers. Any may know each promise of the vat's.
 abbrev pub listed : {A : Type 0} → Kind A → ObjectTableKind (Vec A)
 listed kind = record {
   holds = λ number v. number < length v.items;
@@ -20,10 +20,12 @@ listed kind = record {
   drops_next_calls = λ number old new. new ≡ old;
   tells = λ number call_id outcome old new. OnResponseAt kind number call_id outcome old.items new.items;
   is_next = λ from next v. IsListed from next v.items;
-  may_go_on = λ v. SomeMaySayMore kind v.items;
+  says_more = λ more v. more ≡ true → SomeMaySayMore kind v.items;
   guests = λ v. 0;
   idle = λ v. [];
-  loses = λ number imports old new. new ≡ old;
+  ends = λ number left old new. new ≡ old;
+  ends_all = λ old new. new ≡ old;
+  hands_settled = λ given old new. (given ≡ None) × (new ≡ old);
   is_in = λ session old new. new ≡ old;
   is_at = λ now old new. new ≡ old;
   wakes_due = λ old new. new ≡ old;

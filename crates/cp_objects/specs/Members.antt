@@ -4,6 +4,7 @@ use Rattle.std.specs.Option.{option_map_or}
 use Rattle.std.specs.FinMap.{get}
 use Rattle.cp_tables.specs.Table.{Table}
 use Rattle.cp_servants.specs.declared.servant.OutgoingCall.{OutgoingCall}
+use Rattle.cp_objects.specs.declared.departed.Departed.{Departed}
 use Rattle.cp_objects.specs.declared.object_entry.ObjectEntry.{ObjectEntry}
 
 -- an object that did nothing
@@ -18,6 +19,10 @@ one_more n = min (n + 1) (2 ^ 64 - 1)
 abbrev pub next_calls_of : {A : Type 0} → ℕ → Table (ObjectEntry A) → List OutgoingCall
 next_calls_of number members = option_map_or (λ member. member.next_calls) (get members number) []
 
+-- the imports that the object of this number holds
+abbrev pub held_in : {A : Type 0} → ℕ → Table (ObjectEntry A) → List ℕ
+held_in number members = option_map_or (λ member. member.holds) (get members number) []
+
 -- It is to make one call more, whose outcome it waits for.
 abbrev pub to_call : {A : Type 0} → OutgoingCall → ObjectEntry A → ObjectEntry A
 to_call next_call m = record m { next_calls = m.next_calls ++ next_call ∷ []; asked = one_more m.asked }
@@ -25,6 +30,10 @@ to_call next_call m = record m { next_calls = m.next_calls ++ next_call ∷ []; 
 -- The calls that it was yet to make aren't made, so it waits for no outcome of these.
 abbrev pub without_next_calls : {A : Type 0} → ObjectEntry A → ObjectEntry A
 without_next_calls m = record m { next_calls = []; asked = m.asked - length m.next_calls }
+
+-- what it leaves as it goes: the imports that it holds, and the calls that it is yet to make
+abbrev pub departed : {A : Type 0} → ObjectEntry A → Departed
+departed m = record { imports = m.holds; next_calls = m.next_calls }
 
 -- the earlier of two times
 abbrev pub earlier : Option ℕ → ℕ → ℕ

@@ -1,5 +1,5 @@
 -- Numbers in lists and sets.
-use Rattle.std.specs.Prelude.{◌≡◌, ℕ, ◌≤◌, ◌<◌, ◌==◌, Bool, true, false, if◌then◌else◌, List, [], ◌∷◌, Option, Some, None}
+use Rattle.std.specs.Prelude.{◌≡◌, ℕ, ◌≤◌, ◌<◌, ◌==◌, Bool, true, false, if◌then◌else◌, List, [], ◌∷◌, ◌++◌, Option, Some, None}
 use Rattle.std.specs.List.{list_any}
 use Rattle.std.specs.Ordering.{nat_cmp}
 use Rattle.std.specs.FinSet as set
@@ -40,10 +40,10 @@ abbrev pub inserted : List ℕ → Numbers → Numbers
 inserted [] s = s
 inserted (n ∷ more) s = inserted more (set.insert s n)
 
--- those of each of these lists are, too
-abbrev pub inserted_each : List (List ℕ) → Numbers → Numbers
-inserted_each [] s = s
-inserted_each (ns ∷ more) s = inserted_each more (inserted ns s)
+-- the numbers of these lists, one after another
+abbrev pub joined_lists : List (List ℕ) → List ℕ
+joined_lists [] = []
+joined_lists (ns ∷ more) = ns ++ joined_lists more
 
 -- it is the first from a number on of those that pass a test, or there is none
 abbrev pub IsFirstBy : (ℕ → Bool) → ℕ → Option ℕ → Type 0

@@ -1,5 +1,5 @@
 -- The objects of a connection, with those that they make.
-use Rattle.std.specs.Prelude.{◌≡◌, ◌≢◌, ℕ, ◌+◌, ◌-◌, ◌==◌, ◌&&◌, ◌||◌, Bool, if◌then◌else◌, nat_lt, not, List, [], ◌∷◌, ◌++◌, drop, slice_get, Option, Some, None, is_some}
+use Rattle.std.specs.Prelude.{◌≡◌, ◌≢◌, ℕ, ◌+◌, ◌-◌, ◌==◌, ◌&&◌, ◌||◌, Bool, true, false, if◌then◌else◌, nat_lt, not, List, [], ◌∷◌, ◌++◌, drop, slice_get, Option, Some, None, is_some}
 use Rattle.std.specs.List.{list_any}
 use Rattle.std.specs.Option.{option_map_or}
 use Rattle.std.specs.FinMap.{get, insert, remove, empty, values, entries}
@@ -13,7 +13,8 @@ use Rattle.cp_servants.specs.declared.servant.OutgoingCall.{OutgoingCall}
 use Rattle.cp_servants.specs.declared.servant.Reply.{Reply}
 use Rattle.cp_servants.specs.declared.servant.Reply.TheVariants as replies
 use Rattle.cp_servants.specs.declared.servant.Settled.{Settled}
-use Rattle.cp_servants.specs.Outcomes.{named_imports}
+use Rattle.cp_servants.specs.Outcomes.{dropped_call, named_imports}
+use Rattle.cp_objects.specs.declared.departed.Departed.{Departed}
 use Rattle.cp_objects.specs.declared.context.ObjectEffect.{ObjectEffect}
 use Rattle.cp_objects.specs.declared.context.ObjectEffect.TheVariants as effects
 use Rattle.cp_objects.specs.declared.context.NewCap.{NewCap}
@@ -21,15 +22,17 @@ use Rattle.cp_objects.specs.declared.context.NewCap.TheVariants as new_caps
 use Rattle.cp_objects.specs.declared.object_entry.ObjectEntry.{ObjectEntry}
 use Rattle.cp_objects.specs.declared.waker.Waker.{Waker}
 use Rattle.cp_objects.specs.declared.objects.Objects.{Objects}
-use Rattle.cp_objects.specs.Context.{ContextState, begun, context_of}
+use Rattle.cp_objects.specs.Context.{ContextState, begun, context_of, without_those_made}
 use Rattle.cp_objects.specs.ServedObject.{ServedObjectKind}
-use Rattle.cp_objects.specs.Members.{next_calls_of, earlier, is_later, newborn, to_call}
+use Rattle.cp_objects.specs.ServedObject as served_object
+use Rattle.cp_objects.specs.Counts.{those_in}
+use Rattle.cp_objects.specs.Members.{held_in, next_calls_of, departed, earlier, is_later, newborn, to_call}
 use Rattle.cp_objects.specs.Numbers.{Numbers, is_among, is_number, local_in, without, without_each}
 use Rattle.cp_objects.specs.Promises.{Promised, adopted_each, named, none_promised, promised_of, promising, resolving, with_outcome, with_request}
 
 -- The objects by their numbers; where they are, and which number the next one gets; below which number they stay; which are to be polled; who owes the answer
--- of which call; which objects and promises the params of such a call name; their promises; the imports that they gave up beside what they answered, in order;
--- who is to be woken elsewhere, in order; and the time before which none is to be woken here.
+-- of which call; which objects and promises the params of such a call name; their promises; what calls came to that weren't settled by polls, in order; the
+-- imports that they gave up beside what they answered, in order; who is to be woken elsewhere, in order; and the time before which none is to be woken here.
 pub record ObjectsState (A : Type 0) : Type 0 where
   pub members : Table (ObjectEntry A)
   pub context : ContextState A
@@ -38,6 +41,7 @@ pub record ObjectsState (A : Type 0) : Type 0 where
   pub pending_answers : Table ℕ
   pub param_caps : Table (List ℕ)
   pub promised : Promised
+  pub settled : List Settled
   pub given_up : List ℕ
   pub wakes : List Waker
   pub first_alarm : Option ℕ
@@ -51,6 +55,7 @@ objects_of f = record {
   pending_answers = f.pending_answers;
   param_caps = f.param_caps;
   promised = promised_of f.promises;
+  settled = f.settled.items;
   given_up = f.given_up;
   wakes = f.wakes.items;
   first_alarm = f.first_alarm;
@@ -58,17 +63,34 @@ objects_of f = record {
 
 -- no objects
 abbrev pub alone : {A : Type 0} → ObjectsState A
-alone = record { members = empty; context = begun; stays = 0; awake = set.empty; pending_answers = empty; param_caps = empty; promised = none_promised; given_up = []; wakes = []; first_alarm = None }
+alone = record { members = empty; context = begun; stays = 0; awake = set.empty; pending_answers = empty; param_caps = empty; promised = none_promised; settled = []; given_up = []; wakes = []; first_alarm = None }
 
 -- the first time that is to come
 abbrev pub first_of : ℕ → Option ℕ → Option ℕ → Option ℕ
 first_of now first None = first
 first_of now first (Some time) = if nat_lt now time then Some (earlier first time) else first
 
--- what the object of this number settled, if it owed that
-abbrev pub own_of : ℕ → Option Settled → Table ℕ → Option Settled
-own_of number None pending_answers = None
-own_of number (Some given) pending_answers = if is_number number (get pending_answers given.ticket) then Some given else None
+-- the same, but that nothing is given up by it but what is held
+abbrev pub giving_held : List ℕ → Settled → Settled
+giving_held holds given = record given { gives_up = those_in given.gives_up holds }
+
+abbrev pub replying_held : List ℕ → Reply → Reply
+replying_held holds (replies.Now outcome gives_up) = replies.Now outcome (those_in gives_up holds)
+replying_held holds replies.Later = replies.Later
+
+-- what the object of this number settled, if it owed that: of the imports that are given up those are that it holds
+abbrev pub own_of : ℕ → List ℕ → Option Settled → Table ℕ → Option Settled
+own_of number holds None pending_answers = None
+own_of number holds (Some given) pending_answers = if is_number number (get pending_answers given.ticket) then Some (giving_held holds given) else None
+
+-- the number of the first of these
+abbrev pub first_of_entries : {X : Type 0} → List (ℕ × X) → Option ℕ
+first_of_entries [] = None
+first_of_entries (entry ∷ more) = Some entry.0
+
+-- what a call comes to that was to be answered later, and that was dropped
+abbrev pub failing : ℕ → List ℕ → Settled
+failing ticket gives_up = record { ticket = ticket; outcome = dropped_call; gives_up = gives_up }
 
 module _ {A : Type 0} where
   -- its promises are these
@@ -102,6 +124,11 @@ module _ {A : Type 0} where
       let more = with_those_made (record state { context = record state.context { made = state.context.made ++ new_caps.Object object ∷ [] } }) in
       record more { stays = more.context.next }
 
+  -- it adds these, in order
+  abbrev pub adding_each : List A → ObjectsState A → ObjectsState A
+  adding_each [] state = state
+  adding_each (object ∷ more) state = adding_each more (adding object state)
+
   -- the object of this number is as it was but for this
   abbrev pub changing : ℕ → (ObjectEntry A → ObjectEntry A) → ObjectsState A → ObjectsState A
   changing number change state = record state { members = with_change state.members number change }
@@ -124,7 +151,13 @@ module _ {A : Type 0} where
 
   -- the imports that the object of this number holds
   abbrev pub held_by : ℕ → ObjectsState A → List ℕ
-  held_by number state = option_map_or (λ member. member.holds) (get state.members number) []
+  held_by number state = held_in number state.members
+
+  -- It gives an import up beside what it answers. Where it doesn't hold that, nothing is done.
+  abbrev pub giving_up_import : ℕ → ℕ → ObjectsState A → ObjectsState A
+  giving_up_import number i state =
+      if is_among i (held_by number state)
+      then record (changing number (λ m. record m { holds = without i m.holds }) state) { given_up = state.given_up ++ i ∷ [] } else state
 
   -- An import that one object holds is held by another in its place, if that is there.
   abbrev pub handing_over : ℕ → ℕ → ℕ → ObjectsState A → ObjectsState A
@@ -132,19 +165,32 @@ module _ {A : Type 0} where
       if is_some (get state.members to) && is_among i (held_by from state)
       then changing to (λ m. record m { holds = m.holds ++ i ∷ [] }) (changing from (λ m. record m { holds = without i m.holds }) state) else state
 
+  -- what the object of this number settled is owed no more
+  abbrev pub answering : ℕ → Settled → ObjectsState A → ObjectsState A
+  answering number given state =
+      record (changing number (λ m. record m { holds = without_each given.gives_up m.holds }) state) { pending_answers = remove state.pending_answers given.ticket; param_caps = remove state.param_caps given.ticket }
+
+  -- this object owed that, and what it comes to is handed out later
+  abbrev pub settling_for : ℕ → Settled → ObjectsState A → ObjectsState A
+  settling_for owner given state = record (answering owner given state) { settled = state.settled ++ given ∷ [] }
+
+  -- A call comes to this that an object owes the answer of, whichever that is: of the imports that are given up those are that it holds. Else nothing is done.
+  abbrev pub settling : Settled → ObjectsState A → ObjectsState A
+  settling given state = option_map_or (λ owner. settling_for owner (giving_held (held_by owner state) given) state) (get state.pending_answers given.ticket) state
+
   -- what the object of this number did is done
   abbrev pub following : ℕ → ObjectEffect → ObjectsState A → ObjectsState A
   following number (effects.Keep keeper kept) state = changing keeper (λ m. record m { keeps = m.keeps ++ kept ∷ [] }) state
   following number (effects.HandOver keeper i) state = handing_over number keeper i state
   following number (effects.GiveUp kept) state = changing number (λ m. record m { keeps = without kept m.keeps }) state
-  following number (effects.GiveUpImport i) state =
-      record (changing number (λ m. record m { holds = without i m.holds }) state) { given_up = state.given_up ++ i ∷ [] }
+  following number (effects.GiveUpImport i) state = giving_up_import number i state
   following number (effects.Wake waker) state =
       if waker.session == state.context.this.session then waking waker.object state else record state { wakes = state.wakes ++ waker ∷ [] }
   following number (effects.WakeAt time) state =
       record (changing number (λ m. record m { alarm = Some time }) state) { first_alarm = Some (earlier state.first_alarm time) }
   following number (effects.Resolve promise value) state = promised_so (resolving promise value state.promised) state
   following number (effects.Call next_call) state = changing number (to_call next_call) state
+  following number (effects.Settle given) state = settling given state
 
   abbrev pub followed : ℕ → List ObjectEffect → ObjectsState A → ObjectsState A
   followed number [] state = state
@@ -153,6 +199,20 @@ module _ {A : Type 0} where
   -- What the object of this number made is there from now on, and what else it did is done, in order.
   abbrev pub settled : ℕ → ObjectsState A → ObjectsState A
   settled number state = let more = with_those_made state in followed number more.context.effects (record more { context = record more.context { effects = [] } })
+
+  -- What it did last is done, but that another one keeps something.
+  abbrev pub following_last : ℕ → ObjectEffect → ObjectsState A → ObjectsState A
+  following_last number (effects.Keep keeper kept) state = state
+  following_last number other state = following number other state
+
+  abbrev pub followed_last : ℕ → List ObjectEffect → ObjectsState A → ObjectsState A
+  followed_last number [] state = state
+  followed_last number (effect ∷ more) state = followed_last number more (following_last number effect state)
+
+  -- What it made last isn't kept, and what else it did is done, in order.
+  abbrev pub settled_last : ℕ → ObjectsState A → ObjectsState A
+  settled_last number state =
+      let less = record state { context = without_those_made state.context } in followed_last number less.context.effects (record less { context = record less.context { effects = [] } })
 
   -- where the object of this number is when it does something, and how it leaves that
   abbrev pub entered : ℕ → ObjectsState A → ContextState A
@@ -185,21 +245,17 @@ module _ {A : Type 0} where
   abbrev pub HandsNextCall : ℕ → Option OutgoingCall → ObjectsState A → ObjectsState A → Type 0
   HandsNextCall number next_call old new = (next_call ≡ slice_get (next_calls_of number old.members) 0) × (new ≡ changing number (λ m. record m { next_calls = drop 1 m.next_calls }) old)
 
-  -- what the object of this number settled is owed no more
-  abbrev pub answering : ℕ → Settled → ObjectsState A → ObjectsState A
-  answering number given state =
-      record (changing number (λ m. record m { holds = without_each given.gives_up m.holds }) state) { pending_answers = remove state.pending_answers given.ticket; param_caps = remove state.param_caps given.ticket }
+  -- the object made a promise that isn't resolved, or another keeps it
+  abbrev pub is_kept : ObjectsState A → ℕ → Bool
+  is_kept state k = is_among k (values state.promised.makers) || list_any (λ member. is_among k member.keeps) (values state.members)
 
-  -- the object owes an answer, or made a promise that isn't resolved; or the params of a call that isn't answered name it, or another keeps it
+  -- the object owes an answer, or the params of a call that isn't answered name it; or it made a promise that isn't resolved, or another keeps it
   abbrev pub is_held : ObjectsState A → ℕ → Bool
-  is_held state k =
-      is_among k (values state.pending_answers)
-      || (is_among k (values state.promised.makers)
-      || (list_any (λ named. is_among k named) (values state.param_caps) || list_any (λ member. is_among k member.keeps) (values state.members)))
+  is_held state k = is_among k (values state.pending_answers) || (list_any (λ named. is_among k named) (values state.param_caps) || is_kept state k)
 
-  -- these are those of which that is so
-  abbrev pub AreHeld : ObjectsState A → Numbers → Type 0
-  AreHeld state held = (k : ℕ) → set.contains held k ≡ is_held state k
+  -- these are those that made such a promise, and those that another keeps
+  abbrev pub AreKept : ObjectsState A → Numbers → Type 0
+  AreKept state kept = (k : ℕ) → set.contains kept k ≡ is_kept state k
 
   -- An object goes unless the connection refers to it: the program didn't add it, it waits for no outcome, owes no answer, has no promise to resolve, and
   -- none keeps it.
@@ -230,6 +286,18 @@ module _ {A : Type 0} where
   abbrev pub losing : ℕ → ObjectsState A → ObjectsState A
   losing number state = record state { members = remove state.members number; awake = set.remove state.awake number }
 
+  -- what it leaves
+  abbrev pub departed_of : ℕ → ObjectsState A → Departed
+  departed_of number state = option_map_or departed (get state.members number) (record { imports = []; next_calls = [] })
+
+  -- it is that of a session of this number
+  abbrev pub in_session : ℕ → ObjectsState A → ObjectsState A
+  in_session session state = record state { context = record state.context { this = record state.context.this { session = session } } }
+
+  -- the first object, by the numbers
+  abbrev pub first_number : ObjectsState A → Option ℕ
+  first_number state = first_of_entries (entries state.members)
+
   -- the objects whose time has come, in order
   abbrev pub due_among : ℕ → List (ℕ × ObjectEntry A) → List ℕ
   due_among now [] = []
@@ -259,25 +327,27 @@ module _ {A : Type 0} where
 -- Of objects of one kind.
 module _ {A : Type 0} (kind : ServedObjectKind A A) where
   -- The object of this number is called, and sees promises of this end under numbers. It is given the call's imports, and does what its kind says. What it replied
-  -- is noted, it is to be polled, and what it did beside is done.
+  -- is noted, but that it gives up only imports that it holds; it is to be polled, and what it did beside is done.
   pub record Calls (number ticket : ℕ) (request : Request) (reply : Reply) (old new : ObjectsState A) : Type 0 where
     pub before : ObjectEntry A
     pub object : A
     pub place : ContextState A
     pub first : ObjectsState A
     pub seen : Request
+    pub said : Reply
     pub adopts : first ≡ adopting request.caps old
     pub was : get first.members number ≡ Some before
     pub sees : seen ≡ with_request (named first.promised.names) request
-    pub takes : kind.takes before.object ticket seen (entered number first) reply place object
+    pub takes : kind.takes before.object ticket seen (entered number first) said place object
+    pub replies : reply ≡ replying_held (before.holds ++ named_imports request.caps) said
     pub is : new ≡ settled number (awoken number (noting number ticket (local_in seen.caps) reply
         (leaving place (placing number (record before { object = object; holds = before.holds ++ named_imports request.caps }) first))))
 
-  -- After a poll an object is to be polled again if it gave something, which is owed no more, or says that it may give more.
+  -- After a poll an object is to be polled again exactly if it gave something, which is owed no more, or says that it may give more.
   pub data GoesOn (number : ℕ) (object : A) (state : ObjectsState A) : Option Settled → ObjectsState A → Type 0 where
     gave_some : (given : Settled) → GoesOn number object state (Some given) (answering number given state)
-    says_more : kind.may_go_on object → GoesOn number object state None state
-    rests : GoesOn number object state None (resting number state)
+    says_more : kind.says_more true object → GoesOn number object state None state
+    rests : kind.says_more false object → GoesOn number object state None (resting number state)
 
   -- The object of this number is polled. What it settled counts if it owed that, and what it did beside is done.
   pub record Polls (number : ℕ) (given : Option Settled) (old new : ObjectsState A) : Type 0 where
@@ -288,11 +358,11 @@ module _ {A : Type 0} (kind : ServedObjectKind A A) where
     pub rest : ObjectsState A
     pub was : get old.members number ≡ Some before
     pub polls : kind.polls before.object (entered number old) said place object
-    pub own : given ≡ own_of number said old.pending_answers
+    pub own : given ≡ own_of number before.holds said old.pending_answers
     pub goes_on : GoesOn number object (leaving place (placing number (record before { object = object }) old)) given rest
     pub is : new ≡ settled number rest
 
-  -- It is asked for a call, which it is to make before those that it tells meanwhile. What it did beside is done.
+  -- It is asked for a call, which it is to make before those that it sends meanwhile. What it did beside is done.
   pub record AsksNextCall (number : ℕ) (old new : ObjectsState A) : Type 0 where
     pub before : ObjectEntry A
     pub object : A
@@ -318,3 +388,30 @@ module _ {A : Type 0} (kind : ServedObjectKind A A) where
     pub on_response : kind.on_response before.object call_id (with_outcome (named first.promised.names) outcome) (entered number first) place object
     pub is : new ≡ settled number (awoken number (leaving place
         (placing number (record before { object = object; asked = before.asked - 1; holds = before.holds ++ named_imports (caps_of outcome) }) first)))
+
+  -- The object of this number is told its end. What it made isn't kept, and what it did beside is done.
+  pub record IsToldEnd (number : ℕ) (old new : ObjectsState A) : Type 0 where
+    pub before : ObjectEntry A
+    pub object : A
+    pub place : ContextState A
+    pub was : get old.members number ≡ Some before
+    pub ends : served_object.Ends kind before.object (entered number old) place object
+    pub is : new ≡ settled_last number (leaving place (placing number (record before { object = object }) old))
+
+  -- It is told its end, and then it is gone. It leaves the imports that it held, and the calls that it is yet to make.
+  abbrev pub Ends : ℕ → Departed → ObjectsState A → ObjectsState A → Type 0
+  Ends number left old new = (told : ObjectsState A) × IsToldEnd number old told × (left ≡ departed_of number told) × (new ≡ losing number told)
+
+  -- Each object is told its end, in the order of the numbers, and is gone then, until none is left.
+  pub data EndsAll : ObjectsState A → ObjectsState A → Type 0 where
+    none_left : {old : ObjectsState A} → first_number old ≡ None → EndsAll old old
+    ends_one : {old mid new : ObjectsState A} (number : ℕ) (left : Departed) → first_number old ≡ Some number → Ends number left old mid → EndsAll mid new → EndsAll old new
+
+module _ {A : Type 0} where
+  -- What a call came to first that wasn't settled by a poll is handed out. Where there is none, a call may fail that is owed, as one that was dropped.
+  pub data HandsSettled : Option Settled → ObjectsState A → ObjectsState A → Type 0 where
+    was_settled : {old new : ObjectsState A} (given : Settled) → old.settled ≡ given ∷ new.settled → new ≡ record old { settled = new.settled } → HandsSettled (Some given) old new
+    was_dropped : {old new : ObjectsState A} (owner ticket : ℕ) (gives_up : List ℕ) → old.settled ≡ [] → get old.pending_answers ticket ≡ Some owner
+        → new ≡ answering owner (failing ticket (those_in gives_up (held_by owner old))) old
+        → HandsSettled (Some (failing ticket (those_in gives_up (held_by owner old)))) old new
+    none_left : {old : ObjectsState A} → old.settled ≡ [] → HandsSettled None old old

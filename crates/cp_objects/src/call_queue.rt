@@ -7,8 +7,8 @@ use std::alloc::{AllocError, Global};
 use std::collections::VecDeque;
 use std::marker::Model;
 
-/// Calls, in the order in which they are made. Contracts see them as a list.
-pub(crate) struct CallQueue {
+/// Calls of an object, in the order in which they are made. Contracts see them as a list.
+pub struct CallQueue {
     next_calls: VecDeque<OutgoingCall>,
 }
 
@@ -67,7 +67,7 @@ impl CallQueue {
     }
 
     /// Takes the first out, if there is one.
-    pub(crate) fn pop(&mut self) -> Option<OutgoingCall>
+    pub fn pop(&mut self) -> Option<OutgoingCall>
         ensures first { result ≡ slice_get self.old 0 }
         ensures rest { self.new ≡ drop 1 self.old }
     {

@@ -2,14 +2,16 @@
 
 ghost use Rattle.std.specs.Prelude.{◌≡◌, ◌+◌, [], IfOk, IfSome, OnOk, OnErr};
 ghost use Rattle.cp_refs.specs.declared.cap.Cap.TheVariants as caps;
-ghost use Rattle.cp_objects.specs.Context.{begun, giving_up, keeping, keeping_for, next_number, context_of, time_after, with_effect, with_made, with_promise};
+ghost use Rattle.cp_objects.specs.Context.{begun, giving_up, keeping, keeping_for, next_number, context_of, time_after, with_effect, with_made, with_promise, without_those_made};
 ghost use Rattle.cp_objects.specs.declared.context.ObjectEffect.{ObjectEffect};
 ghost use Rattle.cp_objects.specs.declared.context.ObjectEffect.TheVariants as effects;
 
+use crate::later::{DroppedCall, DroppedCalls, LaterCall};
 use crate::resolver::Resolver;
 use crate::waker::Waker;
 use cp_refs::Cap;
-use cp_servants::OutgoingCall;
+use cp_servants::{OutgoingCall, Settled};
+use cp_vat_machine::Ids;
 use std::alloc::{AllocError, Global};
 use std::mem;
 
@@ -39,9 +41,11 @@ pub(crate) enum ObjectEffect {
     Resolve(u32, Cap),
     /// It makes this call.
     Call(OutgoingCall),
+    /// A call that is to be answered later comes to this.
+    Settle(Settled),
 }
 
-/// Where an object is while it is called, polled, asked or told: what it may do there beside what it answers. `M` is the one type of
+/// Where an object is while it is called, polled, asked or told something: what it may do there beside what it answers. `M` is the one type of
 /// all objects of the connection.
 #[derive(Drop)]
 pub struct Context<M> {
@@ -56,6 +60,8 @@ pub struct Context<M> {
     made: Vec<NewCap<M>>,
     /// What else was done, in order.
     effects: Vec<ObjectEffect>,
+    /// The later calls that were dropped, once there were later calls.
+    dropped: Option<DroppedCalls>,
 }
 
 impl<M: Drop> Context<M> {
@@ -107,14 +113,40 @@ impl<M: Drop> Context<M> {
         self.note(ObjectEffect::Resolve(resolver.number, value))
     }
 
-    /// Makes a call, as an `.._call` of a client gives it, once what the object answers went out. Those that it tells so are made in order,
-    /// each once, before it is asked for more (`ServedObject::next_call`). It is told what each came to (`ServedObject::on_response`), by its number, and stays until
-    /// then. Once the connection ended, and where its objects may not call, none is made.
+    /// Makes a call, as an `.._call` of a client gives it, once what the object answers went out. Those that it sends so are made in
+    /// order, each once, before it is asked for more (`ServedObject::next_call`). It is told what each came to, by the call's number
+    /// (`ServedObject::on_response`), and stays until then. Once the connection ended, and where its objects may not call, none is made.
     pub fn send(&mut self, next_call: OutgoingCall) -> Result<(), AllocError>
         ensures noted { OnOk result (context_of self.new ≡ with_effect (context_of self.old) (effects.Call next_call)) }
         ensures err { OnErr result (context_of self.new ≡ context_of self.old) }
     {
         self.note(ObjectEffect::Call(next_call))
+    }
+
+    /// Gives a value that stands for a call of the connection which is answered later: the one of this ticket, with whose answer these
+    /// imports of its params are given up. Store it, in any object of the connection, and answer it (`LaterCall::into_settled`) while any of
+    /// them is called, polled, asked or told something. Where it is dropped before, the call fails with
+    /// `the call was dropped without an answer`.
+    pub fn later(&mut self, ticket: u64, gives_up: Ids) -> Result<LaterCall, AllocError>
+        ensures call { IfOk result (λ call. (call.ticket ≡ ticket) × (call.gives_up ≡ gives_up)) }
+        ensures left { context_of self.new ≡ context_of self.old }
+    {
+        match self.one_more_later() {
+            Ok(dropped) => Ok(LaterCall::new(ticket, gives_up, dropped)),
+            Err(error) => {
+                drop(gives_up);
+                Err(error)
+            }
+        }
+    }
+
+    /// Answers a call that an object of the connection answers later, this one or another: once what is done now is over, and each call
+    /// once. Nothing is done where it was answered before.
+    pub fn settle(&mut self, settled: Settled) -> Result<(), AllocError>
+        ensures noted { OnOk result (context_of self.new ≡ with_effect (context_of self.old) (effects.Settle settled)) }
+        ensures err { OnErr result (context_of self.new ≡ context_of self.old) }
+    {
+        self.note(ObjectEffect::Settle(settled))
     }
 
     /// The object itself.
@@ -198,7 +230,8 @@ impl<M: Drop> Context<M> {
 
     /// Keeps an object or a promise once less; or gives up an import that the object kept past its answer, as that of a client's target
     /// (`CallTarget::cap`). An import is given up once for each call or outcome that named it, by this or with an answer
-    /// (`Reply::Now`, `Settled`): then it is released, once the vat doesn't use it either.
+    /// (`Reply::Now`, `Settled`): then it is released, once the vat doesn't use it either. Nothing is given up that the object doesn't keep or
+    /// hold.
     pub fn give_up(&mut self, cap: &Cap) -> Result<(), AllocError>
         ensures noted { OnOk result (context_of self.new ≡ giving_up cap.now (context_of self.old)) }
         ensures err { OnErr result (context_of self.new ≡ context_of self.old) }
@@ -224,6 +257,7 @@ impl<M: Drop> Context<M> {
             next: 0,
             made: Vec::new(alloc),
             effects: Vec::new(alloc),
+            dropped: None,
         }
     }
 
@@ -276,6 +310,39 @@ impl<M: Drop> Context<M> {
         ensures none { context_of self.new ≡ record (context_of self.old) { effects = [] } }
     {
         mem::replace(&mut self.effects, Vec::new(self.alloc))
+    }
+
+    /// What was made isn't kept, and the numbers that it got aren't given again.
+    pub(crate) fn drop_made(&mut self) -> Result<(), AllocError>
+        ensures { OnOk result (context_of self.new ≡ without_those_made (context_of self.old)) }
+    {
+        let Some(next) = number_after(self.next, self.made.len()) else {
+            return Err(AllocError);
+        };
+        self.next = next;
+        drop(self.take_made());
+        Ok(())
+    }
+
+    /// Takes out the later call that was dropped first, if one was.
+    pub(crate) fn next_dropped(&self) -> Option<DroppedCall> {
+        match &self.dropped {
+            Some(dropped) => dropped.next(),
+            None => None,
+        }
+    }
+
+    /// What one later call more says its drop to.
+    fn one_more_later(&mut self) -> Result<DroppedCalls, AllocError>
+        ensures { context_of self.new ≡ context_of self.old }
+    {
+        if let Some(dropped) = &self.dropped {
+            return dropped.share();
+        }
+        let dropped = DroppedCalls::new(self.alloc)?;
+        let share = dropped.share()?;
+        self.dropped = Some(dropped);
+        Ok(share)
     }
 
     /// Notes what else was done.

@@ -2,7 +2,7 @@
 
 use crate::context::Context;
 use crate::served_object::ServedObject;
-use cp_refs::{Outcome, Request};
+use cp_refs::Outcome;
 use cp_servants::{OutgoingCall, Reply, RequestView, Settled};
 use std::alloc::AllocError;
 
@@ -23,24 +23,12 @@ impl<A: ServedObject, B: ServedObject<Makes = A::Makes>> ServedObject for Either
     fn call(
         &mut self,
         ticket: u64,
-        request: Request,
+        request: RequestView<'_>,
         context: &mut Context<A::Makes>,
     ) -> Result<Reply, AllocError> {
         match self {
             Either::Left(object) => object.call(ticket, request, context),
             Either::Right(object) => object.call(ticket, request, context),
-        }
-    }
-
-    fn call_view(
-        &mut self,
-        ticket: u64,
-        request: RequestView<'_>,
-        context: &mut Context<A::Makes>,
-    ) -> Result<Reply, AllocError> {
-        match self {
-            Either::Left(object) => object.call_view(ticket, request, context),
-            Either::Right(object) => object.call_view(ticket, request, context),
         }
     }
 
@@ -77,6 +65,13 @@ impl<A: ServedObject, B: ServedObject<Makes = A::Makes>> ServedObject for Either
         match self {
             Either::Left(object) => object.on_response(call_id, outcome, context),
             Either::Right(object) => object.on_response(call_id, outcome, context),
+        }
+    }
+
+    fn ended(&mut self, context: &mut Context<A::Makes>) -> Result<(), AllocError> {
+        match self {
+            Either::Left(object) => object.ended(context),
+            Either::Right(object) => object.ended(context),
         }
     }
 }

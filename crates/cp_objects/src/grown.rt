@@ -1,12 +1,13 @@
 //! Objects that grow, as those of a connection.
 
+use crate::departed::Departed;
 use crate::numbers::Numbers;
 use crate::object_table::ObjectTable;
 use crate::objects::Objects;
 use crate::promise_request::PromiseRequest;
 use crate::served_object::ServedObject;
 use crate::waker::Waker;
-use cp_refs::{Outcome, PromiseId, Request};
+use cp_refs::{Outcome, PromiseId};
 use cp_servants::{OutgoingCall, Reply, RequestView, Settled};
 use cp_vat_machine::Ids;
 use std::alloc::{AllocError, Global};
@@ -21,18 +22,14 @@ impl<O: ServedObject<Makes = O>> ObjectTable for Objects<O> {
         self.members.contains(number)
     }
 
-    fn call_at(&mut self, number: u32, ticket: u64, request: Request) -> Result<Reply, AllocError> {
-        self.call(number, ticket, request)
-    }
-
-    fn call_view_at(
+    fn call_at(
         &mut self,
         _alloc: Global,
         number: u32,
         ticket: u64,
         request: RequestView<'_>,
     ) -> Result<Reply, AllocError> {
-        self.call_view(number, ticket, request)
+        self.call(number, ticket, request)
     }
 
     fn poll_at(&mut self, number: u32) -> Result<Option<Settled>, AllocError> {
@@ -72,12 +69,20 @@ impl<O: ServedObject<Makes = O>> ObjectTable for Objects<O> {
         Objects::idle(self)
     }
 
-    fn remove(&mut self, _alloc: Global, number: u32) -> Ids {
-        Objects::remove(self, number)
+    fn end(&mut self, _alloc: Global, number: u32) -> Result<Departed, AllocError> {
+        Objects::end(self, number)
+    }
+
+    fn end_all(&mut self) -> Result<(), AllocError> {
+        Objects::end_all(self)
+    }
+
+    fn next_settled(&mut self) -> Result<Option<Settled>, AllocError> {
+        Objects::next_settled(self)
     }
 
     fn set_session(&mut self, session: u64) {
-        self.context.set_session(session);
+        Objects::set_session(self, session);
     }
 
     fn set_now(&mut self, now: u64) {

@@ -1,7 +1,7 @@
 //! The objects and promises that nothing of their connection refers to.
 
 ghost use Rattle.std.specs.Prelude.{◌≡◌, IfOk};
-ghost use Rattle.cp_objects.specs.Objects.{AreHeld, idle_of, is_idle, is_loose, objects_of, loose_of};
+ghost use Rattle.cp_objects.specs.Objects.{AreKept, idle_of, is_held, is_idle, is_loose, objects_of, loose_of};
 
 use crate::number_set::{NumberSet, insert_each};
 use crate::object_entry::ObjectEntry;
@@ -15,57 +15,61 @@ impl<O: ServedObject<Makes = O>> Objects<O> {
     pub(crate) fn idle(&self) -> Result<Ids, AllocError>
         ensures { IfOk result (λ idle. idle ≡ idle_of (objects_of self.now)) }
     {
-        let held = self.held()?;
+        let kept = self.kept()?;
         let mut idle = Vec::new(self.alloc);
         for (number, member) in self.members.iter() {
-            if self.is_idle(&held, *number, member) {
+            if self.is_idle(&kept, *number, member) {
                 idle.push(*number)?;
             }
         }
         Ok(Ids::new(idle))
     }
 
-    /// Whether an object goes, unless the connection refers to it, where these are held.
-    fn is_idle(&self, held: &NumberSet, number: u32, member: &ObjectEntry<O>) -> bool
-        ensures { AreHeld (objects_of self.now) held.now → result ≡ is_idle (objects_of self.now) number member.now }
+    /// Whether an object goes, unless the connection refers to it, where objects keep these.
+    fn is_idle(&self, kept: &NumberSet, number: u32, member: &ObjectEntry<O>) -> bool
+        ensures { AreKept (objects_of self.now) kept.now → result ≡ is_idle (objects_of self.now) number member.now }
     {
-        number >= self.stays && member.asked == 0 && !held.contains(number)
+        number >= self.stays && member.asked == 0 && !self.is_held(kept, number)
     }
 
     /// The vat's promises that go unless the vat uses them, rising.
     pub(crate) fn loose_promises(&self) -> Result<Ids, AllocError>
         ensures { IfOk result (λ loose. loose ≡ loose_of (objects_of self.now)) }
     {
-        let held = self.held()?;
+        let kept = self.kept()?;
         let mut loose = Vec::new(self.alloc);
         for (id, number) in self.promises.names.iter() {
-            if self.is_loose(&held, *number) {
+            if self.is_loose(&kept, *number) {
                 loose.push(*id)?;
             }
         }
         Ok(Ids::new(loose))
     }
 
-    /// Whether a promise goes, unless the vat uses it, where these are held.
-    fn is_loose(&self, held: &NumberSet, number: u32) -> bool
-        ensures { AreHeld (objects_of self.now) held.now → result ≡ is_loose (objects_of self.now) number }
+    /// Whether a promise goes, unless the vat uses it, where objects keep these.
+    fn is_loose(&self, kept: &NumberSet, number: u32) -> bool
+        ensures { AreKept (objects_of self.now) kept.now → result ≡ is_loose (objects_of self.now) number }
     {
-        !self.promises.makers.contains(number) && !held.contains(number)
+        !self.promises.makers.contains(number) && !self.is_held(kept, number)
     }
 
-    /// The objects that owe an answer or made a promise that isn't resolved; and the objects and promises that the params of calls name which
-    /// aren't answered, and those that others keep.
-    fn held(&self) -> Result<NumberSet, AllocError>
-        ensures { IfOk result (AreHeld (objects_of self.now)) }
+    /// Whether an object owes an answer, or made a promise that isn't resolved; or the params of a call that isn't answered name it, or
+    /// another keeps it.
+    fn is_held(&self, kept: &NumberSet, number: u32) -> bool
+        ensures { AreKept (objects_of self.now) kept.now → result ≡ is_held (objects_of self.now) number }
     {
-        let mut held = NumberSet::new(self.alloc);
-        let owing = self.pending_answers.objects(self.alloc)?;
-        insert_each(&mut held, &owing)?;
-        self.promises.insert_makers(&mut held)?;
-        self.param_caps.insert_all(&mut held)?;
+        self.pending_answers.owes(number) || self.param_caps.names(number) || kept.contains(number)
+    }
+
+    /// The objects that made a promise which isn't resolved, and the objects and promises that objects keep.
+    fn kept(&self) -> Result<NumberSet, AllocError>
+        ensures { IfOk result (AreKept (objects_of self.now)) }
+    {
+        let mut kept = NumberSet::new(self.alloc);
+        self.promises.insert_makers(&mut kept)?;
         for (_, member) in self.members.iter() {
-            insert_each(&mut held, member.keeps.numbers())?;
+            insert_each(&mut kept, member.keeps.numbers())?;
         }
-        Ok(held)
+        Ok(kept)
     }
 }

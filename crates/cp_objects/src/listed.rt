@@ -1,17 +1,18 @@
 //! A list of objects that is fixed.
 
+use crate::departed::Departed;
 use crate::object_table::ObjectTable;
 use crate::promise_request::PromiseRequest;
 use crate::waker::Waker;
-use cp_refs::{Outcome, PromiseId, Request};
+use cp_refs::{Outcome, PromiseId};
 use cp_servants::{
-    OutgoingCall, Reply, RequestView, Servant, Settled, any_has_more, call_at, call_view_at,
-    next_call_at, on_response_at, poll_at,
+    OutgoingCall, Reply, RequestView, Servant, Settled, any_has_more, call_at, next_call_at,
+    on_response_at, poll_at,
 };
 use cp_vat_machine::Ids;
 use std::alloc::{AllocError, Global};
 
-/// The object of number k is at place k. Each is polled in each round, and none goes.
+/// The object of number k is at place k. Each is polled in each round. None goes, and none is told its end.
 impl<O: Servant> ObjectTable for Vec<O> {
     ghost use Rattle.cp_objects.specs.Listed.{listed};
 
@@ -21,18 +22,14 @@ impl<O: Servant> ObjectTable for Vec<O> {
         (number as usize) < self.len()
     }
 
-    fn call_at(&mut self, number: u32, ticket: u64, request: Request) -> Result<Reply, AllocError> {
-        call_at(self.as_mut_slice(), number as usize, ticket, request)
-    }
-
-    fn call_view_at(
+    fn call_at(
         &mut self,
         alloc: Global,
         number: u32,
         ticket: u64,
         request: RequestView<'_>,
     ) -> Result<Reply, AllocError> {
-        call_view_at(alloc, self.as_mut_slice(), number as usize, ticket, request)
+        call_at(alloc, self.as_mut_slice(), number as usize, ticket, request)
     }
 
     fn poll_at(&mut self, number: u32) -> Result<Option<Settled>, AllocError> {
@@ -70,8 +67,16 @@ impl<O: Servant> ObjectTable for Vec<O> {
         Ok(Ids::new(Vec::new(alloc)))
     }
 
-    fn remove(&mut self, alloc: Global, _number: u32) -> Ids {
-        Ids::new(Vec::new(alloc))
+    fn end(&mut self, alloc: Global, _number: u32) -> Result<Departed, AllocError> {
+        Ok(Departed::none(alloc))
+    }
+
+    fn end_all(&mut self) -> Result<(), AllocError> {
+        Ok(())
+    }
+
+    fn next_settled(&mut self) -> Result<Option<Settled>, AllocError> {
+        Ok(None)
     }
 
     fn set_session(&mut self, _session: u64) {}

@@ -1,16 +1,17 @@
 //! What changes of the objects of a connection.
 
-ghost use Rattle.std.specs.Prelude.{◌≡◌, ◌≢◌, ◌∷◌, ◌++◌, [], true, false, OnOk, drop, slice_get};
-ghost use Rattle.std.specs.FinMap.{get};
-ghost use Rattle.std.specs.Option.{option_map_or};
+ghost use Rattle.std.specs.Prelude.{◌≡◌, ◌≢◌, ◌∷◌, ◌++◌, [], true, false, IfOk, OnOk, drop, slice_get};
 ghost use Rattle.cp_tables.specs.Table.{with_change};
-ghost use Rattle.cp_objects.specs.Members.{next_calls_of, to_call, without_next_calls};
+ghost use Rattle.cp_objects.specs.Counts.{those_in};
+ghost use Rattle.cp_objects.specs.Members.{held_in, next_calls_of, to_call, without_next_calls};
 ghost use Rattle.cp_objects.specs.Numbers.{is_among, without, without_each};
 
 use crate::call_queue::CallQueue;
+use crate::numbers::Numbers;
 use crate::object_entry::ObjectEntry;
 use cp_servants::OutgoingCall;
 use cp_tables::Entries;
+use cp_vat_machine::Ids;
 use std::alloc::{AllocError, Global};
 use std::mem;
 
@@ -46,9 +47,24 @@ pub(crate) fn let_go<O>(members: &mut Entries<ObjectEntry<O>>, number: u32, impo
     }
 }
 
+/// Those of these imports that an object holds, each as often as it does at most.
+pub(crate) fn held_of<O>(
+    alloc: Global,
+    members: &Entries<ObjectEntry<O>>,
+    number: u32,
+    imports: &[u32],
+) -> Result<Ids, AllocError>
+    ensures { IfOk result (λ held. held ≡ those_in imports.now (held_in number members.now)) }
+{
+    match members.get(number) {
+        Some(member) => member.holds.those_of(alloc, imports),
+        None => Numbers::new(alloc).those_of(alloc, imports),
+    }
+}
+
 /// Whether an object holds an import.
 pub(crate) fn holds<O>(members: &Entries<ObjectEntry<O>>, number: u32, import: u32) -> bool
-    ensures { result ≡ is_among import (option_map_or (λ m. m.holds) (get members.now number) []) }
+    ensures { result ≡ is_among import (held_in number members.now) }
 {
     match members.get(number) {
         Some(member) => member.holds.contains(import),

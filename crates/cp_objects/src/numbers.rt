@@ -1,6 +1,7 @@
 //! Numbers in a list.
 
 ghost use Rattle.std.specs.Prelude.{◌≡◌, ◌≢◌, ◌∷◌, ◌++◌, [], true, false, IfOk, OnOk, OnErr};
+ghost use Rattle.cp_objects.specs.Counts.{those_in, times};
 ghost use Rattle.cp_objects.specs.Numbers.{is_among, local_in, without, without_each};
 
 use cp_refs::{Cap, Caps};
@@ -81,6 +82,19 @@ impl Numbers {
         self.numbers.contains(&number)
     }
 
+    /// Those of other numbers that are among them, each as often as it is at most.
+    pub(crate) fn those_of(&self, alloc: Global, others: &[u32]) -> Result<Ids, AllocError>
+        ensures { IfOk result (λ found. found ≡ those_in others.now self.now) }
+    {
+        let mut found = Vec::new(alloc);
+        for other in others {
+            if times(*other, &found) < times(*other, &self.numbers) {
+                found.push(*other)?;
+            }
+        }
+        Ok(Ids::new(found))
+    }
+
     /// One more.
     pub(crate) fn add(&mut self, number: u32) -> Result<(), AllocError>
         ensures added { OnOk result (self.new ≡ self.old ++ number ∷ []) }
@@ -112,6 +126,19 @@ impl Numbers {
     {
         remove_each(&mut self.numbers, numbers);
     }
+}
+
+/// How often a number is one of these.
+fn times(number: u32, numbers: &[u32]) -> usize
+    ensures { result ≡ times number numbers.now }
+{
+    let mut count = 0;
+    for other in numbers {
+        if *other == number {
+            count += 1;
+        }
+    }
+    count
 }
 
 /// The first of these numbers that is this one goes.

@@ -1,11 +1,11 @@
 //! An object of a connection.
 
 ghost use Rattle.std.specs.Prelude.{◌≡◌, [], None};
-ghost use Rattle.cp_objects.specs.Members.{newborn};
+ghost use Rattle.cp_objects.specs.Members.{departed, newborn};
 
 use crate::call_queue::CallQueue;
+use crate::departed::Departed;
 use crate::numbers::Numbers;
-use cp_vat_machine::Ids;
 use std::alloc::Global;
 
 /// An object of a connection, with what is known of it.
@@ -39,19 +39,22 @@ impl<O: Drop> ObjectEntry<O> {
         }
     }
 
-    /// The imports that it holds.
-    pub(crate) fn into_holds(self) -> Ids
-        ensures { result ≡ self.holds }
+    /// It goes: the imports that it holds, and the calls that it is yet to make.
+    pub(crate) fn into_departed(self) -> Departed
+        ensures { result ≡ departed self }
     {
         let ObjectEntry {
             object,
             asked: _,
-            next_calls: _,
+            next_calls,
             holds,
             keeps: _,
             alarm: _,
         } = self;
         drop(object);
-        holds.into_ids()
+        Departed {
+            imports: holds.into_ids(),
+            next_calls,
+        }
     }
 }

@@ -1,12 +1,13 @@
 //! The objects of a connection, of whatever form.
 
-ghost use Rattle.std.specs.Prelude.{◌≡◌, ◌↔◌, true, false, IsTrue, IfOk, OnOk};
+ghost use Rattle.std.specs.Prelude.{◌≡◌, ◌↔◌, IsTrue, IfOk, OnOk};
 ghost use Rattle.cp_servants.specs.Requests.{request_of};
 ghost use Rattle.cp_objects.specs.ObjectTable.{ObjectTableKind};
 
+use crate::departed::Departed;
 use crate::promise_request::PromiseRequest;
 use crate::waker::Waker;
-use cp_refs::{Outcome, PromiseId, Request};
+use cp_refs::{Outcome, PromiseId};
 use cp_servants::{OutgoingCall, Reply, RequestView, Settled};
 use cp_vat_machine::Ids;
 use std::alloc::{AllocError, Global};
@@ -20,13 +21,8 @@ pub trait ObjectTable: Drop {
     fn has(&self, number: u32) -> bool
         ensures { IsTrue result ↔ table.holds number self.now };
 
-    /// Calls an object, under a ticket.
-    fn call_at(&mut self, number: u32, ticket: u64, request: Request) -> Result<Reply, AllocError>
-        requires { table.holds number self.old }
-        ensures { IfOk result (λ reply. table.calls number ticket request reply self.old self.new) };
-
     /// Calls an object, under a ticket, with params that are lent.
-    fn call_view_at(
+    fn call_at(
         &mut self,
         alloc: Global,
         number: u32,
@@ -66,7 +62,7 @@ pub trait ObjectTable: Drop {
 
     /// Whether one may give more though nothing more comes.
     fn has_more(&self) -> bool
-        ensures { result ≡ true → table.may_go_on self.now };
+        ensures { table.says_more result self.now };
 
     /// How many objects and promises there are that may go.
     fn guests(&self) -> usize
@@ -76,9 +72,18 @@ pub trait ObjectTable: Drop {
     fn idle(&self, alloc: Global) -> Result<Ids, AllocError>
         ensures { IfOk result (λ ids. ids ≡ table.idle self.now) };
 
-    /// Drops an object that may go, and gives the imports that it held.
-    fn remove(&mut self, alloc: Global, number: u32) -> Ids
-        ensures { table.loses number result self.old self.new };
+    /// Tells an object its end, and drops it.
+    fn end(&mut self, alloc: Global, number: u32) -> Result<Departed, AllocError>
+        requires { table.holds number self.old }
+        ensures { IfOk result (λ left. table.ends number left self.old self.new) };
+
+    /// Tells each object its end, and drops it, as the connection ended. Where memory runs out, those that weren't told yet are there.
+    fn end_all(&mut self) -> Result<(), AllocError>
+        ensures { OnOk result (table.ends_all self.old self.new) };
+
+    /// Takes out what a call came to first that was to be answered later, and that wasn't settled by a poll.
+    fn next_settled(&mut self) -> Result<Option<Settled>, AllocError>
+        ensures { IfOk result (λ given. table.hands_settled given self.old self.new) };
 
     /// They are those of a session of this number. A driver gives each of its sessions one of its own, before anything comes.
     fn set_session(&mut self, session: u64)

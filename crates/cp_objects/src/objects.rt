@@ -2,18 +2,23 @@
 
 ghost use Rattle.std.specs.Prelude.{◌≡◌, Some, None, true, false, IsSome, IfOk, OnOk};
 ghost use Rattle.std.specs.FinMap as maps;
+ghost use Rattle.cp_refs.specs.declared.cap.Cap.TheVariants as caps;
 ghost use Rattle.cp_vat_machine.specs.InUse.{caps_of};
 ghost use Rattle.cp_servants.specs.declared.servant.Settled.{Settled};
 ghost use Rattle.cp_servants.specs.Outcomes.{named_imports};
 ghost use Rattle.cp_servants.specs.Requests.{request_of};
-ghost use Rattle.cp_objects.specs.Objects.{NextCalls, Calls, AsksNextCall, Polls, Responds, adding, adopting, alone, answering, asking, awoken, changing, followed, following, handing_over, held_by, joining, objects_of, lending, losing, noting, own_of, placing, resting, settled, waking, with_those_made};
+ghost use Rattle.cp_objects.specs.Objects.{NextCalls, Calls, Ends, EndsAll, HandsSettled, AsksNextCall, IsToldEnd, Polls, Responds, adding, adopting, alone, answering, asking, awoken, changing, departed_of, failing, first_number, followed, followed_last, following, following_last, giving_held, giving_up_import, handing_over, held_by, in_session, joining, objects_of, lending, losing, noting, own_of, placing, replying_held, resting, settled, settled_last, settling, waking, with_those_made};
+ghost use Rattle.cp_objects.specs.Context.{next_number};
+ghost use Rattle.cp_objects.specs.Counts.{those_in};
 ghost use Rattle.cp_objects.specs.Members.{earlier, newborn, without_next_calls};
 ghost use Rattle.cp_objects.specs.declared.context.ObjectEffect.TheVariants as effects;
 
 use crate::context::{Context, NewCap, ObjectEffect};
+use crate::departed::Departed;
+use crate::later::DroppedCall;
 use crate::members::{
-    add_next_call, drop_next_calls, give_up, give_up_import, has_next_call, hold, holds, keep,
-    let_go, set_alarm, take_next_call,
+    add_next_call, drop_next_calls, give_up, give_up_import, has_next_call, held_of, hold, holds,
+    keep, let_go, set_alarm, take_next_call,
 };
 use crate::number_set::NumberSet;
 use crate::numbers::Numbers;
@@ -23,8 +28,8 @@ use crate::pending_answers::PendingAnswers;
 use crate::promises::Promises;
 use crate::served_object::ServedObject;
 use crate::waker::Waker;
-use cp_refs::{Cap, Caps, Outcome, Request};
-use cp_servants::{OutgoingCall, Reply, RequestView, Settled, named_imports};
+use cp_refs::{Cap, Caps, Outcome};
+use cp_servants::{OutgoingCall, Reply, RequestView, Settled, dropped_call, named_imports};
 use cp_tables::Entries;
 use cp_vat_machine::Ids;
 use std::alloc::{AllocError, Global};
@@ -42,7 +47,8 @@ use std::collections::VecDeque;
 /// - each promise that it made is resolved;
 /// - no object keeps it (`Context::keep`, `Context::keep_for`), and the params of no call name it that isn't answered yet.
 ///
-/// Then its time to be woken goes with it, and what it kept; and the imports that it held are given up.
+/// It is told so (`ServedObject::ended`). Then its time to be woken goes with it, and what it kept; and the imports that it held are given up.
+/// Where the connection ends all objects go so, in the order of their numbers.
 ///
 /// A promise that is resolved is forgotten once nothing of the connection refers to it, no object keeps it, and the params of no call name
 /// it that isn't answered yet. Objects name a promise of this end as an object: one of theirs, and the results of a call that wasn't answered
@@ -64,6 +70,8 @@ pub struct Objects<O> {
     pub(crate) pending_answers: PendingAnswers,
     pub(crate) param_caps: ParamCaps,
     pub(crate) promises: Promises,
+    /// What calls came to by `Context::settle`, in order.
+    pub(crate) settled: VecDeque<Settled>,
     /// The imports that objects gave up beside what they answered, in order.
     pub(crate) given_up: Numbers,
     /// The objects of other sessions that are to be woken, in order.
@@ -86,6 +94,7 @@ impl<O: ServedObject<Makes = O>> Objects<O> {
             pending_answers: PendingAnswers::new(alloc),
             param_caps: ParamCaps::new(alloc),
             promises: Promises::new(alloc),
+            settled: VecDeque::new(alloc),
             given_up: Numbers::new(alloc),
             wakes: VecDeque::new(alloc),
             first_alarm: None,
@@ -99,12 +108,20 @@ impl<O: ServedObject<Makes = O>> Objects<O> {
     ///
     /// Memory ran out, or there were 2^32 objects.
     pub fn add(&mut self, object: O) -> Result<Cap, AllocError>
+        ensures cap { IfOk result (λ cap. cap ≡ caps.Object (next_number (objects_of self.old).context)) }
         ensures added { OnOk result (objects_of self.new ≡ adding object (objects_of self.old)) }
     {
         let cap = self.context.make(object)?;
         self.join()?;
         self.stays = self.context.next();
         Ok(cap)
+    }
+
+    /// They are those of a session of this number. A driver gives each of its sessions one of its own, before anything comes.
+    pub fn set_session(&mut self, session: u64)
+        ensures { objects_of self.new ≡ in_session session (objects_of self.old) }
+    {
+        self.context.set_session(session);
     }
 
     /// How many objects there are.
@@ -116,28 +133,6 @@ impl<O: ServedObject<Makes = O>> Objects<O> {
 
     /// Calls an object.
     pub(crate) fn call(
-        &mut self,
-        number: u32,
-        ticket: u64,
-        request: Request,
-    ) -> Result<Reply, AllocError>
-        requires { IsSome (maps.get self.old.members number) }
-        ensures { IfOk result (λ reply. Calls O.makes number ticket request reply (objects_of self.old) (objects_of self.new)) }
-    {
-        let imports = named_imports(self.alloc, &request.caps)?;
-        self.adopt_each(&request.caps)?;
-        let request = self.promises.named_request(request);
-        let named = Numbers::local_in(self.alloc, &request.caps)?;
-        self.context.enter(number);
-        let member = self.members.entry_mut(number);
-        member.holds.add_each(imports.ids())?;
-        let reply = member.object.call(ticket, request, &mut self.context)?;
-        self.follow_call(number, ticket, named, &reply)?;
-        Ok(reply)
-    }
-
-    /// Calls an object, with params that are lent.
-    pub(crate) fn call_view(
         &mut self,
         number: u32,
         ticket: u64,
@@ -165,7 +160,8 @@ impl<O: ServedObject<Makes = O>> Objects<O> {
         self.context.enter(number);
         let member = self.members.entry_mut(number);
         member.holds.add_each(imports.ids())?;
-        let reply = member.object.call_view(ticket, request, &mut self.context)?;
+        let said = member.object.call(ticket, request, &mut self.context)?;
+        let reply = self.own_reply(number, said)?;
         self.follow_call(number, ticket, named, &reply)?;
         Ok(reply)
     }
@@ -179,7 +175,7 @@ impl<O: ServedObject<Makes = O>> Objects<O> {
         let member = self.members.entry_mut(number);
         let said = member.object.poll(&mut self.context)?;
         let has_more = member.object.has_more();
-        let given = self.own(number, said);
+        let given = self.own(number, said)?;
         self.note_poll(number, &given, has_more);
         self.settle(number)?;
         Ok(given)
@@ -238,16 +234,53 @@ impl<O: ServedObject<Makes = O>> Objects<O> {
         Ok(())
     }
 
-    /// Drops an object, and gives the imports that it held.
-    pub(crate) fn remove(&mut self, number: u32) -> Ids
-        ensures holds { result ≡ held_by number (objects_of self.old) }
-        ensures gone { objects_of self.new ≡ losing number (objects_of self.old) }
+    /// Tells an object its end, does what it did then, and drops it.
+    pub(crate) fn end(&mut self, number: u32) -> Result<Departed, AllocError>
+        requires { IsSome (maps.get self.old.members number) }
+        ensures { IfOk result (λ departed. Ends O.makes number departed (objects_of self.old) (objects_of self.new)) }
     {
-        self.awake.remove(number);
-        match self.members.remove(number) {
-            Some(member) => member.into_holds(),
-            None => Ids::new(Vec::new(self.alloc)),
+        let told = self.tell_end(number);
+        // It is told once, so it goes where memory ran out, too.
+        let departed = self.remove(number);
+        match told {
+            Ok(()) => Ok(departed),
+            Err(error) => {
+                drop(departed);
+                Err(error)
+            }
         }
+    }
+
+    /// Tells each object its end, in the order of the numbers, does what it did then, and drops it.
+    pub(crate) fn end_all(&mut self) -> Result<(), AllocError>
+        ensures { OnOk result (EndsAll O.makes (objects_of self.old) (objects_of self.new)) }
+    {
+        for _ in 0..u64::MAX {
+            let Some(number) = self.first_number() else {
+                return Ok(());
+            };
+            drop(self.end(number)?);
+        }
+        Err(AllocError)
+    }
+
+    /// Takes out what a call came to first that wasn't settled by a poll. Where there is none, a later call that was dropped fails.
+    pub(crate) fn next_settled(&mut self) -> Result<Option<Settled>, AllocError>
+        ensures { IfOk result (λ given. HandsSettled given (objects_of self.old) (objects_of self.new)) }
+    {
+        if let Some(settled) = self.settled.pop_front() {
+            return Ok(Some(settled));
+        }
+        for _ in 0..u64::MAX {
+            let Some(DroppedCall { ticket, gives_up }) = self.context.next_dropped() else {
+                return Ok(None);
+            };
+            if let Some(owner) = self.pending_answers.owner(ticket) {
+                let failed = self.fail_dropped(owner, ticket, gives_up)?;
+                return Ok(Some(failed));
+            }
+        }
+        Err(AllocError)
     }
 
     /// What follows of a call of an object.
@@ -318,16 +351,58 @@ impl<O: ServedObject<Makes = O>> Objects<O> {
         Ok(())
     }
 
-    /// What an object settled, if it was to settle that.
-    fn own(&self, number: u32, said: Option<Settled>) -> Option<Settled>
-        ensures { result ≡ own_of number said self.now.pending_answers }
+    /// What an object replied, but that it gives up only imports that it holds: it may have given one up before.
+    fn own_reply(&self, number: u32, said: Reply) -> Result<Reply, AllocError>
+        ensures { IfOk result (λ reply. reply ≡ replying_held (held_by number (objects_of self.now)) said) }
     {
-        let settled = said?;
+        match said {
+            Reply::Now { outcome, gives_up } => {
+                match held_of(self.alloc, &self.members, number, gives_up.ids()) {
+                    Ok(gives_up) => Ok(Reply::Now { outcome, gives_up }),
+                    Err(error) => {
+                        drop(outcome);
+                        Err(error)
+                    }
+                }
+            }
+            Reply::Later => Ok(Reply::Later),
+        }
+    }
+
+    /// What an object settled, if it was to settle that, but that it gives up only imports that it holds.
+    fn own(&self, number: u32, said: Option<Settled>) -> Result<Option<Settled>, AllocError>
+        ensures { IfOk result (λ given. given ≡ own_of number (held_by number (objects_of self.now)) said self.now.pending_answers) }
+    {
+        let Some(settled) = said else {
+            return Ok(None);
+        };
         if self.pending_answers.is_of(settled.ticket, number) {
-            return Some(settled);
+            return Ok(Some(self.giving_held(number, settled)?));
         }
         drop(settled);
-        None
+        Ok(None)
+    }
+
+    /// What a call comes to that an object owes the answer of, but that this gives up only imports that the object holds.
+    fn giving_held(&self, number: u32, settled: Settled) -> Result<Settled, AllocError>
+        ensures { IfOk result (λ given. given ≡ giving_held (held_by number (objects_of self.now)) settled) }
+    {
+        let Settled {
+            ticket,
+            outcome,
+            gives_up,
+        } = settled;
+        match held_of(self.alloc, &self.members, number, gives_up.ids()) {
+            Ok(gives_up) => Ok(Settled {
+                ticket,
+                outcome,
+                gives_up,
+            }),
+            Err(error) => {
+                drop(outcome);
+                Err(error)
+            }
+        }
     }
 
     /// Notes what a poll of an object gave, or whether it may give more.
@@ -337,17 +412,75 @@ impl<O: ServedObject<Makes = O>> Objects<O> {
         ensures rests { given.now ≡ None → has_more ≡ false → objects_of self.new ≡ resting number (objects_of self.old) }
     {
         match given {
-            Some(settled) => {
-                let_go(&mut self.members, number, settled.gives_up.ids());
-                self.pending_answers.remove(settled.ticket);
-                self.param_caps.remove(settled.ticket);
-            }
+            Some(settled) => self.note_settled(number, settled),
             None if has_more => {}
             None => self.awake.remove(number),
         }
     }
 
-    /// Asks an object for a call, which it is to make before those that it tells meanwhile.
+    /// Notes what a call came to that an object owes the answer of.
+    fn note_settled(&mut self, number: u32, settled: &Settled)
+        ensures { objects_of self.new ≡ answering number settled.now (objects_of self.old) }
+    {
+        let_go(&mut self.members, number, settled.gives_up.ids());
+        self.pending_answers.remove(settled.ticket);
+        self.param_caps.remove(settled.ticket);
+    }
+
+    /// A call that an object owes the answer of was dropped, so it fails.
+    fn fail_dropped(
+        &mut self,
+        number: u32,
+        ticket: u64,
+        gives_up: Ids,
+    ) -> Result<Settled, AllocError>
+        ensures failed { IfOk result (λ failed. failed ≡ failing ticket (those_in gives_up (held_by number (objects_of self.old)))) }
+        ensures answered { OnOk result (objects_of self.new ≡ answering number (failing ticket (those_in gives_up (held_by number (objects_of self.old)))) (objects_of self.old)) }
+    {
+        let settled = Settled {
+            ticket,
+            outcome: dropped_call(self.alloc)?,
+            gives_up,
+        };
+        let held = self.giving_held(number, settled)?;
+        self.note_settled(number, &held);
+        Ok(held)
+    }
+
+    /// The first object, by the numbers, if there is one.
+    fn first_number(&self) -> Option<u32>
+        ensures { result ≡ first_number (objects_of self.now) }
+    {
+        match self.members.iter().next() {
+            Some((number, _)) => Some(*number),
+            None => None,
+        }
+    }
+
+    /// Tells an object its end, and does what it did then.
+    fn tell_end(&mut self, number: u32) -> Result<(), AllocError>
+        requires { IsSome (maps.get self.old.members number) }
+        ensures { OnOk result (IsToldEnd O.makes number (objects_of self.old) (objects_of self.new)) }
+    {
+        self.context.enter(number);
+        let member = self.members.entry_mut(number);
+        member.object.ended(&mut self.context)?;
+        self.settle_last(number)
+    }
+
+    /// Drops an object. Gives the imports that it held, and the calls that it is yet to make.
+    fn remove(&mut self, number: u32) -> Departed
+        ensures departed { result ≡ departed_of number (objects_of self.old) }
+        ensures gone { objects_of self.new ≡ losing number (objects_of self.old) }
+    {
+        self.awake.remove(number);
+        match self.members.remove(number) {
+            Some(member) => member.into_departed(),
+            None => Departed::none(self.alloc),
+        }
+    }
+
+    /// Asks an object for a call, which it is to make before those that it sends meanwhile.
     fn ask_object(&mut self, number: u32) -> Result<(), AllocError>
         requires { IsSome (maps.get self.old.members number) }
         ensures { OnOk result (AsksNextCall O.makes number (objects_of self.old) (objects_of self.new)) }
@@ -378,6 +511,39 @@ impl<O: ServedObject<Makes = O>> Objects<O> {
         self.follow_each(number, effects)
     }
 
+    /// Does what an object wanted last. What it made isn't kept.
+    fn settle_last(&mut self, number: u32) -> Result<(), AllocError>
+        ensures { OnOk result (objects_of self.new ≡ settled_last number (objects_of self.old)) }
+    {
+        self.context.drop_made()?;
+        let effects = self.context.take_effects();
+        self.follow_each_last(number, effects)
+    }
+
+    /// Does what an object wanted last, in order.
+    fn follow_each_last(
+        &mut self,
+        number: u32,
+        effects: Vec<ObjectEffect>,
+    ) -> Result<(), AllocError>
+        ensures { OnOk result (objects_of self.new ≡ followed_last number effects.items (objects_of self.old)) }
+    {
+        for effect in effects {
+            self.follow_last(number, effect)?;
+        }
+        Ok(())
+    }
+
+    /// Does what an object wanted last, but that another one keeps something: it may go before it is known to be kept.
+    fn follow_last(&mut self, number: u32, effect: ObjectEffect) -> Result<(), AllocError>
+        ensures { OnOk result (objects_of self.new ≡ following_last number effect (objects_of self.old)) }
+    {
+        match effect {
+            ObjectEffect::Keep { .. } => Ok(()),
+            other => self.follow(number, other),
+        }
+    }
+
     /// Does what an object wanted, in order.
     fn follow_each(&mut self, number: u32, effects: Vec<ObjectEffect>) -> Result<(), AllocError>
         ensures { OnOk result (objects_of self.new ≡ followed number effects.items (objects_of self.old)) }
@@ -399,10 +565,7 @@ impl<O: ServedObject<Makes = O>> Objects<O> {
                 give_up(&mut self.members, number, kept);
                 Ok(())
             }
-            ObjectEffect::GiveUpImport(import) => {
-                give_up_import(&mut self.members, number, import);
-                self.given_up.add(import)
-            }
+            ObjectEffect::GiveUpImport(import) => self.give_up_held(number, import),
             ObjectEffect::Wake(waker) => self.pass_on(waker),
             ObjectEffect::WakeAt(time) => {
                 set_alarm(&mut self.members, number, Some(time));
@@ -411,7 +574,33 @@ impl<O: ServedObject<Makes = O>> Objects<O> {
             }
             ObjectEffect::Resolve(promise, value) => self.promises.resolve(promise, value),
             ObjectEffect::Call(next_call) => add_next_call(&mut self.members, number, next_call),
+            ObjectEffect::Settle(settled) => self.settle_call(settled),
         }
+    }
+
+    /// A call comes to this that an object owes the answer of, if one does.
+    fn settle_call(&mut self, settled: Settled) -> Result<(), AllocError>
+        ensures { OnOk result (objects_of self.new ≡ settling settled (objects_of self.old)) }
+    {
+        let Some(owner) = self.pending_answers.owner(settled.ticket) else {
+            drop(settled);
+            return Ok(());
+        };
+        let held = self.giving_held(owner, settled)?;
+        self.note_settled(owner, &held);
+        self.settled.push_back(held)?;
+        Ok(())
+    }
+
+    /// An object gives an import up beside what it answers, if it holds it: else another one's hold would go.
+    fn give_up_held(&mut self, number: u32, import: u32) -> Result<(), AllocError>
+        ensures { OnOk result (objects_of self.new ≡ giving_up_import number import (objects_of self.old)) }
+    {
+        if !holds(&self.members, number, import) {
+            return Ok(());
+        }
+        give_up_import(&mut self.members, number, import);
+        self.given_up.add(import)
     }
 
     /// Has another object hold an import in place of one that holds it, if it is there.

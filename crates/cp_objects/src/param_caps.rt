@@ -1,12 +1,11 @@
 //! What the params of calls name that are answered later.
 
-ghost use Rattle.std.specs.Prelude.{◌≡◌, OnOk, map};
-ghost use Rattle.std.specs.BTreeMap.{IsOrdered};
+ghost use Rattle.std.specs.Prelude.{◌≡◌, OnOk};
+ghost use Rattle.std.specs.List.{list_any};
 ghost use Rattle.std.specs.FinMap as maps;
-ghost use Rattle.std.specs.Ordering.{nat_cmp};
-ghost use Rattle.cp_objects.specs.Numbers.{inserted_each};
+ghost use Rattle.cp_objects.specs.Numbers.{is_among};
 
-use crate::number_set::{NumberSet, insert_each};
+use crate::counts::Counts;
 use crate::numbers::Numbers;
 use std::alloc::{AllocError, Global};
 use std::collections::BTreeMap;
@@ -15,12 +14,17 @@ use std::marker::Model;
 /// The objects and promises that the params of calls name which are answered later, by the tickets of these.
 pub(crate) struct ParamCaps {
     named: BTreeMap<u64, Numbers>,
+    /// How often each of them is named: so whether it is needs no look at each call.
+    counts: Counts,
 }
 
 // Not derived: a function that lets one go calls this one, and need not prove the drop of what it holds.
 impl Drop for ParamCaps {
     fn drop(self) {
-        let ParamCaps { named: _ } = self;
+        let ParamCaps {
+            named: _,
+            counts: _,
+        } = self;
     }
 }
 
@@ -35,6 +39,12 @@ impl Model for ParamCaps {
     ghost coded = { map.code coded_ℕ (coded_list coded_ℕ) };
 
     ghost view = { λ l. map.from_entries l.named.entries };
+
+    ghost use Rattle.std.specs.Ordering.{nat_cmp};
+    ghost use Rattle.cp_objects.specs.Counts.{AreCounts};
+    ghost use Rattle.cp_objects.specs.Numbers.{joined_lists};
+
+    ghost invariant = { λ l. AreCounts l.counts.counts (joined_lists (map.values (map.from_entries {R = nat_cmp} l.named.entries))) };
 }
 
 impl ParamCaps {
@@ -44,6 +54,7 @@ impl ParamCaps {
     {
         ParamCaps {
             named: BTreeMap::new(alloc),
+            counts: Counts::new(alloc),
         }
     }
 
@@ -51,31 +62,40 @@ impl ParamCaps {
     pub(crate) fn put(&mut self, ticket: u64, named: Numbers) -> Result<(), AllocError>
         ensures { OnOk result (self.new ≡ maps.insert self.old ticket named) }
     {
-        drop(self.named.insert(ticket, named)?);
-        Ok(())
+        if let Err(error) = self.counts.raise_each(named.numbers()) {
+            drop(named);
+            return Err(error);
+        }
+        match self.named.insert(ticket, named) {
+            Ok(Some(before)) => {
+                self.counts.lower_each(before.numbers());
+                drop(before);
+                Ok(())
+            }
+            Ok(None) => Ok(()),
+            Err(failed) => {
+                let (_, named) = failed.value;
+                self.counts.lower_each(named.numbers());
+                drop(named);
+                Err(AllocError)
+            }
+        }
     }
 
     /// This call was answered.
     pub(crate) fn remove(&mut self, ticket: u64)
         ensures { self.new ≡ maps.remove self.old ticket }
     {
-        drop(self.named.remove(&ticket));
+        if let Some(named) = self.named.remove(&ticket) {
+            self.counts.lower_each(named.numbers());
+            drop(named);
+        }
     }
 
-    /// Puts all of them into a set.
-    pub(crate) fn insert_all(&self, known: &mut NumberSet) -> Result<(), AllocError>
-        ensures { OnOk result (known.new ≡ inserted_each (maps.values self.now) known.old) }
+    /// Whether a call names an object or a promise.
+    pub(crate) fn names(&self, number: u32) -> bool
+        ensures { result ≡ list_any (λ named. is_among number named) (maps.values self.now) }
     {
-        insert_all(&self.named, known)
+        self.counts.has(number)
     }
-}
-
-/// Puts all of these into a set.
-fn insert_all(lists: &BTreeMap<u64, Numbers>, known: &mut NumberSet) -> Result<(), AllocError>
-    ensures { OnOk result ((known.new ≡ inserted_each (map (λ e. e.1) lists.now.entries) known.old) × IsOrdered nat_cmp lists.now) }
-{
-    for (_, named) in lists {
-        insert_each(known, named.numbers())?;
-    }
-    Ok(())
 }

@@ -3,7 +3,7 @@
 ghost use Rattle.std.specs.Prelude.{◌≡◌, IfOk, OnOk, map};
 ghost use Rattle.std.specs.FinMap as maps;
 ghost use Rattle.cp_objects.specs.Numbers.{inserted};
-ghost use Rattle.cp_objects.specs.Promises.{HandsPromiseRequest, adopted, adopted_each, forgetting, has_name, keeping_promise, meant, named, none_promised, promised_of, promising, resolving, with_next_call, with_outcome, with_promise_request, with_request};
+ghost use Rattle.cp_objects.specs.Promises.{HandsPromiseRequest, adopted, adopted_each, forgetting, has_name, keeping_promise, meant, named, none_promised, promised_of, promising, resolving, with_next_call, with_outcome, with_promise_request};
 
 use crate::number_set::NumberSet;
 use crate::promise_request::PromiseRequest;
@@ -174,24 +174,6 @@ impl Promises {
                 caps: self.named_each(caps),
             },
             other => other,
-        }
-    }
-
-    /// A request as objects are to see it.
-    pub(crate) fn named_request(&self, request: Request) -> Request
-        ensures { result ≡ with_request (named self.now.names) request }
-    {
-        let Request {
-            interface,
-            method,
-            content,
-            caps,
-        } = request;
-        Request {
-            interface,
-            method,
-            content,
-            caps: self.named_each(caps),
         }
     }
 

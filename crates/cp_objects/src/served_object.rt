@@ -1,12 +1,12 @@
 //! Objects that may make others.
 
-ghost use Rattle.std.specs.Prelude.{◌≡◌, true, IfOk, OnOk};
+ghost use Rattle.std.specs.Prelude.{◌≡◌, IfOk, OnOk};
 ghost use Rattle.cp_servants.specs.Requests.{request_of};
 ghost use Rattle.cp_objects.specs.Context.{context_of};
-ghost use Rattle.cp_objects.specs.ServedObject.{ServedObjectKind, any_served_object};
+ghost use Rattle.cp_objects.specs.ServedObject.{Ends, ServedObjectKind, any_served_object};
 
 use crate::context::Context;
-use cp_refs::{Outcome, Request};
+use cp_refs::Outcome;
 use cp_servants::{OutgoingCall, Reply, RequestView, Settled};
 use std::alloc::{AllocError, Global};
 
@@ -19,27 +19,14 @@ pub trait ServedObject: Drop {
     /// What objects of this kind do. Of an object that doesn't say it nothing is known.
     ghost makes: { ServedObjectKind Self Self.Makes } = { any_served_object };
 
-    /// Takes a call. No other call of the connection has its ticket.
+    /// Takes a call, whose params are lent: what the object keeps of them it copies. No other call of the connection has its ticket.
     fn call(
-        &mut self,
-        ticket: u64,
-        request: Request,
-        context: &mut Context<Self::Makes>,
-    ) -> Result<Reply, AllocError>
-        ensures { IfOk result (λ reply. makes.takes self.old ticket request (context_of context.old) reply (context_of context.new) self.new) };
-
-    /// Takes a call whose params are lent, as `call` takes one. Unless the object does it otherwise, a tree of them is made for `call`.
-    fn call_view(
         &mut self,
         ticket: u64,
         request: RequestView<'_>,
         context: &mut Context<Self::Makes>,
     ) -> Result<Reply, AllocError>
-        ensures { IfOk result (λ reply. makes.takes self.old ticket (request_of request.entry) (context_of context.old) reply (context_of context.new) self.new) }
-    {
-        let request = request.request(context.alloc())?;
-        self.call(ticket, request, context)
-    }
+        ensures { IfOk result (λ reply. makes.takes self.old ticket (request_of request.entry) (context_of context.old) reply (context_of context.new) self.new) };
 
     /// Says what one of the calls of the object came to that were to be answered later, if any did. Another object's call isn't settled
     /// by it. An object is polled once after each call of it
@@ -48,14 +35,11 @@ pub trait ServedObject: Drop {
     fn poll(&mut self, context: &mut Context<Self::Makes>) -> Result<Option<Settled>, AllocError>
         ensures { IfOk result (λ given. makes.polls self.old (context_of context.old) given (context_of context.new) self.new) };
 
-    /// Whether a further poll may give more, though nothing more comes to the object.
+    /// Whether a further poll may give more, though nothing more comes to the object: `false` for one that gives all as it is called.
     fn has_more(&self) -> bool
-        ensures { result ≡ true → makes.may_go_on self.now }
-    {
-        false
-    }
+        ensures { makes.says_more result self.now };
 
-    /// The next call that the object makes, if it makes one more. It is asked once all that it told (`Context::send`) is called.
+    /// The next call that the object makes, if it makes one more. It is asked once all calls that it sent (`Context::send`) are made.
     fn next_call(
         &mut self,
         context: &mut Context<Self::Makes>,
@@ -70,4 +54,16 @@ pub trait ServedObject: Drop {
         context: &mut Context<Self::Makes>,
     ) -> Result<(), AllocError>
         ensures { OnOk result (makes.on_response self.old call_id outcome (context_of context.old) (context_of context.new) self.new) };
+
+    /// Tells the object its end, once, just before it goes: as nothing refers to it any more, or as its connection ended. It can't stop
+    /// that. The calls that it makes (`Context::send`), unless the connection ended, and whom it wakes, what it resolves and settles, and the
+    /// imports that it gives up or hands over, are done. What it makes isn't kept, nor an object for another one. It isn't told what its
+    /// calls come to.
+    fn ended(&mut self, context: &mut Context<Self::Makes>) -> Result<(), AllocError>
+        ensures { OnOk result (Ends makes self.old (context_of context.old) (context_of context.new) self.new) }
+    {
+        // The contract allows this of every kind, so this body serves any object.
+        let _ = context;
+        Ok(())
+    }
 }

@@ -4,3 +4,4 @@ pub mod One
 pub mod Filtering
 pub mod Allowed
 pub mod Once
+pub mod Traffic

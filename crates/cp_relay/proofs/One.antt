@@ -1,5 +1,6 @@
 -- A piece up to the end of a frame has one message, which the guard judged and the relay let go.
-use Rattle.std.proofs.Common.{◌≡◌, ◌<◌, ℕ, List, [], ◌∷◌, ◌++◌, length, Some, None, true, refl, sym, ap, ◌∙◌, subst, arith, length-append, append-nil}
+use Rattle.std.proofs.Common.{◌≡◌, ◌<◌, ℕ, List, [], ◌∷◌, ◌++◌, length, Bool, Option, Some, None, true, false, rules, refl, sym, ap, ◌∙◌, subst, arith, length-append, append-nil}
+use Rattle.std.specs.Prelude.{is_some, not}
 use Rattle.std.proofs.lemmas.Option.{none-some}
 use Rattle.cp_words.specs.Limits.{Bounds}
 use Rattle.cp_frame.specs.declared.mode.Mode.{Mode}
@@ -9,7 +10,8 @@ use Rattle.cp_relay.specs.declared.output.Output.{Output}
 use Rattle.cp_relay.specs.Relay.{IsSentFor, Passes, Lets}
 use Rattle.cp_relay.specs.declared.guard.Guard.{Guard}
 use Rattle.cp_relay.specs.declared.ruling.Ruling.{Ruling}
-use Rattle.cp_relay.specs.Guard.{GoesOn, Judges}
+use Rattle.cp_relay.specs.declared.ruling.Breach.{Breach}
+use Rattle.cp_relay.specs.Guard.{breach_in, HasJudged, GoesOn, Judges}
 
 -- One message is read, and judged, and sent.
 pub record One (before after : Guard) (mode : Mode) (output : Output) (limits : Bounds) (frame sent : List ℕ) : Type 0 where
@@ -18,12 +20,12 @@ pub record One (before after : Guard) (mode : Mode) (output : Output) (limits : 
   pub sent_for : IsSentFor output limits frame message sent
   pub goes_on : GoesOn before message after
 
-some_is_none : (v : Ruling) → Some v ≡ None → ⊥
+some_is_none : {A : Type 0} (v : A) → Some v ≡ None → ⊥
 some_is_none v e = none-some v (sym e)
 
 -- a guard that has judged a message lets no other one go
 pub no_second : (before mid after : Guard) (m n : Message) → GoesOn before m mid → GoesOn mid n after → ⊥
-no_second before mid after m n one other = some_is_none one.ruling (sym one.says_so ∙ other.waited)
+no_second before mid after m n one other = some_is_none one.0.ruling (sym one.0.says_so ∙ other.0.waited)
 
 -- what passes is one message's
 pub one_of : (before after : Guard) (mode : Mode) (output : Output) (limits : Bounds) (frame sent : List ℕ) (ms : List Message) → (frame ≡ [] → ⊥)
@@ -41,7 +43,23 @@ one_of before after mode output limits frame sent (m ∷ []) some passes lets =
       message = m;
       is_frame = subst (λ b. IsFrameOf mode limits b m) is_all passes.6;
       sent_for = rw (← is_sent, ← is_all) passes.7;
-      goes_on = rw lets.2 (lets.1 refl);
+      goes_on = rw lets.2 (lets.1.0 refl);
     }
 one_of before after mode output limits frame sent (m ∷ n ∷ ms) some passes lets =
-    absurd (no_second before lets.0 lets.2.0 m n (lets.1 refl) (lets.2.1 refl))
+    absurd (no_second before lets.0 lets.2.0 m n (lets.1.0 refl) (lets.2.1.0 refl))
+
+not_true : true ≡ false → ⊥
+not_true e = search (rules, e)
+
+none_of : (breach : Option Breach) → is_some breach ≡ false → breach ≡ None
+none_of None t = refl
+none_of (Some breach) t = absurd (not_true t)
+
+some_of : (breach : Option Breach) → is_some breach ≡ true → breach ≡ None → ⊥
+some_of None t e = not_true (sym t)
+some_of (Some breach) t e = some_is_none breach e
+
+-- a message may go where it doesn't close the connection
+pub judges_by : (old new : Guard) (m : Message) (may : Bool) (h : HasJudged old m new) → is_some (breach_in h.ruling) ≡ not may → Judges old m may new
+judges_by old new m true h e = (λ goes. (h, none_of (breach_in h.ruling) e), λ stops waits. absurd (not_true stops))
+judges_by old new m false h e = (λ goes. absurd (not_true (sym goes)), λ stops waits. (h, some_of (breach_in h.ruling) e))

@@ -23,7 +23,7 @@ use Rattle.cp_relay.specs.declared.fault.RelayFault.{RelayFault}
 use Rattle.cp_relay.specs.declared.fault.RelayCause.{RelayCause}
 use Rattle.cp_relay.specs.declared.fault.RelayCause.TheVariants as whys
 use Rattle.cp_relay.specs.declared.passage.Passage.{Passage}
-use Rattle.cp_relay.specs.Relay.{Relay, StandsFor, IsKept, IsSentFor, Passes, Lets, LetsThrough, IsSameStream, IsUnwritten, StopsFor, GivesNext, GivesNone, Stops}
+use Rattle.cp_relay.specs.Relay.{Relay, StandsFor, IsKept, IsSentFor, Passes, Lets, LetsThrough, IsSameStream, IsUnwritten, StopsFor, GivesNext, GivesNone, StopsNext}
 use Rattle.cp_relay.specs.Passage.{seen, IsOpen, kept_with, IsUnwrittenAnew, StopsAtFrame, Refuses, IsMemoryFor}
 
 -- nothing is kept once a frame has gone, in either form
@@ -304,15 +304,15 @@ module _ {V : Type 0} (says : V → Message → Bool → V → Type 0) (p : Pass
       inr (same, inr (unwritten p.output p.frames.mode p.frames.limits (b ++ piece) (length (b ++ g.front)) m refusal front unmade'))
 
 -- a relay stops at a piece of which nothing goes through
-pub stops_here : {V : Type 0} (says : V → Message → Bool → V → Type 0) (p : Passage) (before : Option RelayFault) (new : Relay) (piece : List ℕ) (v w : V) (out : List ℕ) (fault : RelayFault) (why : RelayCause)
-    → before ≡ None → Refuses says (seen p None) piece v w why → new.fault ≡ Some fault → fault.at ≡ new.at → new.at ≡ p.at → fault.why ≡ why → Stops says (seen p before) piece new v w out out fault
-stops_here says p before new piece v w out fault why none refuses stopped place at same = record {
+pub stops_here : {V : Type 0} (says : V → Message → Bool → V → Type 0) (p : Passage) (before : Option RelayFault) (new : Relay) (piece : List ℕ) (v w : V) (fault : RelayFault) (why : RelayCause)
+    → before ≡ None → Refuses says (seen p None) piece v w why → new.fault ≡ Some fault → fault.at ≡ new.at → new.at ≡ p.at → fault.why ≡ why → StopsNext says (seen p before) piece new v w fault
+stops_here says p before new piece v w fault why none refuses stopped place at same = record {
   went_on = none;
   stopped = record { says_so = stopped; place = place };
-  gives = λ b h.
+  same = at;
+  refused = λ b h.
       let stands = subst (λ (f : Option RelayFault). StandsFor (seen p f) b) none h in
-      let stops = subst (λ (y : RelayCause). StopsFor says p.output p.frames.mode p.frames.limits (b ++ piece) v w y) (sym same) (refuses b stands) in
-      (b ++ piece, v, lets_none says (seen p before) new piece v out b h.counted at, stops);
+      subst (λ (y : RelayCause). StopsFor says p.output p.frames.mode p.frames.limits (b ++ piece) v w y) (sym same) (refuses b stands);
 }
 
 -- what isn't left of a piece is its front

@@ -14,7 +14,7 @@ use Rattle.cp_relay.specs.declared.output.Output.{Output}
 use Rattle.cp_relay.specs.declared.output.Output.TheVariants as outputs
 use Rattle.cp_relay.specs.declared.fault.RelayFault.{RelayFault}
 use Rattle.cp_relay.specs.declared.fault.RelayCause.{RelayCause}
-use Rattle.cp_relay.specs.Relay.{Relay, StandsFor, Passes, LetsThrough, IsSameStream, StopsFor, GivesNext, GivesNone, Gives, Stops, Repeats}
+use Rattle.cp_relay.specs.Relay.{Relay, StandsFor, Passes, LetsThrough, IsSameStream, StopsFor, GivesNext, GivesNone, Gives, Stops, StopsNext, StopsNextAt}
 use Rattle.cp_relay.specs.Runs.{Fed, FeedsStream, FeedsSame}
 use Rattle.cp_relay.proofs.Passing.{lets_both, lets_none}
 
@@ -71,20 +71,22 @@ module _ {V : Type 0} (says : V → Message → Bool → V → Type 0) where
       subst (λ (x : List ℕ). Gives says old x new v w out now) (sym same) h
 
   -- and then what was left had a fault
-  pub stops_after : (old mid new : Relay) (fed left piece : List ℕ) (v w u : V) (out held now : List ℕ) (fault : RelayFault) → Gives says old fed mid v w out held → piece ≡ fed ++ left → Stops says mid left new w u held now fault ⊎ Repeats mid new w u held now fault
+  pub stops_after : (old mid new : Relay) (fed left piece : List ℕ) (v w u : V) (out held now : List ℕ) (fault : RelayFault) → Gives says old fed mid v w out held → piece ≡ fed ++ left → now ≡ held → StopsNextAt says mid left new w u fault
       → Stops says old piece new v u out now fault
-  stops_after old mid new fed left piece v w u out held now fault h whole (inr n) = absurd (some_is_none fault (sym n.said ∙ h.goes_on))
-  stops_after old mid new fed left piece v w u out held now fault h whole (inl n) = record {
+  stops_after old mid new fed left piece v w u out held now fault h whole nothing (inr n) = absurd (some_is_none fault (sym n.0 ∙ h.goes_on))
+  stops_after old mid new fed left piece v w u out held now fault h whole nothing (inl n) = record {
     went_on = h.went_on;
     stopped = n.stopped;
     gives = λ b k.
         let first = h.gives b k in
-        let then = n.gives first.0 first.2 in
-        let both = lets_both says old mid new fed left v w then.1 out held now b first.0 then.0 h.same_stream first.1 then.2 in (
-          then.0,
-          then.1,
-          subst (λ (x : List ℕ). LetsThrough says old x new v then.1 out now b then.0) (sym whole) both,
-          stops_as old mid then.0 then.1 u fault.why h.same_stream then.3,
+        let rest = first.0 ++ left in
+        let none = lets_none says mid new left w held first.0 first.2.counted n.same in
+        let both = lets_both says old mid new fed left v w w out held held b first.0 rest h.same_stream first.1 none in
+        let puts = subst (λ (x : List ℕ). LetsThrough says old x new v w out held b rest) (sym whole) both in (
+          rest,
+          w,
+          subst (λ (x : List ℕ). LetsThrough says old piece new v w out x b rest) (sym nothing) puts,
+          stops_as old mid rest w u fault.why h.same_stream (n.refused first.0 first.2),
         );
   }
     where

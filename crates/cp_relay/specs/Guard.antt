@@ -1,5 +1,5 @@
 -- A guard, before and after a message.
-use Rattle.std.specs.Prelude.{◌≡◌, Bool, true, false, Option, Some, None}
+use Rattle.std.specs.Prelude.{◌≡◌, ◌≢◌, ℕ, Bool, true, false, Option, Some, None}
 use Rattle.std.specs.FinMap as map
 use Rattle.cp_messages.specs.declared.message.Message.{Message}
 use Rattle.cp_messages.specs.declared.message.Message.TheVariants as messages
@@ -39,6 +39,17 @@ pub record IsFresh (given : Rules) (g : Guard) : Type 0 where
   pub unfinished : g.state.unfinished ≡ 0
   pub under_way : g.state.under_way ≡ 0
   pub opened : g.state.opened ≡ 0
+  pub unjudged : g.ruling ≡ None
+  pub uncalled : g.call ≡ None
+  pub is_open : g.closed ≡ false
+
+-- A second has passed, so its questions count no more. Nothing else changes.
+pub record IsSecondLater (old new : Guard) : Type 0 where
+  pub rules : new.rules.now ≡ old.rules.now
+  pub state : new.state ≡ record old.state { opened = 0 }
+  pub ruling : new.ruling ≡ old.ruling
+  pub call : new.call ≡ old.call
+  pub closed : new.closed ≡ old.closed
 
 -- The guard knows the same, its ruling aside.
 pub record IsSame (old new : Guard) : Type 0 where
@@ -46,6 +57,7 @@ pub record IsSame (old new : Guard) : Type 0 where
   pub state : new.state ≡ old.state
   pub comes_back : new.comes_back ≡ old.comes_back
   pub call : new.call ≡ old.call
+  pub closed : new.closed ≡ old.closed
 
 -- The guard waits for the next message, of this direction.
 pub record Begins (side : Bool) (old new : Guard) : Type 0 where
@@ -53,13 +65,15 @@ pub record Begins (side : Bool) (old new : Guard) : Type 0 where
   pub state : new.state ≡ old.state
   pub comes_back : new.comes_back ≡ side
   pub waits : new.ruling ≡ None
+  pub uncalled : new.call ≡ None
+  pub closed : new.closed ≡ old.closed
 
 -- This became of a message, by what the guard knew before it.
 abbrev pub IsJudged : Guard → Message → Ruling → Guard → Type 0
 IsJudged old m ruling new = record { ruling = ruling; state = new.state } ≡ judged_from old.comes_back old.rules.now old.state m
 
--- The guard judged a message, where it had judged none, and it goes on.
-pub record GoesOn (old : Guard) (m : Message) (new : Guard) : Type 0 where
+-- The guard judged a message, where it had judged none.
+pub record HasJudged (old : Guard) (m : Message) (new : Guard) : Type 0 where
   pub waited : old.ruling ≡ None
   pub ruling : Ruling
   pub says_so : new.ruling ≡ Some ruling
@@ -67,7 +81,16 @@ pub record GoesOn (old : Guard) (m : Message) (new : Guard) : Type 0 where
   pub rules : new.rules.now ≡ old.rules.now
   pub comes_back : new.comes_back ≡ old.comes_back
   pub called : new.call ≡ call_in old.comes_back new.state.refused m
+  pub closed : new.closed ≡ old.closed
 
--- what a guard that goes on did
+-- it judged a message, which doesn't close the connection
+abbrev pub GoesOn : Guard → Message → Guard → Type 0
+GoesOn old m new = (h : HasJudged old m new) × (breach_in h.ruling ≡ None)
+
+-- it judged a message, which closes the connection
+abbrev pub Breaks : Guard → Message → Guard → Type 0
+Breaks old m new = (h : HasJudged old m new) × (breach_in h.ruling ≢ None)
+
+-- A message may go where it doesn't close the connection. A guard that has judged one forbids any other.
 abbrev pub Judges : Guard → Message → Bool → Guard → Type 0
-Judges old m may new = may ≡ true → GoesOn old m new
+Judges old m may new = (may ≡ true → GoesOn old m new) × (may ≡ false → old.ruling ≡ None → Breaks old m new)

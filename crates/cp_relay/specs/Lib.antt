@@ -9,3 +9,4 @@ pub mod Guard
 pub mod Filter
 pub mod Allowed
 pub mod Once
+pub mod Traffic

@@ -136,6 +136,17 @@ pub record Stops {V : Type 0} (says : V → Message → Bool → V → Type 0) (
   pub stopped : HasStopped new fault
   pub gives : (b : List ℕ) → StandsFor old b → (rest : List ℕ) × (mid : V) × LetsThrough says old piece new before mid out now b rest × StopsFor says old.output old.frames.mode old.frames.limits rest mid after fault.why
 
+-- All that had come with the piece has the fault: no message of it went out.
+pub record StopsNext {V : Type 0} (says : V → Message → Bool → V → Type 0) (old : Relay) (piece : List ℕ) (new : Relay) (before after : V) (fault : RelayFault) : Type 0 where
+  pub went_on : old.fault ≡ None
+  pub stopped : HasStopped new fault
+  pub same : new.at ≡ old.at
+  pub refused : (b : List ℕ) → StandsFor old b → StopsFor says old.output old.frames.mode old.frames.limits (b ++ piece) before after fault.why
+
+-- so it did, or it had stopped before and says so again, and nothing changes
+abbrev pub StopsNextAt : {V : Type 0} → (V → Message → Bool → V → Type 0) → Relay → List ℕ → Relay → V → V → RelayFault → Type 0
+StopsNextAt says old piece new before after fault = StopsNext says old piece new before after fault ⊎ ((old.fault ≡ Some fault) × (new ≡ old) × (after ≡ before))
+
 -- The relay stopped in the piece, or had stopped before and says so again.
 abbrev pub StopsAt : {V : Type 0} → (V → Message → Bool → V → Type 0) → Relay → List ℕ → Relay → V → V → List ℕ → List ℕ → RelayFault → Type 0
 StopsAt says old piece new before after out now fault = Stops says old piece new before after out now fault ⊎ Repeats old new before after out now fault

@@ -1,15 +1,15 @@
 //! One direction of a guarded connection.
 
-ghost use Rattle.std.specs.Prelude.{◌≡◌, [], IfErr, OnOk, OnErr, take};
+ghost use Rattle.std.specs.Prelude.{◌≡◌, [], false, IfErr, OnOk, OnErr, take};
 ghost use Rattle.cp_relay.specs.Relay.{StandsFor, EndsWell, new_relay};
-ghost use Rattle.cp_stream.specs.Write.{IsPut};
-ghost use Rattle.cp_relay.specs.Filter.{form_on, GuardsNext, GuardsNone, DoesFrom, IsSameFilter, FailsFor, IsUnstopped, IfGives, IfGivesNone, EndsBadly};
+ghost use Rattle.cp_stream.specs.Write.{IsPut, IsUnwrittenFor};
+ghost use Rattle.cp_relay.specs.Filter.{form_on, GuardsNext, GuardsNone, DoesFrom, IsSameFilter, Fails, FailsFor, IsUnputFor, IfGives, IfGivesNone, EndsBadly};
 
 use crate::fault::RelayFault;
 use crate::guard::Guard;
 use crate::output::Output;
 use crate::relay::Relay;
-use crate::ruling::{Breach, Ruling};
+use crate::ruling::Ruling;
 use cp_frame::Mode;
 use cp_rpc::Message;
 use cp_stream::{Refusal, put_message};
@@ -22,14 +22,15 @@ use std::fmt;
 pub enum FilterFault {
     /// A message is refused, or memory ran out for it; or the guard closes the connection, where the reason is `Forbidden`.
     Stopped(RelayFault),
-    /// The guard closes the connection.
-    Closed(Breach),
     /// An answer, or a message that goes in another's place, can't be written.
     Unwritten(Refusal),
+    /// A filter of the same guard has stopped before, this one or the other.
+    Over,
 }
 
 /// One direction of a guarded connection. It is fed the bytes of a stream, in any pieces, and gives out the frames of the
-/// messages that the guard lets go, in order, each once and whole; and answers to the others, which go back.
+/// messages that the guard lets go, in order, each once and whole; and answers to the others, which go back. Where it
+/// stops, the guard's other filter stops too.
 pub struct Filter {
     alloc: Global,
     pub(crate) relay: Relay,
@@ -96,7 +97,7 @@ impl Filter {
     /// # Errors
     ///
     /// Those of `Relay::next`, where `Forbidden` says that the guard closes the connection; and those of writing an
-    /// answer or a changed message. Nothing is put out then.
+    /// answer or a changed message. Nothing is put out then, and each later call of either filter fails with `Over`.
     pub fn next<'a>(
         &mut self,
         guard: &mut Guard,
@@ -106,20 +107,20 @@ impl Filter {
     ) -> Result<Option<&'a [u8]>, FilterFault>
         ensures given { IfGives result (λ rest. GuardsNext guard.old guard.new self.old self.new piece.now rest.now out.old out.new answers.old answers.new) }
         ensures none { IfGivesNone result (GuardsNone guard.old guard.new self.old self.new piece.now out.old out.new answers.old answers.new) }
-        ensures stopped { IfErr result (λ fault. FailsFor fault guard.old guard.new self.old self.new piece.now out.old out.new) }
+        ensures stopped { IfErr result (λ fault. Fails fault guard.old guard.new self.old self.new piece.now) }
         ensures goes_on { OnErr result (out.new.items ≡ out.old.items) }
         ensures goes_back { OnErr result (answers.new.items ≡ answers.old.items) }
     {
-        guard.begin(self.comes_back);
-        let start = out.len();
-        let back = match self.relay.next(guard, piece, out) {
-            Ok(Some(back)) => back,
-            Ok(None) => return Ok(None),
-            Err(fault) => return Err(FilterFault::Stopped(fault)),
-        };
-        let ruling = guard.take_ruling();
-        self.follow(ruling, start, out, answers)?;
-        Ok(Some(back))
+        if guard.closed {
+            return Err(FilterFault::Over);
+        }
+        match self.pass(guard, piece, out, answers) {
+            Ok(next) => Ok(next),
+            Err(fault) => {
+                guard.closed = true;
+                Err(fault)
+            }
+        }
     }
 
     /// Ends the stream, as `Relay::finish` does.
@@ -131,6 +132,35 @@ impl Filter {
         self.relay.finish()
     }
 
+    /// Takes the next piece of a stream that is open.
+    fn pass<'a>(
+        &mut self,
+        guard: &mut Guard,
+        piece: &'a [u8],
+        out: &mut Vec<u8>,
+        answers: &mut Vec<u8>,
+    ) -> Result<Option<&'a [u8]>, FilterFault>
+        requires { guard.old.closed ≡ false }
+        ensures given { IfGives result (λ rest. GuardsNext guard.old guard.new self.old self.new piece.now rest.now out.old out.new answers.old answers.new) }
+        ensures none { IfGivesNone result (GuardsNone guard.old guard.new self.old self.new piece.now out.old out.new answers.old answers.new) }
+        ensures stopped { IfErr result (λ fault. FailsFor fault guard.old guard.new self.old self.new piece.now) }
+        ensures goes_on { OnErr result (out.new.items ≡ out.old.items) }
+        ensures goes_back { OnErr result (answers.new.items ≡ answers.old.items) }
+    {
+        guard.begin(self.comes_back);
+        let start = out.len();
+        let back = match self.relay.next(guard, piece, out) {
+            Ok(Some(back)) => back,
+            Ok(None) => return Ok(None),
+            Err(fault) => return Err(FilterFault::Stopped(fault)),
+        };
+        let ruling = guard.take_ruling();
+        match self.follow(ruling, start, out, answers) {
+            Ok(()) => Ok(Some(back)),
+            Err(refusal) => Err(FilterFault::Unwritten(refusal)),
+        }
+    }
+
     /// Does what was judged of the message whose frame stands in `out` from `start` on.
     fn follow(
         &mut self,
@@ -138,11 +168,11 @@ impl Filter {
         start: usize,
         out: &mut Vec<u8>,
         answers: &mut Vec<u8>,
-    ) -> Result<(), FilterFault>
+    ) -> Result<(), Refusal>
         ensures followed { OnOk result (DoesFrom self.old ruling start out.old out.new answers.old answers.new) }
         ensures same { IsSameFilter self.old self.new }
         ensures relay { self.new.relay ≡ self.old.relay }
-        ensures unstopped { IfErr result IsUnstopped }
+        ensures unput { IfErr result (IsUnputFor self.old.limits ruling) }
         ensures goes_on { OnErr result (out.new.items ≡ take start out.old.items) }
         ensures goes_back { OnErr result (answers.new.items ≡ answers.old.items) }
     {
@@ -155,16 +185,17 @@ impl Filter {
             Ruling::Changes(message) => self.put(out, on, message),
             Ruling::Answers(message) => self.put(answers, back, message),
             Ruling::Drops => Ok(()),
-            Ruling::Closes(breach) => Err(FilterFault::Closed(breach)),
+            // None comes here: the guard forbade its message, so the relay stopped.
+            Ruling::Closes(_) => Ok(()),
         }
     }
 
     /// Puts a message's frame in this form after `out`.
-    fn put(&mut self, out: &mut Vec<u8>, mode: Mode, message: Message) -> Result<(), FilterFault>
+    fn put(&mut self, out: &mut Vec<u8>, mode: Mode, message: Message) -> Result<(), Refusal>
         ensures put { OnOk result (IsPut mode self.old.limits self.old.limits.frame_words 1 message out.old.items out.new.items) }
         ensures same { IsSameFilter self.old self.new }
         ensures relay { self.new.relay ≡ self.old.relay }
-        ensures unstopped { IfErr result IsUnstopped }
+        ensures unwritten { IfErr result (IsUnwrittenFor self.old.limits self.old.limits.frame_words 1 message) }
         ensures nothing { OnErr result (out.new.items ≡ out.old.items) }
     {
         let put = put_message(
@@ -176,10 +207,7 @@ impl Filter {
             self.limits,
         );
         drop(message);
-        match put {
-            Ok(()) => Ok(()),
-            Err(refusal) => Err(FilterFault::Unwritten(refusal)),
-        }
+        put
     }
 }
 
@@ -187,8 +215,8 @@ impl fmt::Display for FilterFault {
     fn fmt<W: fmt::Write>(&self, f: &mut fmt::Formatter<W>) -> fmt::Result {
         match self {
             FilterFault::Stopped(fault) => fault.fmt(f),
-            FilterFault::Closed(breach) => breach.fmt(f),
             FilterFault::Unwritten(refusal) => write!(f, "not written: {refusal}"),
+            FilterFault::Over => f.write_str("a filter of this connection has stopped"),
         }
     }
 }

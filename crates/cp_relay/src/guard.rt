@@ -3,7 +3,7 @@
 ghost use Rattle.std.specs.Prelude.{◌≡◌, IfOk, Some};
 ghost use Rattle.cp_rpc.specs.Viewed.{viewed};
 ghost use Rattle.cp_relay.specs.declared.ruling.Ruling.{Ruling};
-ghost use Rattle.cp_relay.specs.Guard.{breach_of, call_in, IsFresh, IsSame, IsJudged, Begins};
+ghost use Rattle.cp_relay.specs.Guard.{breach_of, call_in, IsFresh, IsSame, IsSecondLater, IsJudged, Begins};
 
 use crate::rules::{MethodId, Rules};
 use crate::ruling::{Breach, Cause, Ruling};
@@ -23,7 +23,7 @@ pub struct JudgedCall {
 }
 
 /// A guard of a connection. It stands between a caller, whose questions it judges by rules, and a callee. The filters of both
-/// directions share it. It keeps the numbers of the questions that it refused, and no message.
+/// directions share it, and where one stops, both do. It keeps the numbers of the questions that it refused, and no message.
 pub struct Guard<'r> {
     pub(crate) alloc: Global,
     pub(crate) rules: &'r Rules,
@@ -34,6 +34,8 @@ pub struct Guard<'r> {
     pub(crate) ruling: Option<Ruling>,
     /// The last message's call, if it is one.
     pub(crate) call: Option<JudgedCall>,
+    /// Whether a filter has stopped, so that nothing more goes.
+    pub(crate) closed: bool,
 }
 
 impl<'r> Drop for Guard<'r> {
@@ -45,6 +47,7 @@ impl<'r> Drop for Guard<'r> {
             comes_back: _,
             ruling,
             call: _,
+            closed: _,
         } = self;
         drop(ruling);
     }
@@ -67,16 +70,13 @@ impl<'r> Guard<'r> {
             comes_back: false,
             ruling: None,
             call: None,
+            closed: false,
         }
     }
 
     /// A second has passed, so its questions count no more.
     pub fn pass_second(&mut self)
-        ensures opened { self.new.state.opened ≡ 0 }
-        ensures refused { self.new.state.refused ≡ self.old.state.refused }
-        ensures unfinished { self.new.state.unfinished ≡ self.old.state.unfinished }
-        ensures under_way { self.new.state.under_way ≡ self.old.state.under_way }
-        ensures rules { self.new.rules.now ≡ self.old.rules.now }
+        ensures { IsSecondLater self.old self.new }
     {
         self.state.opened = 0;
     }
@@ -123,6 +123,7 @@ impl<'r> Guard<'r> {
         ensures judged { IfOk result (λ ruling. IsJudged self.old (viewed message.now) ruling self.new) }
         ensures rules { self.new.rules.now ≡ self.old.rules.now }
         ensures comes_back { self.new.comes_back ≡ self.old.comes_back }
+        ensures closed { self.new.closed ≡ self.old.closed }
     {
         if self.comes_back {
             return Ok(self.state.judge_back(message));
@@ -162,7 +163,7 @@ impl<'r> Visitor for Guard<'r> {
             return Ok(false);
         }
         let ruling = self.judge(message)?;
-        let goes_on = !matches!(ruling, Ruling::Closes(_));
+        let goes_on = ruling.breach().is_none();
         drop(mem::replace(&mut self.ruling, Some(ruling)));
         self.call = self.call_in(message);
         Ok(goes_on)

@@ -3,6 +3,7 @@
 ghost use Rattle.cp_relay.specs.Allowed.{OnlyAllowed, AllowedPass};
 ghost use Rattle.cp_relay.specs.Once.{AnsweredOnce, DropsFinishes, Remembers};
 ghost use Rattle.cp_relay.specs.Runs.{FeedsStream, FeedsSame};
+ghost use Rattle.cp_relay.specs.Traffic.{OnlyJudgedGoes, NothingAfter};
 
 use crate::visitor::Visitor;
 
@@ -25,4 +26,11 @@ pub fn answered_once()
     ensures answers { AnsweredOnce }
     ensures drops { DropsFinishes }
     ensures remembers { Remembers }
+{}
+
+/// Whatever bytes the two ends of a guarded connection send, in whatever pieces, what goes out is what was judged of the first messages of
+/// each stream, one after another, and nothing else. Once a filter has stopped, nothing more goes out in either direction.
+pub fn only_judged()
+    ensures judged { OnlyJudgedGoes }
+    ensures over { NothingAfter }
 {}

@@ -19,7 +19,7 @@ mod visitor;
 pub use fault::{RelayCause, RelayFault};
 pub use filter::{Filter, FilterFault};
 pub use guard::{Guard, JudgedCall};
-pub use laws::{answered_once, any_cut, only_allowed};
+pub use laws::{answered_once, any_cut, only_allowed, only_judged};
 pub use output::Output;
 pub use relay::Relay;
 pub use rules::{CallLimits, MethodId, MethodName, Rules};

@@ -43,7 +43,7 @@ impl Model for Relay {
 
 impl Relay {
     ghost use Rattle.std.specs.Prelude.{◌≡◌, ◌⊎◌, ◌+◌, [], IfOk, IfErr, IfNone, IfSome, OnOk, Some, None, length};
-    ghost use Rattle.cp_relay.specs.Relay.{StandsFor, GivesNext, GivesNone, Gives, StopsAt, EndsWell, EndsInside, HoldsLittle, new_relay};
+    ghost use Rattle.cp_relay.specs.Relay.{StandsFor, GivesNext, GivesNone, Gives, StopsAt, StopsNextAt, EndsWell, EndsInside, HoldsLittle, new_relay};
 
     /// A relay of a stream in this form, to which nothing has come.
     pub fn new(alloc: Global, mode: Mode, output: Output, limits: Limits) -> Relay
@@ -104,7 +104,7 @@ impl Relay {
     ) -> Result<Option<&'a [u8]>, RelayFault>
         ensures given { IfOk result (λ next. IfSome next (λ back. GivesNext V.says self.old piece.now self.new visitor.old visitor.new out.old.items out.new.items back.now)) }
         ensures none { IfOk result (λ next. IfNone next (GivesNone V.says self.old piece.now self.new visitor.old visitor.new out.old.items out.new.items)) }
-        ensures stopped { IfErr result (StopsAt V.says self.old piece.now self.new visitor.old visitor.new out.old.items out.new.items) }
+        ensures stopped { IfErr result (StopsNextAt V.says self.old piece.now self.new visitor.old visitor.new) }
         ensures nothing { IfErr result (λ fault. out.new.items ≡ out.old.items) }
     {
         self.go_on()?;

@@ -25,6 +25,10 @@ bad_outcome = outcomes.Failed (exception_of kinds.Failed (codes "bad outcome"))
 abbrev pub refused_call : Outcome
 refused_call = outcomes.Failed (exception_of kinds.Failed (codes "call refused"))
 
+-- what a call fails with that was to be answered later, and that was dropped before
+abbrev pub dropped_call : Outcome
+dropped_call = outcomes.Failed (exception_of kinds.Failed (codes "the call was dropped without an answer"))
+
 -- what a call fails with of a method that the object doesn't have
 abbrev pub no_such_method : Outcome
 no_such_method = outcomes.Failed (exception_of kinds.Unimplemented (codes "no such method"))

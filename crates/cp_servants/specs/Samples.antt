@@ -1,6 +1,7 @@
 -- What the samples answer to calls and to polls.
-use Rattle.std.specs.Prelude.{◌≡◌, ℕ, ◌+◌, ◌-◌, ◌%◌, ◌^◌, Bool, ◌&&◌, ◌==◌, if◌then◌else◌, List, [], ◌∷◌, ◌++◌, Option, Some, None, map, slice_index_or}
-use Rattle.cp_tree.specs.Node.{Node, cap, struct, node, no_nodes, data_of}
+use Rattle.std.specs.Prelude.{◌≡◌, ℕ, ◌+◌, ◌-◌, ◌%◌, ◌^◌, Bool, ◌&&◌, ◌==◌, if◌then◌else◌, List, [], ◌∷◌, ◌++◌, Option, Some, None, map}
+use Rattle.cp_fields.specs.Numbers.{plain}
+use Rattle.cp_tree.specs.Node.{Node, cap, struct, node, no_nodes}
 use Rattle.cp_refs.specs.declared.cap.Cap.TheVariants as caps
 use Rattle.cp_refs.specs.declared.call.Request.{Request}
 use Rattle.cp_refs.specs.declared.outcome.Outcome.{Outcome}
@@ -28,15 +29,15 @@ abbrev pub object_results : ℕ → Outcome
 object_results k = outcomes.Results (struct [] (node (cap 0) no_nodes)) (caps.Object k ∷ [])
 
 -- the call is one of this method of this interface
-abbrev pub next_calls_for : Request → ℕ → ℕ → Bool
-next_calls_for request interface method = request.interface == interface && request.method == method
+abbrev pub is_call_of : Request → ℕ → ℕ → Bool
+is_call_of request interface method = request.interface == interface && request.method == method
 
 -- The Desk gives out object 1: by method 0 at once, by method 1 later.
 abbrev pub desk_takes : List Due → ℕ → Request → Reply × List Due
 desk_takes due ticket request =
     let imports = named_imports request.caps in
-    if next_calls_for request 0xe5a1000000000001 0 then (replies.Now (object_results 1) imports, due)
-    else (if next_calls_for request 0xe5a1000000000001 1 then (replies.Later, due ++ record { ticket = ticket; polls = 2; imports = imports } ∷ [])
+    if is_call_of request 0xe5a1000000000001 0 then (replies.Now (object_results 1) imports, due)
+    else (if is_call_of request 0xe5a1000000000001 1 then (replies.Later, due ++ record { ticket = ticket; polls = 2; imports = imports } ∷ [])
     else (replies.Now no_such_method imports, due))
 
 -- one poll less goes by before a call's turn
@@ -55,7 +56,7 @@ desk_settles (Some due) = Some (record { ticket = due.ticket; outcome = object_r
 
 -- The Cell's number, with the first data word of the params added to it by method 0.
 abbrev pub first_word : Node → ℕ
-first_word content = slice_index_or (data_of content) 0 0
+first_word content = plain content 64 0
 
 -- what a call of a method comes to whose params begin with this word, and the Cell's number then
 abbrev pub cell_gives : ℕ → ℕ → ℕ → ℕ → Outcome × ℕ

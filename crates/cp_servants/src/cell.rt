@@ -7,9 +7,8 @@ use crate::outcomes::{named_imports, no_such_method};
 use crate::request::RequestView;
 use crate::sample_outcomes::word_results;
 use crate::servant::{Reply, Servant, Settled};
-use cp_reading::View;
+use cp_fields::{PointerReader, StructReader};
 use cp_refs::{Outcome, Request};
-use cp_tree::{Shape, Whole};
 use std::alloc::{AllocError, Global};
 
 /// The Cell's interface.
@@ -66,7 +65,7 @@ impl Servant for Cell {
 
     fn call(&mut self, _ticket: u64, request: Request) -> Result<Reply, AllocError> {
         let gives_up = named_imports(self.alloc, &request.caps)?;
-        let amount = first_word(&request.content);
+        let amount = first_word(PointerReader::of_whole(&request.content));
         let outcome = self.outcome_of(request.interface, request.method, amount)?;
         Ok(Reply::Now { outcome, gives_up })
     }
@@ -79,7 +78,7 @@ impl Servant for Cell {
         request: RequestView<'_>,
     ) -> Result<Reply, AllocError> {
         let gives_up = named_imports(self.alloc, &request.caps)?;
-        let amount = first_word_viewed(&request.content);
+        let amount = first_word(request.content);
         let outcome = self.outcome_of(request.interface, request.method, amount)?;
         Ok(Reply::Now { outcome, gives_up })
     }
@@ -90,18 +89,11 @@ impl Servant for Cell {
 }
 
 /// The first data word of a struct; 0 where it has none.
-fn first_word(content: &Whole) -> u64
-    ensures { result ≡ first_word content.now }
+fn first_word(content: PointerReader<'_>) -> u64
+    ensures { result ≡ first_word content.entry }
 {
-    content.tree().data().first().copied().unwrap_or(0)
-}
-
-/// The same of one that is read in place.
-fn first_word_viewed(content: &View<'_>) -> u64
-    ensures { result ≡ first_word content.now }
-{
-    match content.shape() {
-        Shape::Struct { .. } => content.words().first().copied().unwrap_or(0),
-        _ => 0,
+    match StructReader::of(content) {
+        Ok(params) => params.u64(0),
+        Err(_) => 0,
     }
 }

@@ -1,7 +1,7 @@
 //! What calls come to, as drivers and objects make it.
 
 ghost use Rattle.std.specs.Prelude.{◌≡◌, IfOk, OnOk};
-ghost use Rattle.cp_servants.specs.Outcomes.{exception_of, no_such_object, bad_outcome, no_such_method, named_imports, noted_with, refused_call, results_too_long};
+ghost use Rattle.cp_servants.specs.Outcomes.{exception_of, no_such_object, bad_outcome, no_such_method, dropped_call, named_imports, noted_with, refused_call, results_too_long};
 
 use cp_refs::{Cap, Caps, Outcome};
 use cp_rpc::{Exception, ExceptionKind, Text};
@@ -30,6 +30,16 @@ pub fn refused_call(alloc: Global) -> Result<Outcome, AllocError>
 {
     let kind = ExceptionKind::Failed;
     Ok(Outcome::Failed(exception(alloc, kind, "call refused")?))
+}
+
+/// The exception of a call that was to be answered later, and that was dropped before: failed,
+/// `the call was dropped without an answer`.
+pub fn dropped_call(alloc: Global) -> Result<Outcome, AllocError>
+    ensures { IfOk result (λ o. o ≡ dropped_call) }
+{
+    let kind = ExceptionKind::Failed;
+    let reason = "the call was dropped without an answer";
+    Ok(Outcome::Failed(exception(alloc, kind, reason)?))
 }
 
 /// The exception of a call of a method that the object doesn't have: unimplemented, `no such method`.

@@ -6,25 +6,11 @@ ghost use Rattle.cp_servants.specs.Servant.{NextCallsAt, CallsAt, PollsAt, OnRes
 
 use crate::request::RequestView;
 use crate::servant::{OutgoingCall, Reply, Servant, Settled};
-use cp_refs::{Outcome, Request};
+use cp_refs::Outcome;
 use std::alloc::{AllocError, Global};
 
 /// Calls the object at a place, under a ticket. `Err`: memory ran out for it.
 pub fn call_at<O: Servant>(
-    objects: &mut [O],
-    place: usize,
-    ticket: u64,
-    request: Request,
-) -> Result<Reply, AllocError>
-    requires { place < length objects.old }
-    ensures { IfOk result (λ reply. CallsAt O.kind place ticket request reply objects.old objects.new) }
-{
-    let reply = objects[place].call(ticket, request)?;
-    Ok(reply)
-}
-
-/// Calls the object at a place, under a ticket, with params that are lent. `Err`: memory ran out for it.
-pub fn call_view_at<O: Servant>(
     alloc: Global,
     objects: &mut [O],
     place: usize,

@@ -518,6 +518,7 @@ rests_new mode = record {
     none_call = refl;
     none_asked = refl;
     none_held = refl;
+    none_given = refl;
     happens = refl;
     bytes = [];
     frames = refl;

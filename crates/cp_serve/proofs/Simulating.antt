@@ -60,7 +60,7 @@ use Rattle.cp_dispatch.specs.Work as objects
 use Rattle.cp_dispatch.specs.Calling as calling
 use Rattle.cp_dispatch.specs.PromiseRequests as pledging
 use Rattle.cp_dispatch.specs.Rounds as rounds
-use Rattle.cp_dispatch.proofs.Holding.{holds_unnoted, gives_up_all, tries_all}
+use Rattle.cp_dispatch.proofs.Holding.{holds_unnoted, gives_unnoted, gives_up_all, tries_all}
 use Rattle.cp_serve.specs.Work.{Work, Did, IsDone, Answers, is_taken, was_closed, is_replaced, Replies, Tries, is_released, is_used, is_dropped, TriesEach, Releases}
 use Rattle.cp_serve.specs.Service.{Delivers, to_object, to_none, WorksOff, none_left, acts, Settles, gives_none, is_stranger, is_awaited, PollsFrom, Rounds, TakesMessage, takes, written}
 use Rattle.cp_serve.specs.Service as service
@@ -236,6 +236,7 @@ module _ (base : Link) (w : Work) (o : objects.Work) (h : Matches base w o) wher
     none_call = h.none_call;
     none_asked = h.none_asked;
     none_held = h.none_held;
+    none_given = h.none_given;
     happens = h.happens;
     bytes = h.bytes;
     frames = h.frames;
@@ -263,6 +264,7 @@ module _ (base : Link) (w : Work) (o : objects.Work) (h : Matches base w o) wher
     none_call = h.none_call;
     none_asked = h.none_asked;
     none_held = h.none_held;
+    none_given = h.none_given;
     happens = happens;
     bytes = h.bytes;
     frames = subst (λ (ms : List Message). AreFramesOf base.mode ms h.bytes) (sym all) h.frames;
@@ -299,6 +301,7 @@ module _ (base : Link) (w : Work) (o : objects.Work) (h : Matches base w o) wher
         none_call = h.none_call;
         none_asked = h.none_asked;
         none_held = h.none_held;
+        none_given = h.none_given;
         happens = d.happens ∙ ap (λ (x : List ConnectionEvent). x ++ happening_by d.effects) h.happens ∙ sym (happening_both w.effects d.effects here.1);
         bytes = h.bytes ++ d.bytes;
         frames =
@@ -446,11 +449,11 @@ follows_replies {base = base} {w = w} {o = o} h origin ticket replies.Later r =
           (owes base w o h a (insert o.awaited ticket origin) w.given_up o.given_up (ap (λ (t : Table Origin). insert t ticket origin) h.awaited) h.given_up),
     )
 
-follows_settles : {base : Link} {w : Work} {o new : objects.Work} → Matches base w o → (settled : Option Settled) (gave : Bool) → rounds.Settles (λ outcome. outcome) o settled gave new
+follows_settles : {base : Link} {w : Work} {o new : objects.Work} → Matches base w o → (settled : Option Settled) (gave : Bool) → calling.Settles (λ outcome. outcome) o settled gave new
     → (next : Work) × Settles w settled gave next × Matches base next new
-follows_settles {w = w} h settled gave rounds.gives_none = (w, gives_none, h)
-follows_settles {w = w} h settled gave (rounds.is_stranger s none) = (w, is_stranger s (ap (λ (t : Table Origin). get t s.ticket) (sym h.awaited) ∙ none), h)
-follows_settles {base = base} {w = w} {o = o} h settled gave (rounds.is_awaited s origin link {mid = mid} got gives answers e) =
+follows_settles {w = w} h settled gave calling.gives_none = (w, gives_none, h)
+follows_settles {w = w} h settled gave (calling.is_stranger s none) = (w, is_stranger s (ap (λ (t : Table Origin). get t s.ticket) (sym h.awaited) ∙ none), h)
+follows_settles {base = base} {w = w} {o = o} h settled gave (calling.is_awaited s origin link {mid = mid} got gives answers e) =
     let taken : objects.Work = record o { awaited = remove o.awaited s.ticket } in
     let owed : objects.Work = record o { awaited = remove o.awaited s.ticket; given_up = o.given_up ++ s.gives_up } in
     let all : mid ≡ owed = gives_up_all s.gives_up taken h.none_held gives in
@@ -470,8 +473,12 @@ module _ {A : Type 0} {kind : Kind A} where
   next_none off (calling.next_calls link may still asked kept is) = absurd (true≢false (sym may ∙ off))
   next_none off (calling.is_unasked why none still same) = (none, still, same)
 
+  settles_none : {o new : objects.Work} {seen others : Vec A} → calling.SettlesEach (listed kind) o new seen others → (new ≡ o) × (others ≡ seen)
+  settles_none (calling.none_left none) = (refl, none.1)
+  settles_none (calling.settles settled gave handed settles rest) = none_out (sym handed.0)
+
   no_calls : {number : ℕ} {o new : objects.Work} {seen others : Vec A} → o.may_call ≡ false → calling.MakesCalls (listed kind) number o new seen others → (new ≡ o) × (others ≡ seen)
-  no_calls off (calling.makes_none next) = let none = next_none off next in (none.1, none.2)
+  no_calls off (calling.makes_none next settled) = let none = next_none off next in let all = settles_none settled in (all.0 ∙ none.1, all.1 ∙ none.2)
   no_calls off (calling.makes_one next_call next made more) = none_out (sym (next_none off next).0)
 
 -- ---- objects of a list make no promises
@@ -583,6 +590,11 @@ module _ {base : Link} {o : objects.Work} (first : ConnectionEvent) (link : Link
         here : Matches base (record v { effects = rest }) (record o { link = link })
         here = one_taken (effects.Settled q outcome) rest e refl refl tails
 
+        noted_alone : calling.NotesOutcome q outcome (record o { link = link }) mid → mid ≡ record o { link = link; notices = o.notices ++ notices.Settled q outcome ∷ [] }
+        noted_alone notes =
+            notes.2
+            ∙ ap (λ (x : objects.Work). record x { notices = x.notices ++ notices.Settled q outcome ∷ [] }) (gives_unnoted (caps_of outcome) (record o { link = link }) h.none_call notes.1)
+
         by : calling.HandsBack (listed kind) q outcome (record o { link = link }) mid seen between → Acted kind base v mid seen between
         by (calling.to_user none notes same) = (
           effects.Settled q outcome,
@@ -590,7 +602,7 @@ module _ {base : Link} {o : objects.Work} (first : ConnectionEvent) (link : Link
           record v { effects = rest },
           e,
           (refl, ap (λ (v : Vec A). v.items) same),
-          subst (λ (x : objects.Work). Matches base (record v { effects = rest }) x) (sym notes)
+          subst (λ (x : objects.Work). Matches base (record v { effects = rest }) x) (sym (noted_alone notes))
               (worked base (record v { effects = rest }) (record o { link = link }) here rest v.sent v.closed link.happened (o.notices ++ notices.Settled q outcome ∷ []) tails refl here.closes_by refl
               (reason_settled o.notices q outcome ∙ here.reason)),
         )
@@ -646,7 +658,7 @@ module _ {A : Type 0} {kind : Kind A} where
   follows_polls {base = base} {o = o} (rounds.has_ended some) w h rest = (w, service.is_closed (closed_work base w o h some rest), h, rest)
   follows_polls {base = base} {o = o} {seen = seen} {others = others} {gave = gave} (rounds.polls {mid = mid} {last = last} number settled first more still next polled pledged settles calls off tail e) w h rest =
       let quiet = no_promise_requests pledged in
-      let one = follows_settles h settled first (subst (λ (l : Link). rounds.Settles (λ outcome. outcome) (record o { link = l }) settled first mid) quiet.0 settles) in
+      let one = follows_settles h settled first (subst (λ (l : Link). calling.Settles (λ outcome. outcome) (record o { link = l }) settled first mid) quiet.0 settles) in
       let none = no_calls one.2.none_call calls in
       let two = follows_works_off off one.0 (subst (λ (x : objects.Work). Matches base one.0 x) (sym none.0) one.2) in
       let three = follows_polls tail two.0 two.2 two.3 in
@@ -656,7 +668,7 @@ module _ {A : Type 0} {kind : Kind A} where
 follows_each : {base : Link} (imports : List ℕ) {w : Work} {o new : objects.Work} → Matches base w o → objects.TriesEach o imports new → (next : Work) × TriesEach w imports next × Matches base next new
 follows_each {base = base} [] {w = w} h e = (w, refl, subst (λ (x : objects.Work). Matches base w x) (sym e) h)
 follows_each {base = base} (i ∷ more) {w = w} {o = o} h tries =
-    let one = follows_tries base w o h i tries.0 (tries_all i h.none_held tries.1) in
+    let one = follows_tries base w o h i tries.0 (tries_all i h.none_held h.none_given tries.1) in
     let rest = follows_each more one.2 tries.2 in
     (rest.0, (one.0, one.1, rest.1), rest.2)
 
@@ -710,6 +722,7 @@ rests_after {w = w} {o = o} h none link vat tails happened fault = record {
     none_call = h.none_call;
     none_asked = h.none_asked;
     none_held = h.none_held;
+    none_given = h.none_given;
     happens = happened ∙ h.happens;
     bytes = [];
     frames = subst (λ (es : List Effect). AreFramesOf link.mode (sent_of es) []) (sym none) refl;

@@ -51,6 +51,7 @@ pub record Matches (base : Link) (w : Work) (o : objects.Work) : Type 0 where
   pub none_call : o.may_call ≡ false
   pub none_asked : o.asked ≡ empty
   pub none_held : o.held ≡ empty
+  pub none_given : o.given ≡ empty
   pub happens : o.link.happened ≡ happening_by w.effects
   pub bytes : List ℕ
   pub frames : AreFramesOf base.mode (w.sent ++ sent_of w.effects) bytes

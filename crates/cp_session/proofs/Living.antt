@@ -11,7 +11,7 @@ use Rattle.cp_dispatch.specs.declared.event.DispatchEvent.{DispatchEvent}
 use Rattle.cp_dispatch.specs.Receiving.{IsCutShort, is_unreceived, ran_out}
 use Rattle.cp_dispatch.specs.Rounds.{HandsOver}
 use Rattle.cp_dispatch.specs.Work.{Work, Lives}
-use Rattle.cp_dispatch.proofs.Living.{lives_none}
+use Rattle.cp_dispatch.proofs.Living.{lives_back, lives_none}
 use Rattle.cp_objects.specs.ObjectTable.{ObjectTableKind}
 use Rattle.cp_session.specs.declared.progress.Phase.{Phase}
 use Rattle.cp_session.specs.declared.progress.Phase.TheVariants as phases
@@ -64,8 +64,13 @@ left_link : {H : Type 0} {table : ObjectTableKind H} {old new : State H} {now : 
 left_link {H = H} (doing.stays why same) = ap (λ (s : State H). link_of s) same
 left_link {H = H} (doing.leaves settled same) = ap (λ (s : State H). link_of s) same
 
-settles_link : {H : Type 0} {table : ObjectTableKind H} {old new : State H} {now : ℕ} → doing.Settles table old now new → link_of new ≡ link_of old
-settles_link {H = H} h = left_link h.left_so ∙ ap (λ (s : State H). link_of s) h.heeds
+ended_link : {H : Type 0} {table : ObjectTableKind H} {old new : State H} {now : ℕ} → doing.EndsObjects table now old new → link_of new ≡ link_of old
+ended_link {H = H} (doing.not_yet why same) = ap (λ (s : State H). link_of s) same
+ended_link {H = H} (doing.each_told at done times ends same) = ap (λ (s : State H). link_of s) same
+ended_link {H = H} (doing.ran_out done same) = ap (λ (s : State H). link_of s) same
+
+pub settles_link : {H : Type 0} {table : ObjectTableKind H} {old new : State H} {now : ℕ} → doing.Settles table old now new → link_of new ≡ link_of old
+settles_link {H = H} h = ended_link h.ends ∙ left_link h.left_so ∙ ap (λ (s : State H). link_of s) h.heeds
 
 -- what a connection takes of bytes that are given
 taken_draining : (phase : Phase) (given : List ℕ) → IsDraining phase → taken_in phase given ≡ []
@@ -159,6 +164,7 @@ does_life {H = H} {old = old} (runs.writes count now wrote is) =
 does_life {old = old} (runs.ticks now ticked is) =
     life_of_transfer is
     (life_same (life_then (life_refused (life_none (link_of old)) ticked.told ticked.refuses) (goes_by_lives ticked.goes_by)) (settles_link ticked.settles))
+does_life {H = H} {old = old} (runs.closes now closed is) = life_of_transfer is (life_same (life_none (link_of old)) (settles_link closed))
 does_life (runs.refuses now refused is) = life_of_transfer is (refused_life refused)
 does_life {H = H} {old = old} (runs.tells event told is) =
     life_of_transfer is
@@ -167,6 +173,8 @@ does_life {H = H} {old = old} (runs.wakes object woken is) = life_of_transfer is
 does_life {H = H} {old = old} (runs.hands_on waker handed is) = life_of_transfer is (life_same (life_none (link_of old)) (ap (λ (s : State H). link_of s) handed.1))
 does_life {H = H} (runs.calls call is_call did is) =
     life_of_transfer is (life_same (life_one (life.acts call.event call.result is_call did.1)) (ap (λ (s : State H). link_of s) did.2))
+does_life {H = H} (runs.gives_back import result back is) =
+    life_of_transfer is (life_same (life_of (lives_back back.gives_back)) (ap (λ (s : State H). link_of s) back.same))
 
 runs_life : {H : Type 0} {table : ObjectTableKind H} {first last : State H} {transfer : Transfer} → Runs table first transfer last → IsLife (link_of first) transfer.taken transfer.written (link_of last)
 runs_life {first = first} runs.begins = life_none (link_of first)

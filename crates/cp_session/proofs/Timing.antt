@@ -83,8 +83,14 @@ module _ {H : Type 0} (table : ObjectTableKind H) (stay : (objects : H) → tabl
   left_still (doing.stays why same) none = same_still same none
   left_still (doing.leaves settled same) none = same_still same none
 
+  ended_still_so : {old new : State H} {now : ℕ} → doing.EndsObjects table now old new → SeeksNone old → SeeksNone new
+  ended_still_so (doing.not_yet why same) none = same_still same none
+  ended_still_so {old = old} {new = new} (doing.each_told at done times ends same) none =
+      still old new (ap (λ (s : State H). s.service.sweep) same) (ap (λ (s : State H). s.progress.fault) same) none
+  ended_still_so {new = new} (doing.ran_out done same) none = failing new _ (ap (λ (s : State H). s.progress.fault) same)
+
   settled_still : {old new : State H} {now : ℕ} → doing.Settles table old now new → SeeksNone old → SeeksNone new
-  settled_still h none = left_still h.left_so (same_still h.heeds none)
+  settled_still h none = ended_still_so h.ends (left_still h.left_so (same_still h.heeds none))
 
   received_still : {old new : State H} (piece : List ℕ) (now count : ℕ) → doing.Receives table old piece now count new → SeeksNone old → SeeksNone new
   received_still piece now count (doing.drops draining all same) none = same_still same none
@@ -136,6 +142,7 @@ module _ {H : Type 0} (table : ObjectTableKind H) (stay : (objects : H) → tabl
   done_still (runs.ends now done is) none = ended_still done none
   done_still (runs.ends_inside now fault cut is) none = settled_still cut.settles (failing cut.mid _ (ap (λ (p : Progress). p.fault) cut.unfinished.progress))
   done_still (runs.polls now done is) none = polled_still done none
+  done_still (runs.closes now closed is) none = settled_still closed none
   done_still (runs.runs_out now out is) none = settled_still out.settles (failing out.mid _ (ap (λ (p : Progress). p.fault) out.unworked.progress))
   done_still (runs.writes count now wrote is) none = settled_still wrote.settles (same_still wrote.moves none)
   done_still (runs.ticks now ticked is) none = ticked_still ticked none
@@ -144,6 +151,7 @@ module _ {H : Type 0} (table : ObjectTableKind H) (stay : (objects : H) → tabl
   done_still (runs.wakes object woken is) none = same_still woken.1 none
   done_still (runs.hands_on waker handed is) none = same_still handed.1 none
   done_still (runs.calls call is_call did is) none = same_still did.2 none
+  done_still (runs.gives_back import result back is) none = same_still back.same none
 
   run_still : {first last : State H} {transfer : Transfer} → Runs table first transfer last → SeeksNone first → SeeksNone last
   run_still runs.begins none = none

@@ -1,6 +1,5 @@
 -- What each call does to a session.
 use Rattle.std.specs.Prelude.{◌≡◌, ◌≢◌, ◌⊎◌, ℕ, ◌<◌, ◌≤◌, nat_lt, if◌then◌else◌, Bool, true, IsSome, is_some, ◌||◌, List, [], ◌∷◌, ◌++◌, ◌^◌, Option, Some, None, Result, length}
-use Rattle.std.specs.Global.{Vec}
 use Rattle.cp_frame.specs.Reader.{taken_of}
 use Rattle.cp_refs.specs.declared.cap.Cap.{Cap}
 use Rattle.cp_refs.specs.declared.cap.Cap.TheVariants as caps
@@ -17,11 +16,13 @@ use Rattle.cp_objects.specs.declared.objects.Objects.{Objects}
 use Rattle.cp_objects.specs.declared.waker.Waker.{Waker}
 use Rattle.cp_objects.specs.Objects.{adding, objects_of}
 use Rattle.cp_objects.specs.ObjectTable.{ObjectTableKind}
+use Rattle.cp_objects.specs.Context.{next_number}
 use Rattle.cp_dispatch.specs.declared.event.DispatchEvent.{DispatchEvent}
 use Rattle.cp_dispatch.specs.declared.event.DispatchEvent.TheVariants as notices
 use Rattle.cp_dispatch.specs.Receiving.{IsCutShort}
 use Rattle.cp_dispatch.specs.Rounds.{HandsOver}
 use Rattle.cp_dispatch.specs.Work.{Work, Lives}
+use Rattle.cp_dispatch.specs.Work as works
 use Rattle.cp_session.specs.declared.event.SessionEvent.{SessionEvent}
 use Rattle.cp_session.specs.declared.event.SessionEvent.TheVariants as events
 use Rattle.cp_session.specs.declared.progress.Limit.{Limit}
@@ -30,9 +31,9 @@ use Rattle.cp_session.specs.declared.progress.Phase.{Phase}
 use Rattle.cp_session.specs.declared.progress.Phase.TheVariants as phases
 use Rattle.cp_session.specs.Kept.{kept_of}
 use Rattle.cp_session.specs.Refusing.{Refuses}
-use Rattle.cp_session.specs.Progress.{deadline_of, earlier, ended_again, excess_by, failed, finished, heeding, left, met, taken_at, IsDraining, TicksTo}
+use Rattle.cp_session.specs.Progress.{deadline_of, earlier, ended_again, excess_by, failed, finished, heeding, left, met, over, taken_at, IsDraining, TicksTo}
 use Rattle.cp_session.specs.Serves.{Ends, HasGiven, IsUnended, MayGive, Takes, WorksOn}
-use Rattle.cp_session.specs.State.{State, link_of, linked, with_progress}
+use Rattle.cp_session.specs.State.{State, link_of, linked, with_progress, worked}
 use Rattle.cp_session.specs.Sweep.{HasCome, SweepsInTime}
 
 -- the one fault, or else the other
@@ -47,22 +48,13 @@ ending_by None (Some fault) phase = Some (events.Fault fault)
 ending_by None None phases.Over = Some events.Ended
 ending_by None None other = None
 
--- The capability of the object that is added to so many, if there is a number for it.
-abbrev pub next_cap : ℕ → Option Cap
-next_cap n = if nat_lt n (2 ^ 32) then Some (caps.Object n) else None
-
 -- nothing but the objects changed
 abbrev pub KeepsRest : {H : Type 0} → State H → State H → Type 0
 KeepsRest old new = new ≡ record old { objects = new.objects }
 
--- nothing but the list of the objects changed, and it has these
-abbrev pub Lists : {A : Type 0} → List A → State (Vec A) → State (Vec A) → Type 0
-Lists items old new = (new ≡ record old { objects = new.objects }) × (new.objects.items ≡ items)
-
--- an object more is there, if it has a capability
-abbrev pub Exports : {A : Type 0} → Option Cap → A → State (Vec A) → State (Vec A) → Type 0
-Exports (Some cap) object old new = Lists (old.objects.items ++ object ∷ []) old new
-Exports None object old new = new ≡ old
+-- the capability of the object that is added next
+abbrev pub next_cap : {A : Type 0} → State (Objects A) → Cap
+next_cap state = caps.Object (next_number (objects_of state.objects).context)
 
 -- there is an object more, which stays, and nothing else changed
 abbrev pub Adds : {A : Type 0} → A → State (Objects A) → State (Objects A) → Type 0
@@ -78,6 +70,10 @@ module _ {H : Type 0} where
   abbrev pub IsStopped : State H → Type 0
   IsStopped state = IsSome (link_of state).fault ⊎ (IsSome state.progress.fault ⊎ IsSome state.progress.limit)
 
+  -- nothing is given any more: it stopped, or all went out after the peer's bytes ended
+  abbrev pub IsDone : State H → Type 0
+  IsDone state = IsStopped state ⊎ (IsDraining state.progress.phase ⊎ (state.progress.phase ≡ phases.Over))
+
   -- the same, as a test
   abbrev pub is_stopped : State H → Bool
   is_stopped state = is_some (link_of state).fault || (is_some state.progress.fault || is_some state.progress.limit)
@@ -85,6 +81,12 @@ module _ {H : Type 0} where
   -- nothing but its connection changed
   abbrev pub Did : State H → machine.Event → Result Value ConnectionFault → State H → Type 0
   Did old event result new = (link : Link) × Acts (link_of old) event result link × (new ≡ linked old link)
+
+  -- The program gave an import back that outcomes named, and nothing else was done.
+  pub record GivesBack (import : ℕ) (old : State H) (result : Result Value ConnectionFault) (new : State H) : Type 0 where
+    pub work : Work
+    pub gives_back : works.GivesBack import old.service.work result work
+    pub same : new ≡ worked old work
 
   -- when a limit of time is met, if no byte moves before
   abbrev pub limit_of : State H → Option ℕ
@@ -100,9 +102,9 @@ module _ {H : Type 0} (table : ObjectTableKind H) where
   abbrev pub GivesMore : State H → Type 0
   GivesMore state = (IsStopped state → ⊥) × MayGive table state.service state.objects
 
-  -- why nothing is given, whatever the objects say
+  -- why nothing is given
   abbrev pub GivesNone : State H → Type 0
-  GivesNone state = IsStopped state ⊎ HasGiven state.service
+  GivesNone state = IsStopped state ⊎ HasGiven table state.service state.objects
 
   -- nothing is taken, all went out, and nothing more is given
   pub record IsSettled (state : State H) : Type 0 where
@@ -119,11 +121,23 @@ module _ {H : Type 0} (table : ObjectTableKind H) where
     stays : IsUnsettled old → new ≡ old → Leaves old now new
     leaves : IsSettled old → new ≡ with_progress old (left old.progress now) → Leaves old now new
 
-  -- Where the connection ended nothing more is taken. Then the session is left if it is settled.
+  -- Once nothing is given any more each object is told its end, at this time, and none is left. Where memory runs out some may be left, which weren't told, and that is the session's fault.
+  pub data EndsObjects (now : ℕ) (old new : State H) : Type 0 where
+    not_yet : (IsDone old → ⊥) → new ≡ old → EndsObjects now old new
+    each_told : (at : H) → IsDone old → table.is_at now old.objects at → table.ends_all at new.objects → KeepsRest old new → EndsObjects now old new
+    ran_out : IsDone old → new ≡ record old { objects = new.objects; progress = failed old.progress faults.OutOfMemory } → EndsObjects now old new
+
+  -- Where the connection ended nothing more is taken. Then the session is left if it is settled. Then the objects are told their end, if nothing is given any more.
   pub record Settles (old : State H) (now : ℕ) (new : State H) : Type 0 where
     pub heeded : State H
     pub heeds : heeded ≡ with_progress old (heeding (link_of old).fault old.progress)
-    pub left_so : Leaves heeded now new
+    pub gone : State H
+    pub left_so : Leaves heeded now gone
+    pub ends : EndsObjects now gone new
+
+  -- the stream is gone, or the program wants no more: the session is over
+  abbrev pub Closes : State H → ℕ → State H → Type 0
+  Closes old now new = Settles (with_progress old (over old.progress)) now new
 
   -- The first bytes of a piece were taken at this time, up to the end of a message, and what that asks of the objects was done.
   pub record TakesIn (old : State H) (piece : List ℕ) (now count : ℕ) (new : State H) : Type 0 where
@@ -205,7 +219,7 @@ module _ {H : Type 0} (table : ObjectTableKind H) where
   abbrev pub HasMore : State H → Type 0
   HasMore state = (length (link_of state).unwritten ≤ state.limits.ahead) × GivesMore state
 
-  -- why nothing is given now, whatever the objects say
+  -- why nothing is given now
   abbrev pub HasNone : State H → Type 0
   HasNone state = (state.limits.ahead < length (link_of state).unwritten) ⊎ GivesNone state
 

@@ -1,11 +1,16 @@
 -- What follows of what is done with a session.
 use Rattle.std.specs.Prelude.{◌≡◌, ◌⊎◌, ℕ, ◌<◌, List, [], None, IsSome}
+use Rattle.std.specs.FinMap.{get}
 use Rattle.std.specs.Global.{Vec}
 use Rattle.cp_connection.specs.declared.event.ConnectionEvent.{ConnectionEvent}
 use Rattle.cp_connection.specs.Lives.{Course}
 use Rattle.cp_refs.specs.declared.call.Request.{Request}
+use Rattle.cp_objects.specs.declared.objects.Objects.{Objects}
+use Rattle.cp_objects.specs.Objects.{objects_of}
+use Rattle.cp_objects.specs.Grown.{grown}
 use Rattle.cp_objects.specs.ObjectTable.{ObjectTableKind}
 use Rattle.cp_objects.specs.Listed.{listed}
+use Rattle.cp_objects.specs.ServedObject.{ServedObjectKind}
 use Rattle.cp_dispatch.specs.Rounds.{Gives}
 use Rattle.cp_dispatch.specs.Work.{Work}
 use Rattle.cp_servants.specs.declared.servant.Reply.{Reply}
@@ -22,6 +27,13 @@ use Rattle.cp_session.specs.State.{State, link_of, new_state}
 abbrev pub NobodyServes : {A : Type 0} → Kind A → Type 0
 NobodyServes {A} kind =
     (k ticket : ℕ) (call : Request) (reply : Reply) (old new : Work) (objects others : Vec A) → objects.items ≡ [] → Gives (listed kind) k ticket call reply old new objects others
+    → (reply ≡ replies.Now no_such_object []) × (new ≡ old) × (others ≡ objects)
+
+-- a call of an object that isn't there fails likewise
+abbrev pub NoObjectServes : {A : Type 0} → ServedObjectKind A A → Type 0
+NoObjectServes {A} kind =
+    (k ticket : ℕ) (call : Request) (reply : Reply) (old new : Work) (objects others : Objects A) → get (objects_of objects).members k ≡ None
+    → Gives (grown kind) k ticket call reply old new objects others
     → (reply ≡ replies.Now no_such_object []) × (new ≡ old) × (others ≡ objects)
 
 -- no time is set at which objects are sought that nothing refers to; or nothing more is given, for a fault

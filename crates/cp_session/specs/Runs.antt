@@ -1,6 +1,7 @@
 -- What is done with a session, whatever it is.
 use Rattle.std.specs.Prelude.{◌≡◌, ℕ, List, [], ◌∷◌, ◌++◌, Option, Result, take, option_to_list}
 use Rattle.cp_vat_machine.specs.declared.event.Event as machine
+use Rattle.cp_vat_machine.specs.declared.event.Event.TheVariants as own_calls
 use Rattle.cp_vat_machine.specs.declared.event.Value.{Value}
 use Rattle.cp_connection.specs.declared.fault.ConnectionFault.{ConnectionFault}
 use Rattle.cp_connection.specs.Link.{Link}
@@ -11,7 +12,7 @@ use Rattle.cp_dispatch.specs.Receiving.{IsCutShort, is_unreceived, ran_out}
 use Rattle.cp_session.specs.declared.event.SessionEvent.{SessionEvent}
 use Rattle.cp_session.specs.declared.progress.Phase.{Phase}
 use Rattle.cp_session.specs.declared.progress.Phase.TheVariants as phases
-use Rattle.cp_session.specs.Doing.{Did, EndsBytes, EndsCut, HandsOn, IsRefused, IsUntaken, PollsOn, Receives, RunsOut, Tells, Ticks, Wakes, Writes}
+use Rattle.cp_session.specs.Doing.{Closes, Did, EndsBytes, EndsCut, GivesBack, HandsOn, IsRefused, IsUntaken, PollsOn, Receives, RunsOut, Tells, Ticks, Wakes, Writes}
 use Rattle.cp_session.specs.State.{State, link_of}
 
 -- a call that the program made, and what it gave
@@ -19,13 +20,14 @@ pub record Call : Type 0 where
   pub event : machine.Event
   pub result : Result Value ConnectionFault
 
--- What one call of a session did. It was given these bytes, of which its connection took those, and dropped the others; and it was told that these were written.
--- The program made these calls, woke these objects, refused the peer at these times, and said at those that time passed. These events were handed out, and so were
--- these objects of other sessions, which are to be woken. All the times that it was given are these.
+-- What one call of a session did. It was given these bytes, of which its connection took those, and dropped the others; and it was told that these were written,
+-- and at these times that the peer's bytes ended. The program made these calls, woke these objects, refused the peer at these times, and said at those that time
+-- passed. These events were handed out, and so were these objects of other sessions, which are to be woken. All the times that it was given are these.
 pub record Transfer : Type 0 where
   pub given : List ℕ
   pub taken : List ℕ
   pub written : List ℕ
+  pub ended : List ℕ
   pub called : List Call
   pub roused : List ℕ
   pub refused : List ℕ
@@ -37,11 +39,15 @@ pub record Transfer : Type 0 where
 -- nothing of all this
 abbrev pub nothing : Transfer
 nothing =
-    record { given = []; taken = []; written = []; called = []; roused = []; refused = []; ticked = []; told = []; woken = []; times = [] }
+    record { given = []; taken = []; written = []; ended = []; called = []; roused = []; refused = []; ticked = []; told = []; woken = []; times = [] }
 
 -- a call at this time, and nothing else of all this
 abbrev pub called_at : ℕ → Transfer
 called_at now = record nothing { times = now ∷ [] }
+
+-- the peer's bytes ended at this time, and nothing else of all this
+abbrev pub ending_at : ℕ → Transfer
+ending_at now = record (called_at now) { ended = now ∷ [] }
 
 -- one after the other
 abbrev pub both : Transfer → Transfer → Transfer
@@ -49,6 +55,7 @@ both one other = record {
   given = one.given ++ other.given;
   taken = one.taken ++ other.taken;
   written = one.written ++ other.written;
+  ended = one.ended ++ other.ended;
   called = one.called ++ other.called;
   roused = one.roused ++ other.roused;
   refused = one.refused ++ other.refused;
@@ -80,19 +87,22 @@ module _ {H : Type 0} (table : ObjectTableKind H) where
         → transfer ≡ giving now (take count piece) (taken_in old.progress.phase (take count piece)) → Does old transfer new
     fails : {transfer : Transfer} {new : State H} (piece : List ℕ) (now : ℕ) (fault : ConnectionFault) (cut : IsUntaken table old piece now fault new)
         → transfer ≡ giving now [] (taken_by cut.cut.cut) → Does old transfer new
-    ends : {transfer : Transfer} {new : State H} (now : ℕ) → EndsBytes table old now new → transfer ≡ called_at now → Does old transfer new
-    ends_inside : {transfer : Transfer} {new : State H} (now : ℕ) (fault : ConnectionFault) → EndsCut table old now fault new → transfer ≡ called_at now → Does old transfer new
+    ends : {transfer : Transfer} {new : State H} (now : ℕ) → EndsBytes table old now new → transfer ≡ ending_at now → Does old transfer new
+    ends_inside : {transfer : Transfer} {new : State H} (now : ℕ) (fault : ConnectionFault) → EndsCut table old now fault new → transfer ≡ ending_at now → Does old transfer new
     polls : {transfer : Transfer} {new : State H} (now : ℕ) → PollsOn table old now new → transfer ≡ called_at now → Does old transfer new
     runs_out : {transfer : Transfer} {new : State H} (now : ℕ) → RunsOut table old now new → transfer ≡ called_at now → Does old transfer new
     writes : {transfer : Transfer} {new : State H} (count now : ℕ) → Writes table old count now new
         → transfer ≡ record (called_at now) { written = take count (link_of old).unwritten } → Does old transfer new
     ticks : {transfer : Transfer} {new : State H} (now : ℕ) → Ticks table old now new → transfer ≡ record (called_at now) { ticked = now ∷ [] } → Does old transfer new
     refuses : {transfer : Transfer} {new : State H} (now : ℕ) → IsRefused table old now new → transfer ≡ record (called_at now) { refused = now ∷ [] } → Does old transfer new
+    closes : {transfer : Transfer} {new : State H} (now : ℕ) → Closes table old now new → transfer ≡ called_at now → Does old transfer new
     tells : {transfer : Transfer} {new : State H} (event : Option SessionEvent) → Tells old event new → transfer ≡ record nothing { told = option_to_list event } → Does old transfer new
     wakes : {transfer : Transfer} {new : State H} (object : ℕ) → Wakes table object old new → transfer ≡ record nothing { roused = object ∷ [] } → Does old transfer new
     hands_on : {transfer : Transfer} {new : State H} (waker : Option Waker) → HandsOn table waker old new → transfer ≡ record nothing { woken = option_to_list waker }
         → Does old transfer new
     calls : {transfer : Transfer} {new : State H} (call : Call) → IsCall call.event → Did old call.event call.result new → transfer ≡ record nothing { called = call ∷ [] } → Does old transfer new
+    gives_back : {transfer : Transfer} {new : State H} (import : ℕ) (result : Result Value ConnectionFault) → GivesBack import old result new
+        → transfer ≡ record nothing { called = record { event = own_calls.Release import; result = result } ∷ [] } → Does old transfer new
 
   -- Calls of a session, one after another, and nothing else, which together did this.
   pub data Runs (first : State H) : Transfer → State H → Type 0 where

@@ -12,10 +12,6 @@ use Rattle.cp_session.specs.Search.{Seeks}
 use Rattle.cp_session.specs.Service.{Service, with_link}
 use Rattle.cp_session.specs.Sweep.{Sweeps}
 
--- whatever the objects say, nothing more is given: none gave what was awaited at the last poll, and all that happened was worked off
-abbrev pub HasGiven : Service → Type 0
-HasGiven service = (service.gave ≡ false) × (service.work.link.happened ≡ [])
-
 -- Of objects of one kind.
 module _ {H : Type 0} (table : ObjectTableKind H) where
   -- Each object is polled once that is to be. Then the imports and promises go that nobody holds, where that is due, and the objects are dropped that nothing refers
@@ -60,7 +56,12 @@ module _ {H : Type 0} (table : ObjectTableKind H) where
   -- what may be given though nothing more comes: an object gave what was awaited at the last poll, or says that it may give more; or something happened that
   -- wasn't worked off
   abbrev pub MayGive : Service → H → Type 0
-  MayGive service objects = (service.gave ≡ true) ⊎ ((service.work.link.happened ≢ []) ⊎ table.may_go_on objects)
+  MayGive service objects = (service.gave ≡ true) ⊎ ((service.work.link.happened ≢ []) ⊎ table.says_more true objects)
+
+  -- nothing more is given though nothing more comes: no object gave what was awaited at the last poll, all that happened was worked off, and no object says that
+  -- it may give more
+  abbrev pub HasGiven : Service → H → Type 0
+  HasGiven service objects = (service.gave ≡ false) × (service.work.link.happened ≡ []) × table.says_more false objects
 
 -- Why the peer's bytes don't end well: they end inside a message, and no object was polled; or memory ran out after that.
 pub data IsUnended {H : Type 0} (old : Link) (fault : ConnectionFault) (new : Link) (objects others : H) : Type 0 where

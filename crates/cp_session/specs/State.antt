@@ -1,10 +1,11 @@
 -- A session, as its program and its driver see it.
 use Rattle.std.specs.Prelude.{ℕ}
 use Rattle.cp_connection.specs.Link.{Link}
+use Rattle.cp_dispatch.specs.Work.{Work}
 use Rattle.cp_session.specs.declared.limits.SessionLimits.{SessionLimits}
 use Rattle.cp_session.specs.declared.options.SessionOptions.{SessionOptions}
 use Rattle.cp_session.specs.declared.progress.Progress.{Progress}
-use Rattle.cp_session.specs.declared.session.Session.{Session}
+use Rattle.cp_session.specs.declared.session.SessionOver.{SessionOver}
 use Rattle.cp_session.specs.Progress.{begun}
 use Rattle.cp_session.specs.Service.{Service, service_of, new_service, with_link}
 
@@ -16,7 +17,7 @@ pub record State (H : Type 0) : Type 0 where
   pub progress : Progress
 
 -- a session by its parts
-abbrev pub state_of : {H : Type 0} → Session H → State H
+abbrev pub state_of : {H : Type 0} → SessionOver H → State H
 state_of session = record {
   service = service_of session.endpoint;
   objects = session.objects;
@@ -36,6 +37,10 @@ module _ {H : Type 0} where
   -- the same, with another connection
   abbrev pub linked : State H → Link → State H
   linked state link = record state { service = with_link state.service link }
+
+  -- the same, with other work for its objects
+  abbrev pub worked : State H → Work → State H
+  worked state work = record state { service = record state.service { work = work } }
 
   -- the same, that is so far
   abbrev pub with_progress : State H → Progress → State H

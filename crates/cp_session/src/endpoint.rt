@@ -2,9 +2,11 @@
 
 ghost use Rattle.std.specs.Prelude.{◌≡◌, ◌<◌, ◌≤◌, ◌↔◌, IsSome, IsTrue, IfOk, IfErr, OnOk, length, nat_lt, true, false};
 ghost use Rattle.cp_dispatch.specs.Receiving.{IsCutShort};
-ghost use Rattle.cp_dispatch.specs.Work.{Lives, begun};
+ghost use Rattle.cp_dispatch.specs.Work.{GivesBack, Lives, begun};
 ghost use Rattle.cp_dispatch.specs.WorkOf.{work_of};
+ghost use Rattle.cp_connection.specs.Doing.{answered};
 ghost use Rattle.cp_connection.specs.Link.{Link};
+ghost use Rattle.cp_vat_machine.specs.declared.event.Value.TheVariants as values;
 ghost use Rattle.cp_frame.specs.Reader.{taken_of};
 ghost use Rattle.cp_session.specs.Kept.{kept_of};
 ghost use Rattle.cp_session.specs.Search.{IsDue, MayHoldIdle, Seeks};
@@ -101,6 +103,14 @@ impl Endpoint {
         self.round(objects, now)
     }
 
+    /// Gives an import back that an outcome named to the program.
+    pub(crate) fn give_back(&mut self, import: u32) -> Result<(), ConnectionFault>
+        ensures back { GivesBack import (service_of self.old).work (answered (λ _. values.Nothing) result) (service_of self.new).work }
+        ensures same { service_of self.new ≡ record (service_of self.old) { work = (service_of self.new).work } }
+    {
+        self.work.give_back(&mut self.connection, import)
+    }
+
     /// Tells the peer what is too much, if something is: the connection is aborted for that.
     pub(crate) fn refuse(&mut self, excess: Option<Excess>)
         ensures refuses { Refuses excess self.old.connection self.new.connection }
@@ -115,7 +125,7 @@ impl Endpoint {
     /// Whether a poll may give more, though nothing more comes.
     pub(crate) fn has_more<H: ObjectTable>(&self, objects: &H) -> bool
         ensures more { result ≡ true → MayGive H.table (service_of self.now) objects.now }
-        ensures none { result ≡ false → HasGiven (service_of self.now) }
+        ensures none { result ≡ false → HasGiven H.table (service_of self.now) objects.now }
     {
         self.gave || self.connection.held().events > 0 || objects.has_more()
     }

@@ -1,14 +1,16 @@
 //! What follows of what is done with a session, whatever it is.
 
 ghost use Rattle.cp_session.specs.Budget.{KeepNoMore, StaysWithin};
-ghost use Rattle.cp_session.specs.Laws.{LimitsAlone, LivesOn, NobodyServes, WrittenFirst};
+ghost use Rattle.cp_session.specs.Laws.{LimitsAlone, LivesOn, NoObjectServes, NobodyServes, WrittenFirst};
 
-use cp_objects::ObjectTable;
+use cp_objects::{ObjectTable, ServedObject};
 use cp_servants::Servant;
 
-/// A call that comes where nobody serves fails with `no such object`, and nothing else is done for it.
-pub fn nobody_serves<O: Servant>()
-    ensures { NobodyServes O.kind }
+/// A call that comes where nobody serves fails with `no such object`, and nothing else is done for it: where a list is empty, or
+/// `Objects` have none of its number.
+pub fn nobody_serves<O: Servant, M: ServedObject<Makes = M>>()
+    ensures in_a_list { NobodyServes O.kind }
+    ensures in_objects { NoObjectServes M.makes }
 {}
 
 /// Where no byte may wait, nothing is taken of the peer before all that is to go out was written.
@@ -17,14 +19,13 @@ pub fn written_first<H: ObjectTable>()
 {}
 
 /// A session of a list of objects is to be ticked for its limits alone: whatever is done with it, its deadline is that of its limits.
-/// (`export` adds an object, and changes nothing of that.)
 pub fn due_by_limits<O: Servant>()
     ensures { LimitsAlone O.kind }
 {}
 
 /// Whatever is done with a session, its connection took the bytes that it was given, but those that were dropped, and was told which
 /// were written. With what holds of each connection (`cp_connection::lives_behind_until_abort`) that says which messages came, and that
-/// nothing was written but what was sent. (`export` and `add` add an object, and do nothing with the connection.)
+/// nothing was written but what was sent. (`add` adds an object, and does nothing with the connection.)
 pub fn lives<H: ObjectTable>()
     ensures { LivesOn H.table }
 {}

@@ -3,6 +3,8 @@
 #![tactic(auto)]
 
 mod budget;
+mod calling;
+mod driven;
 mod endpoint;
 mod event;
 mod laws;
@@ -14,9 +16,11 @@ mod session;
 mod sweep;
 
 pub use budget::Budget;
+pub use calling::CallingSession;
+pub use driven::DrivenSession;
 pub use event::SessionEvent;
 pub use laws::{due_by_limits, keep_no_more, lives, nobody_serves, stays_within, written_first};
 pub use limits::SessionLimits;
 pub use options::SessionOptions;
 pub use progress::Limit;
-pub use session::Session;
+pub use session::{Session, SessionOver};

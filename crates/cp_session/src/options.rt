@@ -15,7 +15,8 @@ pub struct SessionOptions {
     pub bootstrap: Option<u32>,
     /// Whether the objects may call what they were given.
     pub may_call: bool,
-    /// Whether imports and promises go that neither an object nor the vat has. Not where the program has some: those aren't counted.
+    /// Whether imports and promises go that neither an object nor the vat has, nor an import the program by an outcome. Not where the
+    /// program makes promises: those aren't counted.
     pub releases_idle: bool,
     pub limits: SessionLimits,
 }

@@ -1,17 +1,13 @@
 //! A session.
 
-ghost use Rattle.std.specs.Prelude.{◌≡◌, ◌↔◌, ◌≤◌, ◌⊎◌, true, false, Ok, Err, Some, None, IsTrue, IfOk, IfErr, OnOk, OnErr, length};
-ghost use Rattle.cp_vat_machine.specs.declared.event.Event.TheVariants as machine;
-ghost use Rattle.cp_vat_machine.specs.declared.event.Value.TheVariants as values;
-ghost use Rattle.cp_connection.specs.Doing.{answered};
+ghost use Rattle.std.specs.Prelude.{◌≡◌, ◌↔◌, ◌≤◌, true, false, Ok, Err, Some, None, IsTrue, IfOk, IfErr, OnOk, OnErr, length};
 ghost use Rattle.cp_dispatch.specs.Work.{Lives};
 ghost use Rattle.cp_dispatch.specs.declared.event.DispatchEvent.TheVariants as notices;
-ghost use Rattle.cp_session.specs.Doing.{ActsInTime, Adds, Did, EndsBytes, EndsCut, Exports, Finishes, GivesMore, GivesNone, GoesBy, GoesOn, HandsOn, HasMore, HasNone, IsCut, IsRefused, IsUnfinished, IsSettled, IsStopped, IsUnsettled, IsUntaken, IsUnworked, KeepsRest, Lists, MayTake, PassesTime, PollsOn, Receives, RunsOut, Settles, TakesIn, Tells, Ticks, Wakes, Writes, alarm_of, due_of, ending_by, fault_of, knows_by, next_cap, told_of};
-ghost use Rattle.cp_session.specs.Kept.{kept_of};
-ghost use Rattle.cp_session.specs.Progress.{IsDraining};
+ghost use Rattle.cp_session.specs.Doing.{ActsInTime, Adds, EndsObjects, Finishes, GivesMore, GivesNone, GoesBy, GoesOn, IsCut, IsDone, IsUnfinished, IsSettled, IsStopped, IsUnsettled, IsUnworked, KeepsRest, Leaves, MayTake, PassesTime, Settles, TakesIn, alarm_of, ending_by, fault_of, knows_by, next_cap, told_of};
 ghost use Rattle.cp_session.specs.State.{link_of, new_state, state_of};
-ghost use Rattle.cp_session.specs.declared.progress.Phase.TheVariants as phases;
 
+use crate::calling::CallingSession;
+use crate::driven::DrivenSession;
 use crate::endpoint::Endpoint;
 use crate::event::SessionEvent;
 use crate::limits::SessionLimits;
@@ -22,12 +18,8 @@ use cp_connection::{ConnectionFault, ConnectionStats};
 use cp_dispatch::DispatchEvent;
 use cp_objects::{ObjectTable, Objects, ServedObject, Waker};
 use cp_refs::{Cap, PromiseId, Request};
-use cp_servants::Servant;
 use cp_vat_machine::Reason;
 use std::alloc::{AllocError, Global};
-
-/// The greatest number of an object.
-const MOST: usize = 0xffff_ffff;
 
 /// One end of a connection with its objects, without a device and without a clock.
 ///
@@ -53,19 +45,26 @@ const MOST: usize = 0xffff_ffff;
 /// sends before it closes is dropped, so that it can read what it was sent. What is too large is refused by an Abort: a frame
 /// past the reader's limits, and what makes a session keep too much.
 ///
+/// Then each object that is left is told its end, once (`ServedObject::ended`), and none is left. So it is by `close`, which says that the
+/// stream is gone.
+///
 /// # Errors
 ///
 /// Where memory runs out, a call or an outcome may be lost. So the session ends then.
-pub struct Session<H> {
+pub type Session<O> = SessionOver<Objects<O>>;
+
+/// A `Session` over objects of whatever form: `Objects`, or the list of one that calls its objects by a `Connection` alone.
+/// It is generic over `ObjectTable` since its proofs cost least so: over `Objects` that they name, each would open these up.
+pub struct SessionOver<H> {
     endpoint: Endpoint,
     objects: H,
     limits: SessionLimits,
     progress: Progress,
 }
 
-impl<H: Drop> Drop for Session<H> {
+impl<H: Drop> Drop for SessionOver<H> {
     fn drop(self) {
-        let Session {
+        let SessionOver {
             endpoint: _,
             objects: _,
             limits: _,
@@ -74,12 +73,12 @@ impl<H: Drop> Drop for Session<H> {
     }
 }
 
-impl<H: ObjectTable> Session<H> {
+impl<H: ObjectTable> SessionOver<H> {
     /// A session to which nothing came.
-    pub fn new(alloc: Global, options: &SessionOptions, objects: H, now: u64) -> Session<H>
+    pub fn new(alloc: Global, options: &SessionOptions, objects: H, now: u64) -> SessionOver<H>
         ensures { state_of result ≡ new_state options.now objects now }
     {
-        Session {
+        SessionOver {
             endpoint: Endpoint::new(alloc, options),
             objects,
             limits: options.limits,
@@ -87,18 +86,45 @@ impl<H: ObjectTable> Session<H> {
         }
     }
 
-    /// Takes bytes of the peer, up to the end of the next message, and says how many: none while too much waits to be written, and
-    /// once nothing more is taken. While the peer's close is waited for all are dropped.
-    ///
-    /// # Errors
-    ///
-    /// Those of `Connection::receive`, or memory ran out for what the message leads to. The session ends, and an event says why. Where
-    /// a frame is too large, an Abort says so to the peer.
-    pub fn receive(&mut self, piece: &[u8], now: u64) -> Result<usize, ConnectionFault>
-        ensures receives { IfOk result (λ count. Receives H.table (state_of self.old) piece.now now count (state_of self.new)) }
-        ensures few { IfOk result (λ count. count ≤ length piece.now) }
-        ensures untaken { IfErr result (λ fault. IsUntaken H.table (state_of self.old) piece.now now fault (state_of self.new)) }
+    /// The objects.
+    pub fn objects(&self) -> &H
+        ensures { result.now ≡ (state_of self.now).objects }
     {
+        &self.objects
+    }
+}
+
+/// A session of objects that make others.
+impl<O: ServedObject<Makes = O>> SessionOver<Objects<O>> {
+    /// Adds an object that stays as long as the session, as `Objects::add`, and gives its capability.
+    pub fn add(&mut self, object: O) -> Result<Cap, AllocError>
+        ensures cap { IfOk result (λ cap. cap ≡ next_cap (state_of self.old)) }
+        ensures adds { OnOk result (Adds object (state_of self.old) (state_of self.new)) }
+        ensures unadded { OnErr result (KeepsRest (state_of self.old) (state_of self.new)) }
+    {
+        self.objects.add(object)
+    }
+}
+
+impl<H: ObjectTable> DrivenSession for SessionOver<H> {
+    type Objects = H;
+
+    ghost table = { H.table };
+
+    ghost state = { λ it. state_of it };
+
+    fn begin(
+        alloc: Global,
+        options: &SessionOptions,
+        number: u64,
+        mut objects: H,
+        now: u64,
+    ) -> SessionOver<H> {
+        objects.set_session(number);
+        SessionOver::new(alloc, options, objects, now)
+    }
+
+    fn receive(&mut self, piece: &[u8], now: u64) -> Result<usize, ConnectionFault> {
         if self.is_draining() {
             return Ok(piece.len());
         }
@@ -113,15 +139,7 @@ impl<H: ObjectTable> Session<H> {
         taken
     }
 
-    /// Ends the bytes of the peer. The objects still give what they owe, and that goes out.
-    ///
-    /// # Errors
-    ///
-    /// As those of `receive`: they end inside a message, or memory ran out.
-    pub fn end(&mut self, now: u64) -> Result<(), ConnectionFault>
-        ensures ends { OnOk result (EndsBytes H.table (state_of self.old) now (state_of self.new)) }
-        ensures cut { IfErr result (λ fault. EndsCut H.table (state_of self.old) now fault (state_of self.new)) }
-    {
+    fn end(&mut self, now: u64) -> Result<(), ConnectionFault> {
         if !self.progress.is_serving() {
             self.progress.end_again();
             self.settle(now);
@@ -132,15 +150,7 @@ impl<H: ObjectTable> Session<H> {
         ended
     }
 
-    /// Does what happened asks of the objects, and polls each of them once, where `has_more` says that this may give more.
-    ///
-    /// # Errors
-    ///
-    /// Memory ran out, and the session ends.
-    pub fn poll(&mut self, now: u64) -> Result<(), AllocError>
-        ensures polls { OnOk result (PollsOn H.table (state_of self.old) now (state_of self.new)) }
-        ensures runs_out { OnErr result (RunsOut H.table (state_of self.old) now (state_of self.new)) }
-    {
+    fn poll(&mut self, now: u64) -> Result<(), AllocError> {
         if !self.has_more() {
             return Ok(());
         }
@@ -149,12 +159,7 @@ impl<H: ObjectTable> Session<H> {
         polled
     }
 
-    /// Time passed: the session ends if it meets a limit at this time. Where too much is kept, an Abort says so to the peer first. Where
-    /// none is met objects are woken whose time has come, so that `has_more` says so, and those are dropped that nothing refers to, where
-    /// it is time for that.
-    pub fn tick(&mut self, now: u64)
-        ensures { Ticks H.table (state_of self.old) now (state_of self.new) }
-    {
+    fn tick(&mut self, now: u64) {
         let kept = self.endpoint.kept(&self.objects);
         let excess = self.progress.tick(&self.limits, kept, now);
         self.endpoint.refuse(excess);
@@ -162,11 +167,7 @@ impl<H: ObjectTable> Session<H> {
         self.settle(now);
     }
 
-    /// Refuses the peer, as more is kept for it than a host allows: the limit of what is kept is met, whatever `kept` says. While bytes of
-    /// the peer are taken an Abort says so to it first; else the session is over.
-    pub fn refuse(&mut self, now: u64)
-        ensures { IsRefused H.table (state_of self.old) now (state_of self.new) }
-    {
+    fn refuse(&mut self, now: u64) {
         if self.is_over() {
             return;
         }
@@ -175,18 +176,16 @@ impl<H: ObjectTable> Session<H> {
         self.settle(now);
     }
 
-    /// How many bytes are kept for it, as its limit counts them: so that a host can keep all its sessions within a budget.
-    pub fn kept(&self) -> u64
-        ensures { let state = state_of self.now in result ≡ kept_of state.service.work (H.table.guests state.objects) }
-    {
+    fn close(&mut self, now: u64) {
+        self.progress.close();
+        self.settle(now);
+    }
+
+    fn kept(&self) -> u64 {
         self.endpoint.kept(&self.objects)
     }
 
-    /// When to call `tick` next: a limit of time is met then, if no byte moves before, or an object is to be woken, or objects are sought
-    /// that nothing refers to.
-    pub fn deadline(&self) -> Option<u64>
-        ensures { result ≡ due_of H.table (state_of self.now) }
-    {
+    fn deadline(&self) -> Option<u64> {
         let limit = self.progress.deadline(&self.limits);
         if self.is_stopped() {
             return limit;
@@ -194,26 +193,17 @@ impl<H: ObjectTable> Session<H> {
         earlier(limit, self.alarm())
     }
 
-    /// The bytes that are to be written to the peer.
-    pub fn outgoing(&self) -> &[u8]
-        ensures { result.now ≡ (link_of (state_of self.now)).unwritten }
-    {
+    fn outgoing(&self) -> &[u8] {
         self.endpoint.connection.outgoing()
     }
 
-    /// Notes that the first bytes of `outgoing` were written, this many, at this time.
-    pub fn wrote(&mut self, count: usize, now: u64)
-        ensures { Writes H.table (state_of self.old) count now (state_of self.new) }
-    {
+    fn wrote(&mut self, count: usize, now: u64) {
         self.endpoint.connection.wrote(count);
         self.progress.move_at(now);
         self.settle(now);
     }
 
-    /// Hands out the first event that wasn't: each outcome once, as soon as it came.
-    pub fn poll_event(&mut self) -> Option<SessionEvent>
-        ensures { Tells (state_of self.old) result (state_of self.new) }
-    {
+    fn poll_event(&mut self) -> Option<SessionEvent> {
         match self.endpoint.work.next() {
             Some(DispatchEvent::Settled { question, outcome }) => {
                 Some(SessionEvent::Outcome { question, outcome })
@@ -223,124 +213,73 @@ impl<H: ObjectTable> Session<H> {
         }
     }
 
-    /// Whether bytes of the peer are taken now, or dropped: else none need be read.
-    pub fn takes_bytes(&self) -> bool
-        ensures { IsTrue result ↔ (IsDraining (state_of self.now).progress.phase ⊎ MayTake (state_of self.now)) }
-    {
+    fn takes_bytes(&self) -> bool {
         self.is_draining() || self.may_take()
     }
 
-    /// Whether `poll` may give more now, though nothing more comes.
-    pub fn has_more(&self) -> bool
-        ensures more { result ≡ true → HasMore H.table (state_of self.now) }
-        ensures none { result ≡ false → HasNone H.table (state_of self.now) }
-    {
+    fn has_more(&self) -> bool {
         self.is_read() && self.gives_more()
     }
 
-    /// Whether all went out after which nothing is taken, and the peer's close is waited for.
-    pub fn is_draining(&self) -> bool
-        ensures { IsTrue result ↔ IsDraining (state_of self.now).progress.phase }
-    {
+    fn is_draining(&self) -> bool {
         self.progress.is_draining()
     }
 
-    /// Whether nothing is left to be done.
-    pub fn is_over(&self) -> bool
-        ensures { IsTrue result ↔ ((state_of self.now).progress.phase ≡ phases.Over) }
-    {
+    fn is_over(&self) -> bool {
         self.progress.is_over()
     }
 
-    /// The fault for which nothing more is taken.
-    pub fn fault(&self) -> Option<ConnectionFault>
-        ensures { result ≡ fault_of (state_of self.now) }
-    {
+    fn fault(&self) -> Option<ConnectionFault> {
         match self.progress.fault {
             Some(fault) => Some(fault),
             None => self.endpoint.connection.fault(),
         }
     }
 
-    /// The objects.
-    pub fn object_table(&self) -> &H
-        ensures { result.now ≡ (state_of self.now).objects }
-    {
-        &self.objects
-    }
-
-    /// Has an object polled, if it is there: then `has_more` says so.
-    pub fn wake(&mut self, object: u32) -> Result<(), AllocError>
-        ensures wakes { OnOk result (Wakes H.table object (state_of self.old) (state_of self.new)) }
-        ensures unwoken { OnErr result (KeepsRest (state_of self.old) (state_of self.new)) }
-    {
-        self.objects.wake(object)
-    }
-
-    /// Takes out the first object of another session that an object here wants to be woken.
-    pub fn next_wake(&mut self) -> Option<Waker>
-        ensures { HandsOn H.table result (state_of self.old) (state_of self.new) }
-    {
-        self.objects.next_wake()
-    }
-
-    /// How many bytes and messages were taken, and how many messages were sent.
-    pub fn stats(&self) -> ConnectionStats
-        ensures { result ≡ (link_of (state_of self.now)).stats }
-    {
+    fn stats(&self) -> ConnectionStats {
         self.endpoint.connection.stats()
     }
 
-    /// Asks for the peer's bootstrap capability, and gives the question's number. Refused as `Vat::bootstrap`.
-    pub fn bootstrap(&mut self) -> Result<u32, ConnectionFault>
-        ensures { Did (state_of self.old) machine.Bootstrap (answered (λ q. values.Question q) result) (state_of self.new) }
-    {
+    fn wake(&mut self, object: u32) -> Result<(), AllocError> {
+        self.objects.wake(object)
+    }
+
+    fn next_wake(&mut self) -> Option<Waker> {
+        self.objects.next_wake()
+    }
+}
+
+impl<H: ObjectTable> CallingSession for SessionOver<H> {
+    fn bootstrap(&mut self) -> Result<u32, ConnectionFault> {
         self.endpoint.connection.bootstrap()
     }
 
-    /// Calls a capability, and gives the question's number. Refused as `Vat::call`.
-    pub fn call(&mut self, cap: Cap, request: Request) -> Result<u32, ConnectionFault>
-        ensures { Did (state_of self.old) (machine.Call cap request) (answered (λ q. values.Question q) result) (state_of self.new) }
-    {
+    fn call(&mut self, cap: Cap, request: Request) -> Result<u32, ConnectionFault> {
         self.endpoint.connection.call(cap, request)
     }
 
-    /// Makes an open promise. Refused as `Vat::promise`.
-    pub fn promise(&mut self) -> Result<PromiseId, ConnectionFault>
-        ensures { Did (state_of self.old) machine.Promise (answered (λ p. values.Promise p) result) (state_of self.new) }
-    {
+    fn promise(&mut self) -> Result<PromiseId, ConnectionFault> {
         self.endpoint.connection.promise()
     }
 
-    /// Settles a promise that the program made. Refused as `Vat::resolve`.
-    pub fn resolve(&mut self, promise: PromiseId, value: Cap) -> Result<(), ConnectionFault>
-        ensures { Did (state_of self.old) (machine.Resolve promise value) (answered (λ _. values.Nothing) result) (state_of self.new) }
-    {
+    fn resolve(&mut self, promise: PromiseId, value: Cap) -> Result<(), ConnectionFault> {
         self.endpoint.connection.resolve(promise, value)
     }
 
-    /// Gives a question up. Refused as `Vat::finish`.
-    pub fn finish(&mut self, question: u32) -> Result<(), ConnectionFault>
-        ensures { Did (state_of self.old) (machine.Finish question) (answered (λ _. values.Nothing) result) (state_of self.new) }
-    {
+    fn finish(&mut self, question: u32) -> Result<(), ConnectionFault> {
         self.endpoint.connection.finish(question)
     }
 
-    /// Gives an import back, with its whole count. Refused as `Vat::release`: so while results of a call of the peer's name it,
-    /// as those of a tail call do until the peer finishes that.
-    pub fn release(&mut self, import: u32) -> Result<(), ConnectionFault>
-        ensures { Did (state_of self.old) (machine.Release import) (answered (λ _. values.Nothing) result) (state_of self.new) }
-    {
-        self.endpoint.connection.release(import)
+    fn release(&mut self, import: u32) -> Result<(), ConnectionFault> {
+        self.endpoint.give_back(import)
     }
 
-    /// Drops a settled promise. Refused as `Vat::forget`.
-    pub fn forget(&mut self, promise: PromiseId) -> Result<(), ConnectionFault>
-        ensures { Did (state_of self.old) (machine.Forget promise) (answered (λ _. values.Nothing) result) (state_of self.new) }
-    {
+    fn forget(&mut self, promise: PromiseId) -> Result<(), ConnectionFault> {
         self.endpoint.connection.forget(promise)
     }
+}
 
+impl<H: ObjectTable> SessionOver<H> {
     /// Takes bytes up to the end of a message, at this time.
     fn take(&mut self, piece: &[u8], now: u64) -> Result<usize, ConnectionFault>
         ensures takes { IfOk result (λ count. TakesIn H.table (state_of self.old) piece.now now count (state_of self.new)) }
@@ -463,15 +402,45 @@ impl<H: ObjectTable> Session<H> {
     }
 
     /// Where the connection ended nothing more is taken. Once all went out and nothing more is given, the peer's close is waited for,
-    /// if it isn't there.
+    /// if it isn't there. Once nothing more is given the objects are told their end.
     fn settle(&mut self, now: u64)
         ensures { Settles H.table (state_of self.old) now (state_of self.new) }
     {
         self.progress.heed(self.endpoint.connection.fault());
+        self.leave_if_settled(now);
+        self.end_objects(now);
+    }
+
+    /// Once all went out and nothing more is given, the peer's close is waited for, if it isn't there.
+    fn leave_if_settled(&mut self, now: u64)
+        ensures { Leaves H.table (state_of self.old) now (state_of self.new) }
+    {
         if !self.is_settled() {
             return;
         }
         self.progress.leave(now);
+    }
+
+    /// Tells the objects their end, once nothing more is given. None is left then, so none is told twice. Where memory runs out some may
+    /// be left, and the next call tells these.
+    fn end_objects(&mut self, now: u64)
+        ensures { EndsObjects H.table now (state_of self.old) (state_of self.new) }
+    {
+        if !self.is_done() {
+            return;
+        }
+        self.objects.set_now(now);
+        match self.objects.end_all() {
+            Ok(()) => {}
+            Err(_) => self.progress.fail(ConnectionFault::OutOfMemory),
+        }
+    }
+
+    /// Whether nothing is given any more: it stopped, or all went out after the peer's bytes ended.
+    fn is_done(&self) -> bool
+        ensures { IsTrue result ↔ IsDone (state_of self.now) }
+    {
+        self.is_stopped() || self.progress.is_draining() || self.progress.is_over()
     }
 
     /// Whether nothing is taken, all went out, and nothing more is given.
@@ -522,41 +491,5 @@ impl<H: ObjectTable> Session<H> {
             return Some(SessionEvent::Ended);
         }
         None
-    }
-}
-
-/// A session of objects that are fixed but for those that the program adds.
-impl<O: Servant> Session<Vec<O>> {
-    /// Adds an object, and gives the capability of it, which a table may name. `None`: there are 2^32 of them.
-    pub fn export(&mut self, object: O) -> Result<Option<Cap>, AllocError>
-        ensures cap { IfOk result (λ cap. cap ≡ next_cap (length self.old.objects.items)) }
-        ensures added { IfOk result (λ cap. Exports cap object (state_of self.old) (state_of self.new)) }
-        ensures left { OnErr result (Lists self.old.objects.items (state_of self.old) (state_of self.new)) }
-    {
-        let place = self.objects.len();
-        if place > MOST {
-            drop(object);
-            return Ok(None);
-        }
-        self.objects.push(object)?;
-        Ok(Some(Cap::Object(place as u32)))
-    }
-
-    /// The objects, in the order of their numbers.
-    pub fn objects(&self) -> &[O]
-        ensures { result.now ≡ (state_of self.now).objects.items }
-    {
-        self.objects.as_slice()
-    }
-}
-
-/// A session of objects that make others.
-impl<O: ServedObject<Makes = O>> Session<Objects<O>> {
-    /// Adds an object that stays as long as the session, as `Objects::add`.
-    pub fn add(&mut self, object: O) -> Result<Cap, AllocError>
-        ensures adds { OnOk result (Adds object (state_of self.old) (state_of self.new)) }
-        ensures unadded { OnErr result (KeepsRest (state_of self.old) (state_of self.new)) }
-    {
-        self.objects.add(object)
     }
 }

@@ -17,7 +17,7 @@ fn written(alloc: Global) -> anyhow::Result<Vec<u8>> {
     let mut people = PersonListBuilder::new(alloc);
     people.push(carol(alloc)?)?;
     let mut book = AddressBookBuilder::new(alloc)?;
-    book.set_people(people);
+    book.set_people(people)?;
     let mut to = Tap::new(Vec::new(alloc));
     let limits = Limits::standard();
     write_struct(
@@ -34,17 +34,17 @@ fn written(alloc: Global) -> anyhow::Result<Vec<u8>> {
 fn carol(alloc: Global) -> anyhow::Result<PersonBuilder> {
     let phones = phones(alloc)?;
     let mut carol = PersonBuilder::new(alloc)?;
-    carol.set_phones(phones);
+    carol.set_phones(phones)?;
     carol.set_id(789);
-    carol.set_name(alloc, "Carol")?;
-    carol.set_employment_employer(alloc, "ETH")?;
+    carol.set_name("Carol")?;
+    carol.set_employment_employer("ETH")?;
     Ok(carol)
 }
 
 /// A list of one phone.
 fn phones(alloc: Global) -> anyhow::Result<PersonPhoneNumberListBuilder> {
     let mut phone = PersonPhoneNumberBuilder::new(alloc)?;
-    phone.set_number(alloc, "555-1414")?;
+    phone.set_number("555-1414")?;
     phone.set_type(PersonPhoneNumberType::Work);
     let mut phones = PersonPhoneNumberListBuilder::new(alloc);
     phones.push(phone)?;

@@ -2,7 +2,7 @@
 
 use jamdrosek::client::{Client, Question};
 use jamdrosek::interfaces::{MethodResult, ServiceObject};
-use jamdrosek::server::{Context, ObjectTable, Objects};
+use jamdrosek::server::{Context, Objects};
 use jamdrosek::{Limits, Mode};
 use notebook::{NotebookClient, WatcherAddedCall, WatcherClient, WatcherDispatch, WatcherServer};
 use std::alloc::Global;
@@ -42,9 +42,9 @@ pub fn talk<R: Read + Drop, W: Write + Drop>(
 }
 
 /// Watches, reads the page of the next note, adds that note, and gives the page up, in one round trip.
-fn add_and_read<R: Read + Drop, W: Write + Drop, H: ObjectTable>(
+fn add_and_read<R: Read + Drop, W: Write + Drop>(
     alloc: Global,
-    client: &mut Client<R, W, H>,
+    client: &mut Client<R, W, Served>,
     watcher: WatcherClient,
     heard: &Rc<RefCell<String>>,
 ) -> anyhow::Result<String> {

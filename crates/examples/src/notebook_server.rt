@@ -191,6 +191,6 @@ impl PageServer for Page {
         let Some(note) = shelf.notes.get(self.id) else {
             return Err(MethodFault::from(failed(context.alloc(), "there is no such note")?));
         };
-        Ok(call.results.set_text(context.alloc(), note.as_str())?)
+        Ok(call.results.set_text(note.as_str())?)
     }
 }

@@ -5,7 +5,7 @@
 //! Calls are sent when the client next waits, all together. `call_and_wait` calls and waits.
 //!
 //! `finish` gives a question up, and `release` an import that an outcome named; until then the peer keeps them. `flush` writes what is still
-//! to be sent. `into_devices` ends the client, and returns the reader and the writer.
+//! to be sent. `into_devices` ends the client, tells its objects so, and returns the reader and the writer.
 //!
 //! A `ClientFault` says why a call failed. `Device` has the error of the reader or of the writer; the client can go on after it, for example
 //! when a reader's timeout ended a read. After `Ended` nothing more is read. Outcomes that came before that, or before a fault of the
@@ -14,19 +14,17 @@
 //! A `PayloadBuilder` builds a call's params field by field. `results_of`, `word_in`, `text_in` and `data_in` read results. `request_of` is a call
 //! whose params are a struct of data words, and `word_at` a data word of results.
 //!
-//! A client answers an incoming call with `no such object`. One made by `with_servants` can have objects: `export` adds one, whose capability
+//! A client answers an incoming call with `no such object`. One made by `with_objects` has objects (`server::Objects`), of which the peer's
+//! Bootstrap gets the first. One made by `exporting` has none at first, and gives its peer none: `export` adds an object, whose capability
 //! a call's table may name. While the client waits they get the calls that come, and are polled. They may call what they were given
-//! (`server::Servant::next_call`). `with_servants` also says which of them the peer's Bootstrap gets, by its number: the first one exported is 0.
-//! `serve` answers until the peer ends. `with_objects` makes a client of objects that make others (`server::Objects`).
+//! (`server::Context::send`). `serve` answers until the peer ends.
 //!
 //! A `CallWindow` keeps several calls in flight, up to a window, for example those of a `-> stream` method.
 //!
 //! The reader and the writer may be the two ends of a `TcpStream`, `&stream` twice, or bytes in memory.
 
 pub use cp_builder::BuildError;
-pub use cp_client::{
-    CallError, CallWindow, Client, ClientFault, Nobody, Question, request_of, word_at,
-};
+pub use cp_client::{CallError, CallWindow, Client, ClientFault, Question, request_of, word_at};
 pub use cp_connection::ConnectionFault;
 pub use cp_refs::{Cap, Caps, Outcome, Path, Request};
 pub use cp_servants::{PayloadBuilder, data_in, results_of, text_in, word_in};

@@ -1,7 +1,7 @@
 //! Many connections in one thread (net_host), over TCP or a Unix socket (net_sockets).
 //!
 //! A `Listener` binds an address or a path. A `Host` over it serves each connection that comes. `next` serves until there is news of a
-//! connection, and returns that. At `Connected` make the connection's objects and give them to `admit`: a list, or `server::Objects`. At
+//! connection, and returns that. At `Connected` make the connection's objects and give them to `admit`, as a `server::Objects`. At
 //! `Ended` its objects have been dropped, and the `End` says why. `next` returns `None` once all connections that were to come have ended.
 //!
 //! A `HostConfig` says how a host serves: whether packed, how many connections come, and the `HostLimits`. `HostConfig::standard` serves for

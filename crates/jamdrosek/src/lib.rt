@@ -57,7 +57,7 @@
 //! let text = read.results(&came)?.text()?.text(alloc)?;
 //! ```
 //!
-//! A method takes its params as arguments if they are at most four, and numbers, texts or capabilities. Else it takes a builder of them:
+//! A method takes its params as arguments if they are at most four, and values or capabilities. Else it takes a builder of them:
 //! `StoreFillParamsBuilder::new(alloc)?`, and setters such as `set_rows` on that.
 //!
 //! # Objects made in calls
@@ -99,7 +99,7 @@
 //! notebook.watch(client, watcher)?;
 //! ```
 //!
-//! An object calls back by `ServiceObject::next_call`, at a `Host` or at a client.
+//! An object calls back by `context.send`, at a `Host` or at a client. `ServiceObject::on_response` gets what a call came to.
 //!
 //! # Send a stream of calls
 //!
@@ -184,9 +184,9 @@
 //!
 //! ```rust crates/examples/src/draft.rt
 //! let mut carol = PersonBuilder::new(alloc)?;
-//! carol.set_phones(phones);
+//! carol.set_phones(phones)?;
 //! carol.set_id(789);
-//! carol.set_name(alloc, "Carol")?;
+//! carol.set_name("Carol")?;
 //! ```
 //!
 //! `read_struct` and `write_struct` read and write a message with any struct as its root. `read_segments` and `send_frame` move a message
@@ -273,14 +273,12 @@
 //! }
 //! ```
 //!
-
-//!
-//! With objects that make none (`Box<dyn Servant>`) a client is made by `Client::with_servants`, and `export` adds one.
+//! A client made by `Client::exporting` has no objects at first: `export` adds one.
 //!
 //! ## Without a schema
 //!
-//! An object may be a `Servant` itself, which takes requests as they come. A `PayloadBuilder` is the struct of its results, or of a call's params.
-//! Each builder method adds one data word or one pointer (text, data, capability, ..):
+//! An object may be a `Servant` itself, which takes requests as they come. A `PayloadBuilder` is the struct of its results, or of a
+//! call's params. Each builder method adds one data word or one pointer (text, data, capability, ..):
 //!
 //! ```rust tests/more_examples/src/connection.rs
 //! impl Servant for Total {

@@ -21,6 +21,8 @@ use Rattle.c_handles.specs.declared.event.OriginNumbers.{OriginNumbers}
 use Rattle.c_handles.specs.Caps.{of_kind}
 use Rattle.c_handles.specs.Event.{nothing, numbers_of, origin_of}
 use Rattle.c_handles.specs.Fault.{fault_of}
+use Rattle.c_handles.specs.declared.bytes.Bytes.{Bytes}
+use Rattle.c_handles.specs.Lent.{LieIn}
 use Rattle.c_handles.specs.Connection.{ChangesOnly, ActsAs, TakesAs, EndsAs, Resolves, Calls, Answers, Fails, Keeps, LendsContent, LendsNone, HasCap, HasNoCap, LendsReason, LendsNoReason}
 use Rattle.jamdrosek_c.specs.Tell.{TellsNumber, done_code}
 
@@ -104,9 +106,9 @@ abbrev pub IsLent : (ConnectionState → List ℕ → Type 0) → (ConnectionSta
 IsLent lends refuses old new (Ok done) = lends old new.lent.items
 IsLent lends refuses old new (Err fault) = refuses old fault × (new.lent.items ≡ [])
 
-abbrev pub Lends : (ConnectionState → List ℕ → Type 0) → (ConnectionState → CallFault → Type 0) → ℕ → ℕ → ConnectionState → ConnectionState → Type 0
-Lends lends refuses number code old new =
-    Keeps old new × (number ≡ length new.lent.items) × (answer : Result (Unit {0}) CallFault) × IsLent lends refuses old new answer × (code ≡ done_code answer)
+abbrev pub Lends : (ConnectionState → List ℕ → Type 0) → (ConnectionState → CallFault → Type 0) → Bytes → ℕ → ConnectionState → ConnectionState → Type 0
+Lends lends refuses bytes code old new =
+    Keeps old new × LieIn bytes new.lent × (answer : Result (Unit {0}) CallFault) × IsLent lends refuses old new answer × (code ≡ done_code answer)
 
 -- whether the connection refers to an object is told
 abbrev pub UsesThrough : Option ConnectionState → ℕ → Bool → ℕ → Type 0

@@ -1,10 +1,12 @@
 -- What the calls of C on a reader do: on an open handle each is the call of the reader, and on a closed one none.
-use Rattle.std.specs.Prelude.{◌≡◌, ◌≢◌, ℕ, ◌+◌, Bool, false, if◌then◌else◌, List, [], length, is_some, Option, None, Some, Result, Ok, Err}
+use Rattle.std.specs.Prelude.{◌≡◌, ◌≢◌, ℕ, ◌+◌, Bool, false, if◌then◌else◌, List, [], is_some, Option, None, Some, Result, Ok, Err}
 use Rattle.cp_words.specs.Limits.{Bounds, IsAllowed}
 use Rattle.cp_frame.specs.declared.mode.Mode.{Mode}
 use Rattle.cp_frame.specs.declared.mode.Mode.TheVariants as modes
 use Rattle.cp_frame.specs.declared.fault.FrameFault.{FrameFault}
 use Rattle.cp_frame.specs.Reader.{EndsWell, ReportsAtEnd, Needs, new_reader}
+use Rattle.c_handles.specs.declared.bytes.Bytes.{Bytes}
+use Rattle.c_handles.specs.Lent.{LieIn}
 use Rattle.c_handles.specs.declared.code.CallFault.{CallFault}
 use Rattle.c_handles.specs.declared.code.CallFault.TheVariants as faults
 use Rattle.c_handles.specs.declared.code.Spot.{Spot}
@@ -76,21 +78,21 @@ abbrev pub IsWriteOf : ReaderState → Mode → ReaderState → Result (Unit {0}
 IsWriteOf old mode new (Ok done) = Writes mode old.limits old.came new.lent.items
 IsWriteOf old mode new (Err fault) = IsUnwritten old.limits old.came fault × (new.lent.items ≡ [])
 
-abbrev pub WriteThrough : Mode → Option ReaderState → Option ReaderState → ℕ → ℕ → Type 0
-WriteThrough mode None new number code = IsClosed new code × (number ≡ 0)
-WriteThrough mode (Some old) None number code = ⊥
-WriteThrough mode (Some old) (Some new) number code = Keeps old new × (number ≡ length new.lent.items) × (answer : Result (Unit {0}) CallFault) × IsWriteOf old mode new answer × (code ≡ done_code answer)
+abbrev pub WriteThrough : Mode → Option ReaderState → Option ReaderState → Bytes → ℕ → Type 0
+WriteThrough mode None new bytes code = IsClosed new code × (bytes.len ≡ 0)
+WriteThrough mode (Some old) None bytes code = ⊥
+WriteThrough mode (Some old) (Some new) bytes code = Keeps old new × LieIn bytes new.lent × (answer : Result (Unit {0}) CallFault) × IsWriteOf old mode new answer × (code ≡ done_code answer)
 
 -- what a reader lends of its struct, laid out anew
 abbrev pub IsRecutOf : ReaderState → Mode → ℕ → ReaderState → Result (Unit {0}) CallFault → Type 0
 IsRecutOf old mode words new (Ok done) = Recuts mode words old.limits old.came new.lent.items
 IsRecutOf old mode words new (Err fault) = IsUncut words old.limits old.came fault × (new.lent.items ≡ [])
 
-abbrev pub RecutThrough : Mode → ℕ → Option ReaderState → Option ReaderState → ℕ → Spot → ℕ → Type 0
-RecutThrough mode words None new number spot code = IsClosed new code × (number ≡ 0) × Tells (Err faults.Closed) spot code
-RecutThrough mode words (Some old) None number spot code = ⊥
-RecutThrough mode words (Some old) (Some new) number spot code =
-    Keeps old new × (number ≡ length new.lent.items) × (answer : Result (Unit {0}) CallFault) × IsRecutOf old mode words new answer × Tells answer spot code
+abbrev pub RecutThrough : Mode → ℕ → Option ReaderState → Option ReaderState → Bytes → Spot → ℕ → Type 0
+RecutThrough mode words None new bytes spot code = IsClosed new code × (bytes.len ≡ 0) × Tells (Err faults.Closed) spot code
+RecutThrough mode words (Some old) None bytes spot code = ⊥
+RecutThrough mode words (Some old) (Some new) bytes spot code =
+    Keeps old new × LieIn bytes new.lent × (answer : Result (Unit {0}) CallFault) × IsRecutOf old mode words new answer × Tells answer spot code
 
 abbrev pub CopyThrough : Option ReaderState → ℕ → List ℕ → List ℕ → ℕ → Type 0
 CopyThrough None from old new number = (new ≡ old) × (number ≡ 0)

@@ -1,5 +1,5 @@
 -- What the calls of C on a relay do: on an open handle each is the call of the relay, and on a closed one none.
-use Rattle.std.specs.Prelude.{◌≡◌, ℕ, zero, suc, Bool, List, [], length, Option, None, Some, Result, Ok, Err}
+use Rattle.std.specs.Prelude.{◌≡◌, ℕ, zero, suc, Bool, List, [], Option, None, Some, Result, Ok, Err}
 use Rattle.cp_words.specs.Limits.{Bounds}
 use Rattle.cp_frame.specs.declared.mode.Mode.{Mode}
 use Rattle.cp_frame.specs.declared.mode.Mode.TheVariants as modes
@@ -9,6 +9,8 @@ use Rattle.cp_relay.specs.declared.fault.RelayFault.{RelayFault}
 use Rattle.cp_relay.specs.declared.fault.RelayCause.{RelayCause}
 use Rattle.cp_relay.specs.declared.fault.RelayCause.TheVariants as whys
 use Rattle.cp_relay.specs.Relay.{new_relay, Gives, StopsAt, EndsWell}
+use Rattle.c_handles.specs.declared.bytes.Bytes.{Bytes}
+use Rattle.c_handles.specs.Lent.{LieIn}
 use Rattle.c_handles.specs.declared.code.CallFault.{CallFault}
 use Rattle.c_handles.specs.declared.code.CallFault.TheVariants as faults
 use Rattle.c_handles.specs.declared.code.Spot.{Spot}
@@ -57,13 +59,13 @@ abbrev pub FeedsAs : RelayState → List ℕ → Result (Unit {0}) RelayFault �
 FeedsAs old piece (Ok done) new = Gives passes old.relay piece new.relay old.rules new.rules [] new.lent.items
 FeedsAs old piece (Err fault) new = StopsAt passes old.relay piece new.relay old.rules new.rules [] new.lent.items fault
 
-abbrev pub Feeds : List ℕ → ℕ → ℕ → Spot → ℕ → RelayState → RelayState → Type 0
-Feeds piece number at spot code old new =
-    (number ≡ length new.lent.items) × (answer : Result (Unit {0}) RelayFault) × FeedsAs old piece answer new × TellsStop answer at spot code
+abbrev pub Feeds : List ℕ → Bytes → ℕ → Spot → ℕ → RelayState → RelayState → Type 0
+Feeds piece bytes at spot code old new =
+    LieIn bytes new.lent × (answer : Result (Unit {0}) RelayFault) × FeedsAs old piece answer new × TellsStop answer at spot code
 
-abbrev pub FeedsThrough : Option RelayState → Option RelayState → List ℕ → ℕ → ℕ → Spot → ℕ → Type 0
-FeedsThrough None new piece number at spot code = ThroughRelay None new code (λ a b. Unit {0}) × (number ≡ 0) × (at ≡ 0) × (spot ≡ nowhere)
-FeedsThrough (Some old) new piece number at spot code = ThroughRelay (Some old) new code (Feeds piece number at spot code)
+abbrev pub FeedsThrough : Option RelayState → Option RelayState → List ℕ → Bytes → ℕ → Spot → ℕ → Type 0
+FeedsThrough None new piece bytes at spot code = ThroughRelay None new code (λ a b. Unit {0}) × (bytes.len ≡ 0) × (at ≡ 0) × (spot ≡ nowhere)
+FeedsThrough (Some old) new piece bytes at spot code = ThroughRelay (Some old) new code (Feeds piece bytes at spot code)
 
 -- the stream ended after a message, or the relay stopped
 abbrev pub EndsAs : RelayState → Result (Unit {0}) RelayFault → RelayState → Type 0

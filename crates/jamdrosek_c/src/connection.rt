@@ -159,12 +159,12 @@ pub extern "C" fn jd_connection_content(
     connection: &mut ConnectionHandle,
     bytes: &mut Bytes,
 ) -> u32
-    ensures { Through connection.old.value connection.new.value result (Lends LendsContent LendsNone bytes.new.len result) }
+    ensures { Through connection.old.value connection.new.value result (Lends LendsContent LendsNone bytes.new result) }
 {
     match connection.take(alloc) {
         Some(mut state) => {
             let done = state.content();
-            *bytes = Bytes::of(&state.lent);
+            *bytes = Bytes::of_buffer(&state.lent);
             connection.put(state);
             tell_bytes(done)
         }
@@ -417,12 +417,12 @@ pub extern "C" fn jd_connection_reason(
     connection: &mut ConnectionHandle,
     bytes: &mut Bytes,
 ) -> u32
-    ensures { Through connection.old.value connection.new.value result (Lends LendsReason LendsNoReason bytes.new.len result) }
+    ensures { Through connection.old.value connection.new.value result (Lends LendsReason LendsNoReason bytes.new result) }
 {
     match connection.take(alloc) {
         Some(mut state) => {
             let done = state.reason();
-            *bytes = Bytes::of(&state.lent);
+            *bytes = Bytes::of_buffer(&state.lent);
             connection.put(state);
             tell_bytes(done)
         }

@@ -138,12 +138,12 @@ pub extern "C" fn jd_reader_write(
     packed: bool,
     bytes: &mut Bytes,
 ) -> u32
-    ensures { WriteThrough (mode_of packed) reader.old.value reader.new.value bytes.new.len result }
+    ensures { WriteThrough (mode_of packed) reader.old.value reader.new.value bytes.new result }
 {
     match reader.take(alloc) {
         Some(mut state) => {
             let written = state.write(mode_of(packed));
-            *bytes = Bytes::of(&state.lent);
+            *bytes = Bytes::of_buffer(&state.lent);
             reader.put(state);
             tell_bytes(written)
         }
@@ -165,12 +165,12 @@ pub extern "C" fn jd_reader_recut(
     bytes: &mut Bytes,
     spot: &mut Spot,
 ) -> u32
-    ensures { RecutThrough (mode_of packed) words reader.old.value reader.new.value bytes.new.len spot.new result }
+    ensures { RecutThrough (mode_of packed) words reader.old.value reader.new.value bytes.new spot.new result }
 {
     match reader.take(alloc) {
         Some(mut state) => {
             let cut = state.recut(mode_of(packed), words);
-            *bytes = Bytes::of(&state.lent);
+            *bytes = Bytes::of_buffer(&state.lent);
             reader.put(state);
             tell(cut, spot)
         }

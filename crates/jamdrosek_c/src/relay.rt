@@ -59,12 +59,12 @@ pub extern "C" fn jd_relay_feed(
     at: &mut u64,
     spot: &mut Spot,
 ) -> u32
-    ensures { FeedsThrough relay.old.value relay.new.value piece.now bytes.new.len at.new spot.new result }
+    ensures { FeedsThrough relay.old.value relay.new.value piece.now bytes.new at.new spot.new result }
 {
     match relay.take(alloc) {
         Some(mut state) => {
             let fed = state.feed(piece);
-            *bytes = Bytes::of(&state.lent);
+            *bytes = Bytes::of_buffer(&state.lent);
             relay.put(state);
             tell_stop(fed, at, spot)
         }

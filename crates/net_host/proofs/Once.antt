@@ -103,9 +103,9 @@ module _ {H : Type 0} {table : ObjectTableKind H} where
   once_turn : (old new : Floor H) (number : ℕ) → Turns table old new → IsOnce old number → IsOnce new number
   once_turn old new number (rests r) once =
       once_by old new number (λ key has. subst (λ (slot : Option (Served H)). Has slot number) (r.same key) has) r.ended once
-  once_turn old new number (goes_on key now one next woken was stays puts same noted added awaits) once =
+  once_turn old new number (goes_on key one next woken was stays puts same noted added awaits) once =
       once_by old new number (back_over old.served new.served key one next number was (works_number stays.works) puts) same once
-  once_turn old new number (ends key now one woken end was by puts ended forgotten added due) once = once_out old new number key one end was puts ended once
+  once_turn old new number (ends key one woken end was by puts ended forgotten added due) once = once_out old new number key one end was puts ended once
   once_turn old new number (wakes waker one next first served rouses puts same budget awaits) once =
       once_by old new number (back_over old.served new.served (key_of waker.session) one next number served.there (ap (λ (x : Served H). x.number) rouses.1) puts) same once
   once_turn old new number (wakes_none waker first unserved still same budget due) once =
@@ -118,9 +118,9 @@ module _ {H : Type 0} {table : ObjectTableKind H} where
   gone_turn : (old new : Floor H) (number : ℕ) → Turns table old new → IsGone old number → IsGone new number
   gone_turn old new number (rests r) gone =
       gone_by old new number (λ key has. subst (λ (slot : Option (Served H)). Has slot number) (r.same key) has) r.ended gone
-  gone_turn old new number (goes_on key now one next woken was stays puts same noted added awaits) gone =
+  gone_turn old new number (goes_on key one next woken was stays puts same noted added awaits) gone =
       gone_by old new number (back_over old.served new.served key one next number was (works_number stays.works) puts) same gone
-  gone_turn old new number (ends key now one woken end was by puts ended forgotten added due) gone = gone_out old new number key one end was puts ended gone
+  gone_turn old new number (ends key one woken end was by puts ended forgotten added due) gone = gone_out old new number key one end was puts ended gone
   gone_turn old new number (wakes waker one next first served rouses puts same budget awaits) gone =
       gone_by old new number (back_over old.served new.served (key_of waker.session) one next number served.there (ap (λ (x : Served H). x.number) rouses.1) puts) same gone
   gone_turn old new number (wakes_none waker first unserved still same budget due) gone =
@@ -169,17 +169,17 @@ module _ {H : Type 0} where
       }
 
   pub once_tells : (old new : Floor H) (news : Option HostEvent) (number : ℕ) → Tells old news new → IsOnce old number → IsOnce new number
-  once_tells old new None number h once = subst (λ (x : Floor H). IsOnce x number) (sym h) once
-  once_tells old new (Some (all_news.Connected n peer)) number h once = subst (λ (x : Floor H). IsOnce x number) (sym h) once
-  once_tells old new (Some (all_news.Refused peer)) number h once = subst (λ (x : Floor H). IsOnce x number) (sym h) once
-  once_tells old new (Some all_news.Woken) number h once = subst (λ (x : Floor H). IsOnce x number) (sym h) once
+  once_tells old new None number h once = subst (λ (x : Floor H). IsOnce x number) (sym h.0) once
+  once_tells old new (Some (all_news.Connected n peer)) number h once = subst (λ (x : Floor H). IsOnce x number) (sym h.0) once
+  once_tells old new (Some (all_news.Refused peer)) number h once = subst (λ (x : Floor H). IsOnce x number) (sym h.0) once
+  once_tells old new (Some all_news.Woken) number h once = subst (λ (x : Floor H). IsOnce x number) (sym h.0) once
   once_tells old new (Some (all_news.Ended n peer end)) number h once = once_told old new number _ h.0 h.1 once
 
   pub gone_tells : (old new : Floor H) (news : Option HostEvent) (number : ℕ) → Tells old news new → IsGone old number → IsGone new number
-  gone_tells old new None number h gone = subst (λ (x : Floor H). IsGone x number) (sym h) gone
-  gone_tells old new (Some (all_news.Connected n peer)) number h gone = subst (λ (x : Floor H). IsGone x number) (sym h) gone
-  gone_tells old new (Some (all_news.Refused peer)) number h gone = subst (λ (x : Floor H). IsGone x number) (sym h) gone
-  gone_tells old new (Some all_news.Woken) number h gone = subst (λ (x : Floor H). IsGone x number) (sym h) gone
+  gone_tells old new None number h gone = subst (λ (x : Floor H). IsGone x number) (sym h.0) gone
+  gone_tells old new (Some (all_news.Connected n peer)) number h gone = subst (λ (x : Floor H). IsGone x number) (sym h.0) gone
+  gone_tells old new (Some (all_news.Refused peer)) number h gone = subst (λ (x : Floor H). IsGone x number) (sym h.0) gone
+  gone_tells old new (Some all_news.Woken) number h gone = subst (λ (x : Floor H). IsGone x number) (sym h.0) gone
   gone_tells old new (Some (all_news.Ended n peer end)) number h gone = gone_told old new number _ h.0 h.1 gone
 
   pub reported_tells : (old new : Floor H) (news : Option HostEvent) (number : ℕ) → Tells old news new → IsOnce old number → IsGoneBy news number new

@@ -1,5 +1,6 @@
 -- What is heard after a while, and when.
 use Rattle.std.proofs.Common.{◌≡◌, ℕ, Option, Some, None, sym, ap, subst, arith}
+use Rattle.net_sockets.specs.declared.listener.Peer.{Peer}
 use Rattle.net_host.specs.declared.host.HostEvent.{HostEvent}
 use Rattle.net_host.specs.declared.host.HostEvent.TheVariants as all_news
 use Rattle.net_host.specs.Roster.{Accepts, Comes, GoesOn, Hears, IsOnTime, Roster}
@@ -10,14 +11,14 @@ pub goes_both : {a b c : Roster} → GoesOn a b → GoesOn b c → GoesOn a c
 goes_both h k = let later = rw h.rest at k in record { rest = later.rest; no_more = omega (arith, h.no_more, k.no_more) }
 
 -- a connection comes after a while
-pub comes_after : {a b c : Roster} (number : ℕ) → GoesOn a b → Comes b number c → Comes a number c
-comes_after number h k =
+pub comes_after : {a b c : Roster} (number : ℕ) (peer : Peer) → GoesOn a b → Comes b number peer c → Comes a number peer c
+comes_after number peer h k =
     let later = rw h.rest at k in
     record { next = later.next; wanted = later.wanted; rest = later.rest; has_room = later.has_room; no_more = omega (arith, h.no_more, k.no_more) }
 
 pub hears_after : {a b : Roster} (news : Option HostEvent) (c : Roster) → GoesOn a b → Hears b news c → Hears a news c
 hears_after None c h k = (goes_both h k.0, k.1)
-hears_after (Some (all_news.Connected number peer)) c h k = comes_after number h k
+hears_after (Some (all_news.Connected number peer)) c h k = comes_after number peer h k
 hears_after (Some (all_news.Refused peer)) c h k = (goes_both h k.0, k.1)
 hears_after (Some (all_news.Ended number peer end)) c h k = goes_both h k
 hears_after (Some all_news.Woken) c h k = let later = rw h.rest at k in record { rest = later.rest; no_more = omega (arith, h.no_more, k.no_more) }

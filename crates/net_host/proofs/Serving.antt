@@ -1,5 +1,6 @@
 -- How what is done with a connection follows each other.
 use Rattle.std.proofs.Common.{◌≡◌, ◌≢◌, ◌<◌, ◌-◌, ◌∙◌, ℕ, ℤ, List, [], ◌∷◌, ◌++◌, Option, Some, None, IsSome, Result, Ok, Err, IfErr, OnOk, OnErr, inl, inr, refl, sym, ap, subst, length, take, drop, append-nil, append_assoc, arith}
+use Rattle.std.proofs.lemmas.List.{length-append}
 use Rattle.std.specs.IoError.{raw_os_error}
 use Rattle.std.specs.declared.io.Error.{Error}
 use Rattle.cp_connection.specs.declared.excess.Excess.{Excess}
@@ -13,17 +14,20 @@ use Rattle.cp_session.specs.declared.progress.Limit.TheVariants as limits
 use Rattle.cp_session.specs.declared.progress.Phase.{Phase}
 use Rattle.cp_session.specs.declared.progress.Progress.{Progress}
 use Rattle.cp_session.specs.declared.progress.Phase.TheVariants as phases
-use Rattle.cp_session.specs.Doing.{EndsBytes, EndsCut, GoesBy, HandsOn, Leaves, PollsOn, RunsOut, Settles, Tells, Ticks, leaves, refuses, stays, was_over}
+use Rattle.cp_session.specs.Doing.{EndsBytes, EndsCut, EndsObjects, GoesBy, HandsOn, Leaves, PollsOn, RunsOut, Settles, Tells, Ticks, leaves, refuses, stays, was_over}
+use Rattle.cp_session.specs.Doing as doing
 use Rattle.cp_session.specs.Kept.{kept_of}
-use Rattle.cp_session.specs.Progress.{Meets, TicksTo, ended_by, excess_by, kept_excess, meets, meets_none, met, phase_by}
+use Rattle.cp_session.specs.Progress.{Meets, TicksTo, ended, ended_by, excess_by, kept_excess, meets, meets_none, met, phase_by}
 use Rattle.cp_session.specs.Runs.{Does, begins, both, ends, ends_inside, nothing, polls, runs_out, tells, ticks, writes, called_at}
 use Rattle.cp_session.specs.State.{State}
 use Rattle.cp_session.proofs.Running.{runs_both, runs_one}
 use Rattle.net_host.specs.declared.end.End.{End}
 use Rattle.net_host.specs.declared.end.End.TheVariants as all_ends
 use Rattle.net_host.specs.Feeding.{IsFed}
+use Rattle.net_sockets.specs.Flow.{Flow, Moves, Rests}
 use Rattle.net_host.proofs.Fed.{at_both, at_none, at_one, parts}
-use Rattle.net_host.specs.HostedConnections.{Adds, Breaks, Closes, EndsBy, Fails, HandsOver, HandsSome, HasFailed, Hears, IsShort, IsTooMuch, IsWhy, Lasts, Minds, Passes, Proceeds, Sends, Served, Serves, Stops, StopsAfter, Works, breaks_off, end_after, end_of, end_or, ends_broken, ends_short, ends_whole, fails_short, fails_whole, heard, is_short, kept_by, minds_full, minds_none, none, or_before, passes_on, some}
+use Rattle.net_host.proofs.Flowing.{flows_both, flows_none, flows_still}
+use Rattle.net_host.specs.HostedConnections.{Adds, Breaks, Closes, EndsBy, Fails, FailsBy, HandsOver, HandsSome, HasFailed, Hears, IsShort, IsTooMuch, IsWhy, Lasts, Minds, Passes, Proceeds, Sends, Served, Serves, Shuts, Stops, StopsAfter, TakesIn, Works, breaks_off, end_after, end_of, end_or, ends_broken, ends_short, ends_whole, fails_short, fails_whole, heard, is_short, kept_by, minds_full, minds_none, none, or_before, passes_on, some}
 use Rattle.net_host.specs.Waking.{HandsAll, HandsOut, hands_more, hands_none}
 
 -- events, and more of them
@@ -76,13 +80,14 @@ module _ {H : Type 0} {table : ObjectTableKind H} where
     unwoken = refl;
     at_once = at_none now;
     in_order = append-nil s.rest;
+    flow = flows_none s.flow;
     end = refl;
   }
 
   -- one after the other
   pub serves_both : {now : ℕ} {a b c : Served H} {came more left : List ℕ} → Serves table now a came b.rest b → Serves table now b more left c
       → Serves table now a (came ++ more) left c
-  serves_both {now = now} {a = a} {b = b} {came = came} {more = more} {left = left} h k = record {
+  serves_both {now = now} {a = a} {b = b} {c = c} {came = came} {more = more} {left = left} h k = record {
     number = k.number ∙ h.number;
     peer = k.peer ∙ h.peer;
     transfer = both h.transfer k.transfer;
@@ -96,16 +101,35 @@ module _ {H : Type 0} {table : ObjectTableKind H} where
     in_order =
         sym (append_assoc a.rest came more) ∙ ap (λ (x : List ℕ). x ++ more) h.in_order ∙ append_assoc h.transfer.given b.rest more
         ∙ ap (λ (x : List ℕ). h.transfer.given ++ x) k.in_order ∙ sym (append_assoc h.transfer.given k.transfer.given left);
+    flow = subst (λ (n : ℕ). Moves a.flow (came ++ more) n (h.transfer.written ++ k.transfer.written) c.flow) (sym (length-append h.transfer.ended k.transfer.ended)) (flows_both h.flow k.flow);
     end = k.end ∙ ap (λ known. end_after known k.transfer.told) h.end ∙ sym (end_after-both a.end h.transfer.told k.transfer.told);
   }
 
-  -- a call of its session that gave it nothing
-  pub serves_call : (now : ℕ) (s : Served H) (t : State H) (written : List ℕ) → Does table s.session (record (called_at now) { written = written }) t
-      → Serves table now s [] s.rest (record s { session = t })
-  serves_call now s t written does = record {
+  -- nothing was done, or a call of its stream that gave and took nothing
+  pub serves_still : (now : ℕ) (s : Served H) (flow : Flow) → Rests s.flow flow → Serves table now s [] s.rest (record s { flow = flow })
+  serves_still now s flow still = record {
     number = refl;
     peer = refl;
-    transfer = record (called_at now) { written = written };
+    transfer = nothing;
+    runs = begins;
+    no_call = refl;
+    unroused = refl;
+    unrefused = refl;
+    unticked = refl;
+    unwoken = refl;
+    at_once = at_none now;
+    in_order = append-nil s.rest;
+    flow = still;
+    end = refl;
+  }
+
+  -- a call of its session that gave it no bytes
+  pub serves_call : (now : ℕ) (s : Served H) (t : State H) (flow : Flow) (written ended : List ℕ) → Does table s.session (record (called_at now) { written = written; ended = ended }) t
+      → Moves s.flow [] (length ended) written flow → Serves table now s [] s.rest (record s { session = t; flow = flow })
+  serves_call now s t flow written ended does moved = record {
+    number = refl;
+    peer = refl;
+    transfer = record (called_at now) { written = written; ended = ended };
     runs = runs_one _ does;
     no_call = refl;
     unroused = refl;
@@ -114,6 +138,7 @@ module _ {H : Type 0} {table : ObjectTableKind H} where
     unwoken = refl;
     at_once = at_one now;
     in_order = append-nil s.rest;
+    flow = moved;
     end = refl;
   }
 
@@ -128,8 +153,9 @@ module _ {H : Type 0} {table : ObjectTableKind H} where
   stops_then h k = (_, (k.1.0, serves_both h.1 k.1.1))
 
   -- it went on for the last time
-  pub stops_after : {now : ℕ} {a b : Served H} {came left : List ℕ} → Serves table now a came left b → StopsAfter table now a came b
-  stops_after h = (_, h)
+  pub stops_after : {now : ℕ} {a b : Served H} {came left : List ℕ} {ended : ℕ} → TakesIn table now a came ended left b → (before : Flow) → Moves before came ended [] a.flow
+      → StopsAfter table now (record a { flow = before }) came b
+  stops_after h before moved = (_, h before moved)
 
   pub stops_now : {now : ℕ} {a b : Served H} {came left : List ℕ} → Serves table now a came left b → Stops table now a b
   stops_now h = (_, (_, h))
@@ -137,14 +163,18 @@ module _ {H : Type 0} {table : ObjectTableKind H} where
   -- the objects went on, or memory ran out
   pub serves_polled : {E : Type 0} (s : Served H) (t : State H) (r : Result (Unit {0}) E) (now : ℕ) → OnOk r (PollsOn table s.session now t) → OnErr r (RunsOut table s.session now t)
       → Serves table now s [] s.rest (record s { session = t })
-  serves_polled s t (Ok x) now h k = serves_call now s t [] (polls now h refl)
-  serves_polled s t (Err e) now h k = serves_call now s t [] (runs_out now k refl)
+  serves_polled s t (Ok x) now h k = serves_call now s t s.flow [] [] (polls now h refl) (flows_none s.flow)
+  serves_polled s t (Err e) now h k = serves_call now s t s.flow [] [] (runs_out now k refl) (flows_none s.flow)
 
   -- the peer's bytes ended, well or not
   pub serves_ended : (s : Served H) (t : State H) (r : Result (Unit {0}) ConnectionFault) (now : ℕ) → OnOk r (EndsBytes table s.session now t)
-      → IfErr r (λ fault. EndsCut table s.session now fault t) → Serves table now s [] s.rest (record s { session = t })
-  serves_ended s t (Ok x) now h k = serves_call now s t [] (ends now h refl)
-  serves_ended s t (Err fault) now h k = serves_call now s t [] (ends_inside now fault k refl)
+      → IfErr r (λ fault. EndsCut table s.session now fault t) → TakesIn table now s [] 1 s.rest (record s { session = t })
+  serves_ended s t (Ok x) now h k before moved = serves_call now (record s { flow = before }) t s.flow [] (now ∷ []) (ends now h refl) moved
+  serves_ended s t (Err fault) now h k before moved = serves_call now (record s { flow = before }) t s.flow [] (now ∷ []) (ends_inside now fault k refl) moved
+
+  -- its stream gave nothing
+  pub takes_nothing : (now : ℕ) (s : Served H) → TakesIn table now s [] 0 s.rest s
+  takes_nothing now s before moved = serves_still now (record s { flow = before }) s.flow moved
 
   -- what is over stays so where its peer is refused
   over_minded : {most now : ℕ} (s t : State H) → Minds table most now s t → s.progress.phase ≡ phases.Over → t.progress.phase ≡ phases.Over
@@ -154,9 +184,9 @@ module _ {H : Type 0} {table : ObjectTableKind H} where
 
   -- its stream took some bytes, or none
   pub proceeds_sent : (s t : Served H) (count now : ℕ) → Sends table s count now t → Proceeds table now s t
-  proceeds_sent s t count now (none zero same) = subst (λ (x : Served H). Proceeds table now s x) (sym same) (proceeds_none now s)
-  proceeds_sent s t count now (some sent same) =
-      subst (λ (x : Served H). Proceeds table now s x) (sym same) ([], serves_call now s t.session _ (writes count now sent refl), refl)
+  proceeds_sent s t count now (none zero still same) = subst (λ (x : Served H). Proceeds table now s x) (sym same) ([], serves_still now s t.flow still, refl)
+  proceeds_sent s t count now (some sent moved same) =
+      subst (λ (x : Served H). Proceeds table now s x) (sym same) ([], serves_call now s t.session t.flow _ [] (writes count now sent refl) moved, refl)
 
   -- it had some of what was left
   pub serves_rest : {now : ℕ} (s : Served H) (t : State H) (rest left : List ℕ) (count : ℕ) → left ≡ s.rest → IsFed table now s.session (take count left) t
@@ -173,13 +203,14 @@ module _ {H : Type 0} {table : ObjectTableKind H} where
     unwoken = refl;
     at_once = fed.2;
     in_order = append-nil s.rest ∙ sym is ∙ parts left count;
+    flow = flows_none s.flow;
     end = refl;
   }
 
   -- it had some of what came, where nothing was left
   pub serves_came : {now : ℕ} (s : Served H) (t : State H) (rest came given left : List ℕ) → s.rest ≡ [] → came ≡ given ++ left → IsFed table now s.session given t
-      → Serves table now s came left (record s { session = t; rest = rest })
-  serves_came s t rest came given left empty is fed = record {
+      → TakesIn table now s came 0 left (record s { session = t; rest = rest })
+  serves_came s t rest came given left empty is fed before moved = record {
     number = refl;
     peer = refl;
     transfer = record nothing { given = given; taken = fed.0; times = fed.1 };
@@ -191,12 +222,13 @@ module _ {H : Type 0} {table : ObjectTableKind H} where
     unwoken = refl;
     at_once = fed.2;
     in_order = rw empty is;
+    flow = moved;
     end = refl;
   }
 
   -- the same, where the rest is what was added to nothing
   pub serves_added : {now : ℕ} (s : Served H) (t : State H) (rest came given left : List ℕ) → s.rest ≡ [] → rest ≡ s.rest ++ left → came ≡ given ++ left → IsFed table now s.session given t
-      → Serves table now s came rest (record s { session = t; rest = rest })
+      → TakesIn table now s came 0 rest (record s { session = t; rest = rest })
   serves_added s t rest came given left empty added is fed =
       serves_came s t rest came given rest empty (is ∙ ap (λ (x : List ℕ). given ++ x) (sym (added ∙ ap (λ (x : List ℕ). x ++ left) empty))) fed
 
@@ -240,6 +272,7 @@ module _ {H : Type 0} {table : ObjectTableKind H} where
     unwoken = rw (h.unwoken) refl;
     at_once = at_both now h.transfer.times [] h.at_once (at_none now);
     in_order = h.in_order ∙ ap (λ (x : List ℕ). x ++ left) (sym (append-nil h.transfer.given));
+    flow = rw (append-nil h.transfer.ended, append-nil h.transfer.written, ap (λ (x : Served H). x.flow) k.3) h.flow;
     end = ap (λ (x : Served H). x.end) k.3 ∙ ap (λ known. end_after known k.0) h.end ∙ sym (end_after-both a.end h.transfer.told k.0);
   }
 
@@ -274,14 +307,19 @@ module _ {H : Type 0} {table : ObjectTableKind H} where
 
   -- what is over stays so
   over_settled : (s t : State H) (now : ℕ) → Settles table s now t → s.progress.phase ≡ phases.Over → t.progress.phase ≡ phases.Over
-  over_settled s t now h over = by h.left_so
+  over_settled s t now h over = then h.ends
     where
       heeded : h.heeded.progress.phase ≡ phases.Over
       heeded = ap (λ (x : State H). x.progress.phase) h.heeds ∙ ap (λ phase. phase_by s.service.work.link.fault phase) over ∙ over_still s.service.work.link.fault
 
-      by : Leaves table h.heeded now t → t.progress.phase ≡ phases.Over
+      by : Leaves table h.heeded now h.gone → h.gone.progress.phase ≡ phases.Over
       by (stays unsettled is) = ap (λ (x : State H). x.progress.phase) is ∙ heeded
       by (leaves settled is) = absurd (grind (arith, settled.ending, heeded))
+
+      then : EndsObjects table now h.gone t → t.progress.phase ≡ phases.Over
+      then (doing.not_yet why is) = ap (λ (x : State H). x.progress.phase) is ∙ by h.left_so
+      then (doing.each_told at done timed told_all is) = ap (λ (x : State H). x.progress.phase) is ∙ by h.left_so
+      then (doing.ran_out done is) = ap (λ (x : State H). x.progress.phase) is ∙ ap ended (by h.left_so)
 
   -- time passes for no object where a limit is met
   goes_none : {now : ℕ} {ticked mid : State H} → GoesBy table now ticked mid → IsSome ticked.progress.limit → mid ≡ ticked
@@ -311,8 +349,9 @@ module _ {H : Type 0} {table : ObjectTableKind H} where
   -- ---- its end
 
   -- its stream failed
-  serves_failed : {now : ℕ} {a b : Served H} {came left : List ℕ} (failure : Option (Option ℤ)) → Serves table now a came left b → Serves table now a came left (record b { failure = failure })
-  serves_failed failure h = record {
+  serves_failed : {now : ℕ} {a b : Served H} {came left : List ℕ} (failure : Option (Option ℤ)) (flow : Flow) → Rests b.flow flow → Serves table now a came left b
+      → Serves table now a came left (record b { failure = failure; flow = flow })
+  serves_failed failure flow still h = record {
     number = h.number;
     peer = h.peer;
     transfer = h.transfer;
@@ -324,12 +363,13 @@ module _ {H : Type 0} {table : ObjectTableKind H} where
     unwoken = h.unwoken;
     at_once = h.at_once;
     in_order = h.in_order;
+    flow = flows_still h.flow still;
     end = h.end;
   }
 
-  pub fails_now : {now : ℕ} {a b c : Served H} (error : Error) → Proceeds table now a b → c ≡ record b { failure = Some (raw_os_error error) } → Breaks table now a error c
-  fails_now {now = now} {a = a} {b = b} error h e =
-      subst (λ (x : Served H). Breaks table now a error x) (sym e) ((h.0, (b.rest, serves_failed (Some (raw_os_error error)) h.1)), inl refl)
+  pub fails_now : {now : ℕ} {a b c : Served H} (error : Error) → Proceeds table now a b → FailsBy b error c → Breaks table now a error c
+  fails_now {now = now} {a = a} {b = b} {c = c} error h e =
+      subst (λ (x : Served H). Breaks table now a error x) (sym e.1) ((h.0, (b.rest, serves_failed (Some (raw_os_error error)) c.flow e.0 h.1)), inl refl)
 
   -- it went on, and then failed
   pub fails_then : {now : ℕ} {a b c : Served H} (error : Error) → Proceeds table now a b → Breaks table now b error c → Breaks table now a error c
@@ -380,18 +420,18 @@ module _ {H : Type 0} {table : ObjectTableKind H} where
       (λ over. goes_on (same_phase h.hands.0 ∙ turn.hears.2 ∙ over_minded turn.ticked turn.minded turn.minds over))
 
   -- its last turn
-  pub broken_off : {now : ℕ} {a b : Served H} (most : ℕ) (error : Error) → Breaks table now a error b → Lasts table most now a b
-  broken_off most error h = breaks_off error h
+  pub broken_off : {now : ℕ} {a b c : Served H} (most : ℕ) (error : Error) → Breaks table now a error b → Shuts table now b c → Lasts table most now a c
+  broken_off {b = b} most error h k = breaks_off error b h k
 
   pub passed_so : {most now : ℕ} {a b : Served H} → Passes table most now a b → Lasts table most now a b
   passed_so h = passes_on h
 
   lasts_number : {most now : ℕ} {a b : Served H} → Lasts table most now a b → b.number ≡ a.number
-  lasts_number (breaks_off error broken) = broken.0.1.1.number
+  lasts_number (breaks_off error broken breaks shuts) = ap (λ (x : Served H). x.number) shuts.1 ∙ breaks.0.1.1.number
   lasts_number (passes_on through) = passes_number through
 
   lasts_peer : {most now : ℕ} {a b : Served H} → Lasts table most now a b → b.peer ≡ a.peer
-  lasts_peer (breaks_off error broken) = broken.0.1.1.peer
+  lasts_peer (breaks_off error broken breaks shuts) = ap (λ (x : Served H). x.peer) shuts.1 ∙ breaks.0.1.1.peer
   lasts_peer (passes_on through) = passes_peer through
 
   -- it is closed, and keeps its number and peer
@@ -412,9 +452,10 @@ module _ {H : Type 0} {table : ObjectTableKind H} where
   -- as its stream failed, or memory ran out
   pub closes_failed : {most now : ℕ} {woken : List Waker} (old last new : Served H) (error : Error) (end : End) → Fails table most now old woken error last
       → end ≡ end_or last.end (all_ends.Failed error) → new ≡ record last { end = None } → Closes table most now old woken end new
-  closes_failed old last new error end (fails_whole served breaks hands) why is =
-      closed old last new end (ap (λ (x : Served H). x.number) hands.1 ∙ breaks.0.1.1.number) (ap (λ (x : Served H). x.peer) hands.1 ∙ breaks.0.1.1.peer)
-      (ends_broken served last error breaks hands why) is
+  closes_failed old last new error end (fails_whole broken served breaks shuts hands) why is =
+      closed old last new end (ap (λ (x : Served H). x.number) hands.1 ∙ ap (λ (x : Served H). x.number) shuts.1 ∙ breaks.0.1.1.number)
+      (ap (λ (x : Served H). x.peer) hands.1 ∙ ap (λ (x : Served H). x.peer) shuts.1 ∙ breaks.0.1.1.peer)
+      (ends_broken broken served last error breaks shuts hands why) is
   closes_failed old last new error end (fails_short served lasts hands short) why is =
       closed old last new end (ap (λ (x : Served H). x.number) hands.1 ∙ lasts_number lasts) (ap (λ (x : Served H). x.peer) hands.1 ∙ lasts_peer lasts)
       (ends_short served last lasts hands (error, short, why)) is

@@ -10,7 +10,9 @@ use Rattle.cp_session.specs.declared.options.SessionOptions.{SessionOptions}
 use Rattle.cp_session.specs.Doing.{due_of}
 use Rattle.cp_session.specs.Progress.{earlier}
 use Rattle.cp_session.specs.State.{State, new_state}
+use Rattle.net_sockets.specs.Flow.{Flow}
 use Rattle.net_sockets.specs.Reading.{failure_of}
+use Rattle.net_sockets.specs.Sockets.{flow_of_socket}
 use Rattle.net_host.specs.declared.end.End.{End}
 use Rattle.net_host.specs.declared.end.Ended.{Ended}
 use Rattle.net_host.specs.declared.event_loop.EventLoop.{EventLoop}
@@ -29,38 +31,39 @@ use Rattle.net_host.specs.Timing.{ComesBy}
 use Rattle.net_host.specs.Waking.{key_of, session_of}
 
 -- The connections that are served, by their keys, the ends of which there was no news yet, what may be kept for all together, and the objects that are to be woken,
--- in order; and when limits of time are looked at next, if a connection has one.
+-- in order; when limits of time are looked at next, if a connection has one; and the milliseconds since the host began, at its last look at the clock.
 pub record Floor (H : Type 0) : Type 0 where
   pub served : ℕ → Option (Served H)
   pub ended : List Ended
   pub budget : Keeping
   pub wakes : List Waker
   pub due : Option ℕ
+  pub now : ℕ
 
 -- the connections that a slab has, by their keys
-abbrev pub seen : {S H : Type 0} → (S → State H) → Slab (HostedConnection S) → ℕ → Option (Served H)
-seen state guests key = option_map (served_of state) (get guests key)
+abbrev pub seen : {S D H : Type 0} → (S → State H) → (D → Flow) → Slab (HostedConnection S D) → ℕ → Option (Served H)
+seen state flow guests key = option_map (served_of state flow) (get guests key)
 
 -- the connections of an event loop
-abbrev pub floor_of : {S H : Type 0} → (S → State H) → EventLoop S → Floor H
-floor_of state event_loop = record { served = seen state event_loop.guests; ended = event_loop.ended.items; budget = event_loop.budget; wakes = event_loop.wakes.items; due = event_loop.time.sweep_at }
+abbrev pub floor_of : {S D H : Type 0} → (S → State H) → (D → Flow) → EventLoop S D → Floor H
+floor_of state flow event_loop = record { served = seen state flow event_loop.guests; ended = event_loop.ended.items; budget = event_loop.budget; wakes = event_loop.wakes.items; due = event_loop.time.sweep_at; now = event_loop.time.at }
 
 -- the connections of a host
 abbrev pub connections_of : {S H : Type 0} → (S → State H) → SessionHost S → Floor H
-connections_of state host = floor_of state host.event_loop
+connections_of state host = floor_of state flow_of_socket host.event_loop
 
 -- the key of each connection that meets a limit of time by now is among these
-abbrev pub HasOverdue : {S H : Type 0} → ObjectTableKind H → (S → State H) → Slab (HostedConnection S) → ℕ → List ℕ → Type 0
-HasOverdue {S = S} table state guests now keys = (key : ℕ) (hosted : HostedConnection S) → get guests key ≡ Some hosted → IsOverdue table (state hosted.session) now → Contains keys key
+abbrev pub HasOverdue : {S D H : Type 0} → ObjectTableKind H → (S → State H) → Slab (HostedConnection S D) → ℕ → List ℕ → Type 0
+HasOverdue {S = S} {D = D} table state guests now keys = (key : ℕ) (hosted : HostedConnection S D) → get guests key ≡ Some hosted → IsOverdue table (state hosted.session) now → Contains keys key
 
 -- the stream of the connection that waits for its objects, if one does, didn't fail
-abbrev pub IsFresh : Option PendingConnection → Type 0
+abbrev pub IsFresh : {D : Type 0} → Option (PendingConnection D) → Type 0
 IsFresh None = Unit {0}
 IsFresh (Some pending) = failure_of pending.stream ≡ None
 
 -- nobody is served by a host with these limits
 abbrev pub nobody : {H : Type 0} → HostLimits → Floor H
-nobody limits = record { served = λ key. None; ended = []; budget = record { share = share_of limits; pool = pool_of limits; kept = map.empty }; wakes = []; due = None }
+nobody limits = record { served = λ key. None; ended = []; budget = record { share = share_of limits; pool = pool_of limits; kept = map.empty }; wakes = []; due = None; now = 0 }
 
 -- the number of a connection in the budget, by its key (there is no memory for 2^32 connections)
 abbrev pub number_of : ℕ → ℕ
@@ -83,7 +86,7 @@ module _ {H : Type 0} where
     pub here : new key ≡ slot
     pub elsewhere : (other : ℕ) → other ≢ key → new other ≡ old other
 
-  -- nothing was done with any connection
+  -- nothing was done with any connection, though the host may have looked at the clock
   pub record Rests (old new : Floor H) : Type 0 where
     pub same : (key : ℕ) → new.served key ≡ old.served key
     pub ended : new.ended ≡ old.ended
@@ -115,11 +118,12 @@ module _ {H : Type 0} where
   abbrev pub QueuesEnd : Floor H → Served H → End → Floor H → Type 0
   QueuesEnd old one end new = new.ended ≡ old.ended ++ record { number = one.number; peer = one.peer; end = end } ∷ []
 
-  -- News of an end is that of the first connection of whose end there was none: its number, its peer, and how it ended.
+  -- News of an end is that of the first connection of whose end there was none: its number, its peer, and how it ended. Other news is told, or that all is over,
+  -- only where there was news of each end.
   abbrev pub Tells : Floor H → Option HostEvent → Floor H → Type 0
   Tells old (Some (all_news.Ended number peer end)) new =
       (new.served ≡ old.served) × (old.ended ≡ record { number = number; peer = peer; end = end } ∷ new.ended) × (new.budget ≡ old.budget) × (new.wakes ≡ old.wakes) × (new.due ≡ old.due)
-  Tells old other new = new ≡ old
+  Tells old other new = (new ≡ old) × (old.ended ≡ [])
 
 module _ {H : Type 0} (table : ObjectTableKind H) where
   -- A connection's deadline: when it meets a limit of time, if no byte moves before, or an object of it is to be woken. This is no later than any of theirs.
@@ -141,27 +145,31 @@ module _ {H : Type 0} (table : ObjectTableKind H) where
     pub wakes : new.wakes ≡ old.wakes
     pub due : new.due ≡ earlier old.due (due_of table one.session)
 
-  -- The connection that waited for its objects, if one did, is served with them from now on. They know the number of their session.
-  abbrev pub Seats : HostConfig → Option PendingConnection → H → Floor H → Floor H → Type 0
-  Seats plan None objects old new = new ≡ old
-  Seats plan (Some pending) objects old new =
-      (now : ℕ) × (seated : H) × (seat : Begins old (new_served pending (new_state (options_of plan) seated now)) new)
+  -- A connection that waited for its objects is served with them from this time on. They know the number of their session.
+  abbrev pub SeatsAt : {D : Type 0} → (D → Flow) → ℕ → HostConfig → PendingConnection D → H → Floor H → Floor H → Type 0
+  SeatsAt flow now plan pending objects old new =
+      (seated : H) × (seat : Begins old (new_served flow pending (new_state (options_of plan) seated now)) new)
       × table.is_in (session_of pending.number seat.key) objects seated
+
+  -- The connection that waited, if one did, is served from the host's time on.
+  abbrev pub Seats : {D : Type 0} → (D → Flow) → HostConfig → Option (PendingConnection D) → H → Floor H → Floor H → Type 0
+  Seats flow plan None objects old new = new ≡ old
+  Seats flow plan (Some pending) objects old new = SeatsAt flow old.now plan pending objects old new
 
   -- limits of time are looked at by the deadline of this connection
   abbrev pub Awaits : Floor H → Served H → Floor H → Type 0
   Awaits old next new = new.due ≡ earlier old.due (due_of table next.session)
 
-  -- One connection has a turn. It goes on; or it ended, is served no more, and news of that is to come, with its number and peer. Whom its objects want to be woken
+  -- One connection has a turn, at the host's time. It goes on; or it ended, is served no more, and news of that is to come, with its number and peer. Whom its objects want to be woken
   -- is to be, in order. Or the first object that is to be woken is woken, in the session that its waker names; or that isn't served any more, and nothing was done;
   -- or memory ran out for it, and its connection ended. Nothing was done with any other. Where one goes on, limits of time are looked at by its deadline. Or they were
   -- looked at, and are when the first is met.
   pub data Turns (old new : Floor H) : Type 0 where
     rests : Rests old new → Turns old new
-    goes_on : (key now : ℕ) (one next : Served H) (woken : List Waker) → old.served key ≡ Some one → Stays table (most_for old key) now one woken next
+    goes_on : (key : ℕ) (one next : Served H) (woken : List Waker) → old.served key ≡ Some one → Stays table (most_for old key) old.now one woken next
         → Puts old.served key (Some next) new.served → new.ended ≡ old.ended → Notes old key (kept_by table next) new → new.wakes ≡ old.wakes ++ woken
         → Awaits old next new → Turns old new
-    ends : (key now : ℕ) (one : Served H) (woken : List Waker) (end : End) → old.served key ≡ Some one → EndsBy table (most_for old key) now one woken end
+    ends : (key : ℕ) (one : Served H) (woken : List Waker) (end : End) → old.served key ≡ Some one → EndsBy table (most_for old key) old.now one woken end
         → Puts old.served key None new.served → QueuesEnd old one end new → Forgets old key new → new.wakes ≡ old.wakes ++ woken
         → new.due ≡ old.due → Turns old new
     wakes : (waker : Waker) (one next : Served H) → old.wakes ≡ waker ∷ new.wakes → IsServed old waker one → Rouses table waker.object one next

@@ -1,5 +1,5 @@
 -- A connection of a host, and what is done with it.
-use Rattle.std.specs.Prelude.{◌≡◌, ◌≢◌, ◌≤◌, ◌<◌, ◌⊎◌, ℕ, ℤ, true, List, [], ◌∷◌, ◌++◌, Option, Some, None, take}
+use Rattle.std.specs.Prelude.{◌≡◌, ◌≢◌, ◌≤◌, ◌<◌, ◌⊎◌, ℕ, ℤ, true, List, [], ◌∷◌, ◌++◌, Option, Some, None, length, take}
 use Rattle.std.specs.FinMap as map
 use Rattle.std.specs.IoError.{error_kind, raw_os_error}
 use Rattle.std.specs.declared.io.Error.{Error}
@@ -12,15 +12,15 @@ use Rattle.cp_session.specs.declared.event.SessionEvent.TheVariants as events
 use Rattle.cp_session.specs.declared.progress.Limit.{Limit}
 use Rattle.cp_session.specs.declared.progress.Limit.TheVariants as limits
 use Rattle.cp_session.specs.declared.progress.Phase.TheVariants as phases
+use Rattle.cp_session.specs.Doing as doing
 use Rattle.cp_session.specs.Doing.{IsRefused, MayTake, Ticks, Wakes, Writes, due_of}
 use Rattle.cp_session.specs.Kept.{kept_of}
 use Rattle.cp_session.specs.Progress.{IsDraining, Meets}
 use Rattle.cp_session.specs.Runs.{Transfer, Runs, nothing}
 use Rattle.cp_session.specs.State.{State, link_of}
 use Rattle.net_sockets.specs.declared.listener.Peer.{Peer}
-use Rattle.net_sockets.specs.declared.nonblocking_stream.Got.{Got}
-use Rattle.net_sockets.specs.declared.nonblocking_stream.Got.TheVariants as gots
-use Rattle.net_sockets.specs.Reading.{failure_of, may_read, may_write}
+use Rattle.net_sockets.specs.Flow.{Flow, Moves, Rests}
+use Rattle.net_sockets.specs.Reading.{failure_of, flow_of, may_read, may_write}
 use Rattle.net_host.specs.declared.allowance.Allowance.{Allowance}
 use Rattle.net_host.specs.declared.end.End.{End}
 use Rattle.net_host.specs.declared.end.End.TheVariants as ends
@@ -32,8 +32,8 @@ use Rattle.net_host.specs.Feeding.{AreAt}
 use Rattle.net_host.specs.Timing.{ComesBy}
 use Rattle.net_host.specs.Waking.{HandsAll, HandsOut}
 
--- A connection: its number, its peer, its session, what was read of its stream and not taken, how it ended, once an event said so, and the system's code of the
--- error that its stream gave last, if it gave one and that had a code.
+-- A connection: its number, its peer, its session, what was read of its stream and not taken, how it ended, once an event said so, the system's code of the error
+-- that its stream gave last, if it gave one and that had a code, and what goes through its socket.
 pub record Served (H : Type 0) : Type 0 where
   pub number : ℕ
   pub peer : Peer
@@ -41,16 +41,18 @@ pub record Served (H : Type 0) : Type 0 where
   pub rest : List ℕ
   pub end : Option End
   pub failure : Option (Option ℤ)
+  pub flow : Flow
 
 -- a connection by its parts
-abbrev pub served_of : {S H : Type 0} → (S → State H) → HostedConnection S → Served H
-served_of state hosted = record {
+abbrev pub served_of : {S D H : Type 0} → (S → State H) → (D → Flow) → HostedConnection S D → Served H
+served_of state flow hosted = record {
   number = hosted.number;
   peer = hosted.peer;
   session = state hosted.session;
   rest = hosted.rest.items;
   end = hosted.end;
   failure = failure_of hosted.stream;
+  flow = flow_of flow hosted.stream;
 }
 
 -- how many bytes are kept for it
@@ -58,22 +60,23 @@ abbrev pub kept_by : {H : Type 0} → ObjectTableKind H → Served H → ℕ
 kept_by table served = kept_of served.session.service.work (table.guests served.session.objects)
 
 -- something waits to be written, and its stream may take bytes
-abbrev pub CanWrite : {S H : Type 0} → (S → State H) → HostedConnection S → Type 0
+abbrev pub CanWrite : {S D H : Type 0} → (S → State H) → HostedConnection S D → Type 0
 CanWrite state hosted = (may_write hosted.stream ≡ true) × ((link_of (state hosted.session)).unwritten ≢ [])
 
 -- there may be bytes of the peer, or its end
-abbrev pub MayHaveBytes : {S H : Type 0} → (S → State H) → HostedConnection S → Type 0
+abbrev pub MayHaveBytes : {S D H : Type 0} → (S → State H) → HostedConnection S D → Type 0
 MayHaveBytes state hosted = (may_read hosted.stream ≡ true) ⊎ (hosted.rest.items ≢ [])
 
 -- bytes are taken, or dropped, and there may be some
-abbrev pub CanTake : {S H : Type 0} → (S → State H) → HostedConnection S → Type 0
+abbrev pub CanTake : {S D H : Type 0} → (S → State H) → HostedConnection S D → Type 0
 CanTake state hosted =
     let session = state hosted.session in
     (IsDraining session.progress.phase ⊎ MayTake session) × MayHaveBytes state hosted
 
 -- a connection of which nothing was read
-abbrev pub new_served : {H : Type 0} → PendingConnection → State H → Served H
-new_served pending session = record { number = pending.number; peer = pending.peer; session = session; rest = []; end = None; failure = failure_of pending.stream }
+abbrev pub new_served : {D H : Type 0} → (D → Flow) → PendingConnection D → State H → Served H
+new_served flow pending session =
+    record { number = pending.number; peer = pending.peer; session = session; rest = []; end = None; failure = failure_of pending.stream; flow = flow_of flow pending.stream }
 
 -- a limit of time is met by now, unless a byte moves, or an object is to be woken by now
 abbrev pub IsOverdue : {H : Type 0} → ObjectTableKind H → State H → ℕ → Type 0
@@ -110,12 +113,6 @@ abbrev pub end_or : Option End → End → End
 end_or None other = other
 end_or (Some end) other = end
 
--- the bytes that a read gave
-abbrev pub came_by : Got → List ℕ → List ℕ
-came_by (gots.Bytes count) piece = take count piece
-came_by gots.Nothing piece = []
-came_by gots.End piece = []
-
 -- this is the error that its stream gave last, or memory ran out
 abbrev pub HasFailed : {H : Type 0} → Served H → Error → Type 0
 HasFailed last error = (last.failure ≡ Some (raw_os_error error)) ⊎ (error_kind error ≡ kinds.OutOfMemory)
@@ -123,6 +120,10 @@ HasFailed last error = (last.failure ≡ Some (raw_os_error error)) ⊎ (error_k
 -- it ended as memory ran out, if no event said before how it did
 abbrev pub IsShort : {H : Type 0} → Served H → End → Type 0
 IsShort last end = (error : Error) × (error_kind error ≡ kinds.OutOfMemory) × (end ≡ end_or last.end (ends.Failed error))
+
+-- its stream failed with this error, and neither gave nor took bytes
+abbrev pub FailsBy : {H : Type 0} → Served H → Error → Served H → Type 0
+FailsBy old error new = Rests old.flow new.flow × (new ≡ record old { failure = Some (raw_os_error error); flow = new.flow })
 
 -- Why a connection is closed that may keep so many bytes, though its stream didn't fail: memory ran out; its session is over; or more is kept for it. What events
 -- said before comes first.
@@ -132,8 +133,8 @@ pub data IsWhy {H : Type 0} (table : ObjectTableKind H) (most : ℕ) (last : Ser
   is_full : most < kept_by table last → end ≡ end_or last.end (ends.Limit limits.Kept) → IsWhy table most last end
 
 module _ {H : Type 0} (table : ObjectTableKind H) where
-  -- A connection went on. Its session was given what was left of its stream and what came of it, in order and each byte once, but what is left now. Nothing else
-  -- was done with its session: the program made no call and woke no object, its peer wasn't refused, no time passed, and nobody was handed out who is to be woken.
+  -- A connection went on. Its session was given what was left of its stream and what came of it, in order and each byte once, but what is left now, and was told of
+  -- each end of the stream. What it was told that was written its stream took. Nothing else was done with its session: the program made no call and woke no object, its peer wasn't refused, no time passed, and nobody was handed out who is to be woken.
   -- All that was done with it was done at this time. What is known of its end is what events said.
   pub record Serves (now : ℕ) (old : Served H) (came left : List ℕ) (new : Served H) : Type 0 where
     pub number : new.number ≡ old.number
@@ -147,6 +148,7 @@ module _ {H : Type 0} (table : ObjectTableKind H) where
     pub unwoken : transfer.woken ≡ []
     pub at_once : AreAt now transfer.times
     pub in_order : old.rest ++ came ≡ transfer.given ++ left
+    pub flow : Moves old.flow came (length transfer.ended) transfer.written new.flow
     pub end : new.end ≡ end_after old.end transfer.told
 
   -- it went on, keeps what is left, and its stream didn't fail
@@ -157,9 +159,14 @@ module _ {H : Type 0} (table : ObjectTableKind H) where
   abbrev pub StopsAfter : ℕ → Served H → List ℕ → Served H → Type 0
   StopsAfter now old came new = (left : List ℕ) × Serves now old came left new
 
-  -- it did, as memory ran out
-  abbrev pub StopsShort : ℕ → Served H → List ℕ → Error → Served H → Type 0
-  StopsShort now old came error new = StopsAfter now old came new × (error_kind error ≡ kinds.OutOfMemory)
+  -- It went on with these bytes, or that end, which its stream gave just before.
+  abbrev pub TakesIn : ℕ → Served H → List ℕ → ℕ → List ℕ → Served H → Type 0
+  TakesIn now old came ended left new = (before : Flow) → Moves before came ended [] old.flow → Serves now (record old { flow = before }) came left new
+
+  -- it did, and for the last time, as memory ran out
+  abbrev pub StopsShort : ℕ → Served H → List ℕ → ℕ → Error → Served H → Type 0
+  StopsShort now old came ended error new =
+      ((before : Flow) → Moves before came ended [] old.flow → StopsAfter now (record old { flow = before }) came new) × (error_kind error ≡ kinds.OutOfMemory)
 
   -- it went on for the last time
   abbrev pub Stops : ℕ → Served H → Served H → Type 0
@@ -169,6 +176,10 @@ module _ {H : Type 0} (table : ObjectTableKind H) where
   abbrev pub Breaks : ℕ → Served H → Error → Served H → Type 0
   Breaks now old error new = Stops now old new × HasFailed new error
 
+  -- its session was closed, as its stream failed: its objects were told their end
+  abbrev pub Shuts : ℕ → Served H → Served H → Type 0
+  Shuts now old new = doing.Closes table old.session now new.session × (new ≡ record old { session = new.session })
+
   -- Events of its session were handed out, and nothing else was done. What is known of its end is what they said.
   abbrev pub Hears : Served H → Served H → Type 0
   Hears old new =
@@ -177,8 +188,9 @@ module _ {H : Type 0} (table : ObjectTableKind H) where
 
   -- its stream took this many of the bytes that waited, at this time
   pub data Sends (old : Served H) (count now : ℕ) (new : Served H) : Type 0 where
-    none : count ≡ 0 → new ≡ old → Sends old count now new
-    some : Writes table old.session count now new.session → new ≡ record old { session = new.session } → Sends old count now new
+    none : count ≡ 0 → Rests old.flow new.flow → new ≡ record old { flow = new.flow } → Sends old count now new
+    some : Writes table old.session count now new.session → Moves old.flow [] 0 (take count (link_of old.session).unwritten) new.flow
+        → new ≡ record old { session = new.session; flow = new.flow } → Sends old count now new
 
   -- its session handed out all objects of others that are to be woken
   abbrev pub HandsOver : Served H → List Waker → Served H → Type 0
@@ -209,22 +221,22 @@ module _ {H : Type 0} (table : ObjectTableKind H) where
     pub passes : Passes most now old told
     pub hands : HandsOver told woken new
 
-  -- It went on for the last time, before anybody was handed out who is to be woken: its stream failed, or memory ran out; or nothing failed yet.
+  -- It went on for the last time, before anybody was handed out who is to be woken: its stream failed, or memory ran out, and it was closed; or nothing failed yet.
   pub data Lasts (most now : ℕ) (old new : Served H) : Type 0 where
-    breaks_off : (error : Error) → Breaks now old error new → Lasts most now old new
+    breaks_off : (error : Error) (broken : Served H) → Breaks now old error broken → Shuts now broken new → Lasts most now old new
     passes_on : Passes most now old new → Lasts most now old new
 
-  -- It went on for the last time, as its stream failed with this error, or memory ran out. All objects of others that are to be woken were handed out; or memory ran
-  -- out for that, once these were.
+  -- It went on for the last time, as its stream failed with this error, or memory ran out, and it was closed. All objects of others that are to be woken were handed
+  -- out; or memory ran out for that, once these were.
   pub data Fails (most now : ℕ) (old : Served H) (woken : List Waker) (error : Error) (new : Served H) : Type 0 where
-    fails_whole : (last : Served H) → Breaks now old error last → HandsOver last woken new → Fails most now old woken error new
+    fails_whole : (broken last : Served H) → Breaks now old error broken → Shuts now broken last → HandsOver last woken new → Fails most now old woken error new
     fails_short : (last : Served H) → Lasts most now old last → HandsSome last woken new → error_kind error ≡ kinds.OutOfMemory → Fails most now old woken error new
 
   -- It went on for the last time, and this is how it ended: its stream failed, or memory ran out; or nothing failed, and this is why. All objects of others that are
   -- to be woken were handed out; or memory ran out for that, once these were.
   pub data EndsBy (most now : ℕ) (old : Served H) (woken : List Waker) (end : End) : Type 0 where
-    ends_broken : (served last : Served H) (error : Error) → Breaks now old error served → HandsOver served woken last → end ≡ end_or last.end (ends.Failed error)
-        → EndsBy most now old woken end
+    ends_broken : (broken served last : Served H) (error : Error) → Breaks now old error broken → Shuts now broken served → HandsOver served woken last
+        → end ≡ end_or last.end (ends.Failed error) → EndsBy most now old woken end
     ends_whole : (last : Served H) → Works most now old woken last → IsWhy table most last end → EndsBy most now old woken end
     ends_short : (served last : Served H) → Lasts most now old served → HandsSome served woken last → IsShort last end → EndsBy most now old woken end
 

@@ -2,6 +2,7 @@
 use Rattle.std.specs.Prelude.{◌≡◌, ◌⊎◌, ℕ, ◌+◌, ◌≤◌, Option, Some, None}
 use Rattle.net_host.specs.Limits.{HasRoom}
 use Rattle.net_host.specs.Timing.{ComesBy}
+use Rattle.net_sockets.specs.declared.listener.Peer.{Peer}
 use Rattle.net_sockets.specs.Incoming.{most}
 use Rattle.net_host.specs.declared.host.HostEvent.{HostEvent}
 use Rattle.net_host.specs.declared.host.HostEvent.TheVariants as all_news
@@ -10,14 +11,14 @@ use Rattle.net_host.specs.declared.host.Look.TheVariants as looks
 use Rattle.net_host.specs.declared.limits.WhenFull.TheVariants as crowds
 use Rattle.net_host.specs.declared.config.HostConfig.{HostConfig}
 
--- The plan, how many are to come, how many came, how many are served, and the number of the one that waits for its objects. Then the time that the program named,
+-- The plan, how many are to come, how many came, how many are served, and the number and the peer of the one that waits for its objects. Then the time that the program named,
 -- if it is still to be told of it.
 pub record Roster : Type 0 where
   pub plan : HostConfig
   pub count : ℕ
   pub came : ℕ
   pub served : ℕ
-  pub awaits : Option ℕ
+  pub awaits : Option (ℕ × Peer)
   pub alarm : Option ℕ
 
 -- no connection came
@@ -29,11 +30,11 @@ pub record GoesOn (old new : Roster) : Type 0 where
   pub rest : new ≡ record old { served = new.served; awaits = None }
   pub no_more : new.served ≤ old.served
 
--- One more came, of those that are to come. It has the next number, waits for its objects, and may be served. No more are served so far.
-pub record Comes (old : Roster) (number : ℕ) (new : Roster) : Type 0 where
+-- One more came, of those that are to come. It has the next number and this peer, waits for its objects, and may be served. No more are served so far.
+pub record Comes (old : Roster) (number : ℕ) (peer : Peer) (new : Roster) : Type 0 where
   pub next : number ≡ old.came + 1
   pub wanted : number ≤ old.count
-  pub rest : new ≡ record old { came = number; served = new.served; awaits = Some number }
+  pub rest : new ≡ record old { came = number; served = new.served; awaits = Some (number, peer) }
   pub has_room : HasRoom old.plan.limits new.served
   pub no_more : new.served ≤ old.served
 
@@ -55,7 +56,7 @@ IsOver r = (r.served ≡ 0) × (r.count ≤ r.came)
 
 -- what is so once a host gave this news, or none
 abbrev pub Hears : Roster → Option HostEvent → Roster → Type 0
-Hears old (Some (all_news.Connected number peer)) new = Comes old number new
+Hears old (Some (all_news.Connected number peer)) new = Comes old number peer new
 Hears old (Some (all_news.Refused peer)) new = GoesOn old new × Refuses new
 Hears old (Some (all_news.Ended number peer end)) new = GoesOn old new
 Hears old (Some all_news.Woken) new = GoesOn (record old { alarm = None }) new
@@ -68,9 +69,9 @@ IsOnTime alarm first now (Some (all_news.Ended number peer end)) = Unit {0}
 IsOnTime alarm first now other = ComesBy first alarm → ⊥
 
 -- how many are served with the one that waited for its objects
-abbrev pub with_awaited : Option ℕ → ℕ → ℕ
+abbrev pub with_awaited : Option (ℕ × Peer) → ℕ → ℕ
 with_awaited None served = served
-with_awaited (Some number) served = served + 1
+with_awaited (Some one) served = served + 1
 
 -- the one that waited for its objects is served
 abbrev pub Admits : Roster → Roster → Type 0
@@ -80,7 +81,7 @@ Admits old new = new ≡ record old { served = with_awaited old.awaits old.serve
 abbrev pub Accepts : Roster → Option HostEvent → Roster → Type 0
 Accepts old None new = new ≡ old
 Accepts old (Some (all_news.Connected number peer)) new =
-    (number ≡ old.came + 1) × (new ≡ record old { came = number; awaits = Some number }) × HasRoom old.plan.limits old.served
+    (number ≡ old.came + 1) × (new ≡ record old { came = number; awaits = Some (number, peer) }) × HasRoom old.plan.limits old.served
 Accepts old (Some (all_news.Refused peer)) new = (new ≡ old) × Refuses old
 Accepts old (Some (all_news.Ended number peer end)) new = ⊥
 Accepts old (Some all_news.Woken) new = ⊥

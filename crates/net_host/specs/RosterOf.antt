@@ -12,7 +12,7 @@ roster host = record {
   count = count_of host.incoming;
   came = came_of host.incoming;
   served = slab_len host.event_loop.guests;
-  awaits = option_map (λ pending. pending.number) host.pending;
+  awaits = option_map (λ pending. (pending.number, pending.peer)) host.pending;
   alarm = host.alarm;
 }
 

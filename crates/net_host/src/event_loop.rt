@@ -1,10 +1,9 @@
 //! The connections that a host serves, and their turns.
 
-ghost use Rattle.std.specs.Prelude.{◌≡◌, ◌<◌, ◌≤◌, ◌+◌, ℕ, [], ◌∷◌, ◌++◌, Some, None, IfOk, OnOk, OnErr, option_to_list};
+ghost use Rattle.std.specs.Prelude.{◌≡◌, ◌<◌, ◌≤◌, ◌+◌, ℕ, [], ◌∷◌, ◌++◌, Some, None, IfNone, IfOk, OnOk, OnErr, option_to_list};
 ghost use Rattle.std.specs.VecDeque.{deque_capacity, deque_len};
 ghost use Rattle.slab.specs.Slab.{HasRoomFor, Updates, slab_len};
 ghost use Rattle.net_sockets.specs.Incoming.{Keeps};
-ghost use Rattle.net_sockets.specs.Reading.{failure_of};
 ghost use Rattle.net_host.specs.Waking.{key_of};
 ghost use Rattle.net_host.specs.Timing.{IsDue, until};
 ghost use Rattle.net_host.specs.Floor.{HasOverdue, IsFirst, Rests, Rounds, Seats, Turns, floor_of, nobody, number_of, seen, waking};
@@ -13,15 +12,14 @@ use crate::allowance::Allowance;
 use crate::config::HostConfig;
 use crate::end::Ended;
 use crate::hosted_connection::{HostedConnection, Turn, session_number};
-use crate::hosted_session::HostedSession;
 use crate::limits::HostLimits;
 use crate::pending::PendingConnection;
 use crate::time::{Time, earlier};
 use cp_objects::Waker;
-use cp_session::Budget;
+use cp_session::{Budget, DrivenSession};
 use mio::event::Event;
 use mio::{Events, Poll, Token};
-use net_sockets::{Incoming, NonblockingStream};
+use net_sockets::{Incoming, NonblockingStream, Socket};
 use slab::Slab;
 use std::alloc::{AllocGlobal, Global};
 use std::collections::VecDeque;
@@ -44,11 +42,11 @@ const PIECE: usize = 65_536;
 
 /// The connections that a host serves, each under its token.
 #[derive(Drop)]
-pub(crate) struct EventLoop<S> {
+pub(crate) struct EventLoop<S, D> {
     alloc: Global,
     poll: Poll,
     events: Events,
-    guests: Slab<HostedConnection<S>>,
+    guests: Slab<HostedConnection<S, D>>,
     /// What is kept for each, by the numbers of their keys.
     budget: Budget,
     /// The keys of those that can go on at once.
@@ -61,15 +59,15 @@ pub(crate) struct EventLoop<S> {
     time: Time,
 }
 
-impl<S: HostedSession> EventLoop<S> {
+impl<S: DrivenSession, D: Socket> EventLoop<S, D> {
     /// No connection is served. Those that come are reported.
     pub(crate) fn new<N: Net + Clock + AllocGlobal>(
         rt: &N,
         limits: &HostLimits,
         incoming: &mut Incoming,
-    ) -> io::Result<EventLoop<S>>
+    ) -> io::Result<EventLoop<S, D>>
         ensures nobody { IfOk result (λ it. slab_len it.guests ≡ 0) }
-        ensures empty { IfOk result (λ it. Rests (nobody limits.now) (floor_of S.state it)) }
+        ensures empty { IfOk result (λ it. Rests (nobody limits.now) (floor_of S.state D.flow it)) }
         ensures same { Keeps incoming.old incoming.new }
     {
         let poll = Poll::new(rt)?;
@@ -130,20 +128,21 @@ impl<S: HostedSession> EventLoop<S> {
     /// Has an object woken, once those are that are to be.
     pub(crate) fn wake(&mut self, waker: Waker) -> io::Result<()>
         ensures guests { self.new.guests ≡ self.old.guests }
-        ensures woken { OnOk result (floor_of S.state self.new ≡ waking (floor_of S.state self.old) waker) }
-        ensures unwoken { OnErr result (floor_of S.state self.new ≡ floor_of S.state self.old) }
+        ensures woken { OnOk result (floor_of S.state D.flow self.new ≡ waking (floor_of S.state D.flow self.old) waker) }
+        ensures unwoken { OnErr result (floor_of S.state D.flow self.new ≡ floor_of S.state D.flow self.old) }
     {
         self.wakes.push_back(waker)?;
         Ok(())
     }
 
-    /// The first of those that ended of which there was no news.
+    /// The first of those that ended of which there was no news, if there is one.
     pub(crate) fn next_end(&mut self) -> Option<Ended>
         ensures same { self.new.guests ≡ self.old.guests }
         ensures budget { self.new.budget ≡ self.old.budget }
         ensures wakes { self.new.wakes ≡ self.old.wakes }
         ensures time { self.new.time ≡ self.old.time }
         ensures first { self.old.ended.items ≡ option_to_list result ++ self.new.ended.items }
+        ensures none { IfNone result (self.old.ended.items ≡ []) }
     {
         self.ended.pop_front()
     }
@@ -152,13 +151,13 @@ impl<S: HostedSession> EventLoop<S> {
     pub(crate) fn admit(
         &mut self,
         plan: &HostConfig,
-        mut pending: PendingConnection,
+        mut pending: PendingConnection<D>,
         objects: S::Objects,
     ) -> io::Result<()>
         ensures served { OnOk result (slab_len self.new.guests ≡ slab_len self.old.guests + 1) }
         ensures lost { OnErr result (slab_len self.new.guests ≡ slab_len self.old.guests) }
-        ensures seats { OnOk result (Seats S.table plan.now (Some pending) objects (floor_of S.state self.old) (floor_of S.state self.new)) }
-        ensures unseated { OnErr result (Rests (floor_of S.state self.old) (floor_of S.state self.new)) }
+        ensures seats { OnOk result (Seats S.table D.flow plan.now (Some pending) objects (floor_of S.state D.flow self.old) (floor_of S.state D.flow self.new)) }
+        ensures unseated { OnErr result (Rests (floor_of S.state D.flow self.old) (floor_of S.state D.flow self.new)) }
     {
         match self.make_room(&mut pending.stream) {
             Ok(key) => {
@@ -180,7 +179,7 @@ impl<S: HostedSession> EventLoop<S> {
 
     /// Has a stream reported, makes room for its connection, and says under which key. After this nothing fails, so a connection that is
     /// made is served.
-    fn make_room(&mut self, stream: &mut NonblockingStream) -> io::Result<usize>
+    fn make_room(&mut self, stream: &mut NonblockingStream<D>) -> io::Result<usize>
         ensures room { OnOk result (HasRoomFor self.new.guests 1) }
         ensures key { IfOk result (λ key. key ≡ self.new.guests.vacant_key) }
         ensures same { self.new.guests ≡ record self.old.guests { capacity = self.new.guests.capacity } }
@@ -188,7 +187,7 @@ impl<S: HostedSession> EventLoop<S> {
         ensures budget { self.new.budget ≡ self.old.budget }
         ensures wakes { self.new.wakes ≡ self.old.wakes }
         ensures time { self.new.time ≡ self.old.time }
-        ensures stream { failure_of stream.new ≡ failure_of stream.old }
+        ensures stream { stream.new ≡ stream.old }
     {
         let key = self.guests.vacant_key();
         // A key in the queue that names no connection is passed over.
@@ -206,7 +205,7 @@ impl<S: HostedSession> EventLoop<S> {
         wait: Option<Duration>,
     ) -> io::Result<bool>
         ensures len { slab_len self.new.guests ≡ slab_len self.old.guests }
-        ensures rests { Rests (floor_of S.state self.old) (floor_of S.state self.new) }
+        ensures rests { Rests (floor_of S.state D.flow self.old) (floor_of S.state D.flow self.new) }
     {
         // Before the events are taken, of which none comes again.
         self.queue.reserve(EVENTS)?;
@@ -218,7 +217,7 @@ impl<S: HostedSession> EventLoop<S> {
     /// Gives each connection that can go on a turn.
     pub(crate) fn round(&mut self, limits: &HostLimits) -> io::Result<()>
         ensures len { slab_len self.new.guests ≤ slab_len self.old.guests }
-        ensures turns { Rounds S.table (floor_of S.state self.old) (floor_of S.state self.new) }
+        ensures turns { Rounds S.table (floor_of S.state D.flow self.old) (floor_of S.state D.flow self.new) }
     {
         // One piece or one round of polls each, so that a fast peer delays the others by a piece.
         for _ in 0..self.queue.len() {
@@ -231,7 +230,7 @@ impl<S: HostedSession> EventLoop<S> {
     /// Gives the first connection in the queue a turn. Where this fails, none had one.
     fn turn(&mut self, limits: &HostLimits) -> io::Result<()>
         ensures len { slab_len self.new.guests ≤ slab_len self.old.guests }
-        ensures turns { Turns S.table (floor_of S.state self.old) (floor_of S.state self.new) }
+        ensures turns { Turns S.table (floor_of S.state D.flow self.old) (floor_of S.state D.flow self.new) }
     {
         // Nothing fails once a connection had its turn: so its end is reported.
         self.ended.reserve(1)?;
@@ -269,7 +268,7 @@ impl<S: HostedSession> EventLoop<S> {
     /// Wakes the objects that are to be.
     fn wake_each(&mut self) -> io::Result<()>
         ensures len { slab_len self.new.guests ≤ slab_len self.old.guests }
-        ensures turns { Rounds S.table (floor_of S.state self.old) (floor_of S.state self.new) }
+        ensures turns { Rounds S.table (floor_of S.state D.flow self.old) (floor_of S.state D.flow self.new) }
     {
         for _ in 0..self.wakes.len() {
             self.wake_next()?;
@@ -280,7 +279,7 @@ impl<S: HostedSession> EventLoop<S> {
     /// Wakes the first object that is to be, so that its connection has a turn. Where that isn't served any more, nothing is done.
     fn wake_next(&mut self) -> io::Result<()>
         ensures len { slab_len self.new.guests ≤ slab_len self.old.guests }
-        ensures turns { Turns S.table (floor_of S.state self.old) (floor_of S.state self.new) }
+        ensures turns { Turns S.table (floor_of S.state D.flow self.old) (floor_of S.state D.flow self.new) }
     {
         // Nothing fails once the first was taken out: so none is lost.
         self.ended.reserve(1)?;
@@ -294,7 +293,7 @@ impl<S: HostedSession> EventLoop<S> {
         requires ends { deque_len self.old.ended < deque_capacity self.old.ended }
         requires enters { deque_len self.old.queue < deque_capacity self.old.queue }
         ensures len { slab_len self.new.guests ≤ slab_len self.old.guests }
-        ensures turns { Turns S.table (floor_of S.state self.old) (floor_of S.state self.new) }
+        ensures turns { Turns S.table (floor_of S.state D.flow self.old) (floor_of S.state D.flow self.new) }
     {
         let Some(waker) = self.wakes.pop_front() else {
             return;
@@ -340,7 +339,7 @@ impl<S: HostedSession> EventLoop<S> {
     /// Gives those that meet a limit of time a turn, which closes them, and those whose objects are to be woken.
     fn sweep(&mut self) -> io::Result<()>
         ensures guests { self.new.guests ≡ self.old.guests }
-        ensures turns { Turns S.table (floor_of S.state self.old) (floor_of S.state self.new) }
+        ensures turns { Turns S.table (floor_of S.state D.flow self.old) (floor_of S.state D.flow self.new) }
         ensures swept { OnOk result (IsDue self.old.time → HasOverdue S.table S.state self.new.guests self.old.time.at self.new.queue.items) }
     {
         if !self.time.is_due() {
@@ -353,13 +352,13 @@ impl<S: HostedSession> EventLoop<S> {
 }
 
 /// Puts those into the queue that meet a limit of time, and says when the first one is met.
-fn queue_overdue<S: HostedSession>(
-    guests: &Slab<HostedConnection<S>>,
+fn queue_overdue<S: DrivenSession, D: Socket>(
+    guests: &Slab<HostedConnection<S, D>>,
     now: u64,
     queue: &mut VecDeque<usize>,
 ) -> io::Result<Option<u64>>
     ensures queued { OnOk result (HasOverdue S.table S.state guests.now now queue.new.items) }
-    ensures first { IfOk result (λ first. IsFirst S.table first (seen S.state guests.now)) }
+    ensures first { IfOk result (λ first. IsFirst S.table first (seen S.state D.flow guests.now)) }
 {
     let mut first = None;
     for entry in guests {
@@ -388,13 +387,13 @@ fn key_of(session: u64) -> usize
 }
 
 /// Notes what events say of connections, and puts those into the queue that weren't in it. Says whether the listener had an event.
-fn note_events<S: HostedSession>(
+fn note_events<S: DrivenSession, D: Socket>(
     events: &Events,
-    guests: &mut Slab<HostedConnection<S>>,
+    guests: &mut Slab<HostedConnection<S, D>>,
     queue: &mut VecDeque<usize>,
 ) -> io::Result<bool>
     ensures len { slab_len guests.new ≡ slab_len guests.old }
-    ensures same { (key : ℕ) → seen S.state guests.new key ≡ seen S.state guests.old key }
+    ensures same { (key : ℕ) → seen S.state D.flow guests.new key ≡ seen S.state D.flow guests.old key }
 {
     let mut has_event = false;
     for event in events {
@@ -405,13 +404,13 @@ fn note_events<S: HostedSession>(
 }
 
 /// Notes what an event says. Says whether it is one of the listener.
-fn note_event<S: HostedSession>(
+fn note_event<S: DrivenSession, D: Socket>(
     event: &Event,
-    guests: &mut Slab<HostedConnection<S>>,
+    guests: &mut Slab<HostedConnection<S, D>>,
     queue: &mut VecDeque<usize>,
 ) -> io::Result<bool>
     ensures len { slab_len guests.new ≡ slab_len guests.old }
-    ensures same { (key : ℕ) → seen S.state guests.new key ≡ seen S.state guests.old key }
+    ensures same { (key : ℕ) → seen S.state D.flow guests.new key ≡ seen S.state D.flow guests.old key }
 {
     let token = event.token();
     if token == LISTENER {

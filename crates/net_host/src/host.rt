@@ -3,6 +3,7 @@
 ghost use Rattle.std.specs.Prelude.{◌≡◌, ◌<◌, ◌↔◌, Some, None, IsTrue, IfOk, OnOk, OnErr};
 ghost use Rattle.cp_objects.specs.Context.{time_after};
 ghost use Rattle.net_sockets.specs.Incoming.{came_of, count_of};
+ghost use Rattle.net_sockets.specs.Sockets.{flow_of_socket};
 ghost use Rattle.net_host.specs.Floor as floor;
 ghost use Rattle.net_host.specs.Floor.{IsFresh, LooksOn, Reports, Rests, Seats, connections_of, nobody, waking};
 ghost use Rattle.net_host.specs.Limits.{HasRoom};
@@ -14,13 +15,12 @@ ghost use Rattle.net_host.specs.declared.host.HostEvent.TheVariants as all_news;
 use crate::config::HostConfig;
 use crate::end::{End, Ended};
 use crate::event_loop::EventLoop;
-use crate::hosted_session::HostedSession;
 use crate::limits::WhenFull;
 use crate::pending::PendingConnection;
 use crate::time::{earlier, has_come};
 use cp_objects::Waker;
-use cp_session::Session;
-use net_sockets::{Incoming, Listener, Peer};
+use cp_session::{DrivenSession, Session};
+use net_sockets::{Incoming, Listener, Peer, StreamSocket};
 use std::alloc::AllocGlobal;
 use std::io::{self, ErrorKind};
 use std::net::Net;
@@ -65,15 +65,15 @@ enum Look {
 ///
 /// # State of objects
 ///
-/// `H` is a list of objects that make none, of one type such as an enum; or `Objects` of objects that may make others. Those of one
-/// connection are called by that one alone. What all share is a value that they hold together, as by an `Rc`: all calls are made in one
+/// `O` is the one type of all objects, such as an enum; each may make others. Those of one connection are `Objects`, and are called
+/// by that one alone. What all share is a value that they hold together, as by an `Rc`: all calls are made in one
 /// thread, one after another. An object that is to know its connection is made with its number.
 /// Nothing is lent to a call beside its params, since boxed objects can hold no borrow.
 ///
-/// An object of `Objects`, or the program (`wake`), may have one of another connection woken, of which it has a `Waker` by what they
+/// An object, or the program (`wake`), may have one of another connection woken, of which it has a `Waker` by what they
 /// share. Then that one is polled, and its connection has a turn, so that it can call its peer. If that connection ended, nothing is done.
 ///
-/// They may call what they were given (`Servant::next_call`), and are told what that came to. Nobody else uses a connection's imports: each is released once no
+/// They may call what they were given (`ServedObject::next_call`), and are told what that came to. Nobody else uses a connection's imports: each is released once no
 /// object holds it, nor anything of the vat, also one that came with a call which reached no object.
 ///
 /// # What each connection gets
@@ -94,14 +94,14 @@ enum Look {
 ///
 /// An error of `next` is one of the listener's set of sockets, or says that memory ran out for it. Each end is still reported then, by
 /// a further call. Of a connection that fails the news says so, and the others go on.
-pub type Host<H> = SessionHost<Session<H>>;
+pub type Host<O> = SessionHost<Session<O>>;
 
 /// A `Host` whose connections are sessions of this type.
 pub struct SessionHost<S> {
     plan: HostConfig,
     incoming: Incoming,
-    pending: Option<PendingConnection>,
-    event_loop: EventLoop<S>,
+    pending: Option<PendingConnection<StreamSocket>>,
+    event_loop: EventLoop<S, StreamSocket>,
     /// When the program is to be told that its time has come, if it is to be.
     alarm: Option<u64>,
 }
@@ -118,7 +118,7 @@ impl<S: Drop> Drop for SessionHost<S> {
     }
 }
 
-impl<S: HostedSession> SessionHost<S> {
+impl<S: DrivenSession> SessionHost<S> {
     /// A host to which no connection has come.
     pub fn new<N: Net + Clock + AllocGlobal>(
         rt: &N,
@@ -166,7 +166,7 @@ impl<S: HostedSession> SessionHost<S> {
     pub fn admit(&mut self, objects: S::Objects) -> io::Result<()>
         ensures admits { OnOk result (Admits (roster self.old) (roster self.new)) }
         ensures lost { OnErr result (roster self.new ≡ record (roster self.old) { awaits = None }) }
-        ensures seats { OnOk result (Seats S.table self.old.plan self.old.pending objects (connections_of S.state self.old) (connections_of S.state self.new)) }
+        ensures seats { OnOk result (Seats S.table flow_of_socket self.old.plan self.old.pending objects (connections_of S.state self.old) (connections_of S.state self.new)) }
         ensures unseated { OnErr result (Rests (connections_of S.state self.old) (connections_of S.state self.new)) }
     {
         match self.pending.take() {

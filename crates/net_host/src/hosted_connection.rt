@@ -1,21 +1,19 @@
 //! A connection that a host serves.
 
 ghost use Rattle.std.specs.Prelude.{◌≡◌, ◌≤◌, ◌↔◌, [], IsTrue, Some, None, IfSome, IfNone, IfOk, IfErr, OnOk, OnErr, length, take};
-ghost use Rattle.std.specs.IoError.{raw_os_error};
 ghost use Rattle.cp_session.specs.Doing.{due_of};
-ghost use Rattle.net_sockets.specs.Reading.{Fits};
+ghost use Rattle.net_sockets.specs.Reading.{Fits, came_by, ends_by};
 ghost use Rattle.net_host.specs.Feeding.{IsFed};
-ghost use Rattle.net_host.specs.HostedConnections.{Accounts, Adds, Breaks, CanTake, CanWrite, ClosesAdding, FailsAdding, HandsOver, HandsSome, Hears, IsOverdue, IsShort, MayHaveBytes, Minds, Proceeds, Rouses, Sends, Serves, StaysAdding, StopsShort, VisitsAdding, WorksAdding, came_by, end_or, heard, kept_by, new_served, served_of};
+ghost use Rattle.net_host.specs.HostedConnections.{Accounts, Adds, Breaks, CanTake, CanWrite, ClosesAdding, FailsAdding, FailsBy, HandsOver, HandsSome, Hears, IsOverdue, IsShort, MayHaveBytes, Minds, Proceeds, Rouses, Sends, Serves, StaysAdding, StopsShort, TakesIn, VisitsAdding, WorksAdding, end_or, heard, kept_by, new_served, served_of};
 ghost use Rattle.net_host.specs.Waking.{session_of};
 
 use crate::allowance::Allowance;
 use crate::end::{End, Ended};
-use crate::hosted_session::HostedSession;
 use crate::pending::PendingConnection;
 use cp_objects::Waker;
-use cp_session::{Budget, Limit, SessionEvent};
+use cp_session::{Budget, DrivenSession, Limit, SessionEvent};
 use mio::event::Event;
-use net_sockets::{Got, NonblockingStream, Peer};
+use net_sockets::{Got, NonblockingStream, Peer, Socket};
 use std::alloc::{AllocError, Global};
 use std::collections::VecDeque;
 use std::io::{self, ErrorKind};
@@ -32,11 +30,11 @@ pub(crate) enum Turn {
 
 /// A connection that a host serves: a session behind a stream.
 #[derive(Drop)]
-pub(crate) struct HostedConnection<S> {
+pub(crate) struct HostedConnection<S, D> {
     alloc: Global,
     number: u64,
     peer: Peer,
-    stream: NonblockingStream,
+    stream: NonblockingStream<D>,
     session: S,
     /// What was read of the peer and not taken.
     rest: Vec<u8>,
@@ -48,10 +46,14 @@ pub(crate) struct HostedConnection<S> {
     queued: bool,
 }
 
-impl<S: HostedSession> HostedConnection<S> {
+impl<S: DrivenSession, D: Socket> HostedConnection<S, D> {
     /// A connection of which nothing was read.
-    pub(crate) fn new(alloc: Global, pending: PendingConnection, session: S) -> HostedConnection<S>
-        ensures { served_of S.state result ≡ new_served pending (S.state session) }
+    pub(crate) fn new(
+        alloc: Global,
+        pending: PendingConnection<D>,
+        session: S,
+    ) -> HostedConnection<S, D>
+        ensures { served_of S.state D.flow result ≡ new_served D.flow pending (S.state session) }
     {
         HostedConnection {
             alloc,
@@ -79,7 +81,7 @@ impl<S: HostedSession> HostedConnection<S> {
 
     /// What an event says of it. Says whether it comes into the queue.
     pub(crate) fn mark(&mut self, event: &Event) -> bool
-        ensures { served_of S.state self.new ≡ served_of S.state self.old }
+        ensures { let at = served_of S.state D.flow in at self.new ≡ at self.old }
     {
         self.stream.mark(event);
         let enters = !self.queued;
@@ -106,7 +108,7 @@ impl<S: HostedSession> HostedConnection<S> {
 
     /// How many bytes are kept for it.
     pub(crate) fn kept(&self) -> u64
-        ensures { result ≡ kept_by S.table (served_of S.state self.now) }
+        ensures { let at = served_of S.state D.flow in result ≡ kept_by S.table (at self.now) }
     {
         self.session.kept()
     }
@@ -120,8 +122,8 @@ impl<S: HostedSession> HostedConnection<S> {
 
     /// Wakes an object. Says whether it comes into the queue.
     pub(crate) fn wake(&mut self, object: u32) -> Result<bool, AllocError>
-        ensures woken { OnOk result (Rouses S.table object (served_of S.state self.old) (served_of S.state self.new)) }
-        ensures err { OnErr result (served_of S.state self.new ≡ record (served_of S.state self.old) { session = (served_of S.state self.new).session }) }
+        ensures woken { let at = served_of S.state D.flow in OnOk result (Rouses S.table object (at self.old) (at self.new)) }
+        ensures err { let at = served_of S.state D.flow in OnErr result (at self.new ≡ record (at self.old) { session = (at self.new).session }) }
     {
         self.session.wake(object)?;
         let enters = !self.queued;
@@ -131,8 +133,8 @@ impl<S: HostedSession> HostedConnection<S> {
 
     /// How it ended, as memory ran out.
     pub(crate) fn run_out(&mut self) -> End
-        ensures end { IsShort (served_of S.state self.old) result }
-        ensures same { served_of S.state self.new ≡ record (served_of S.state self.old) { end = None } }
+        ensures end { let at = served_of S.state D.flow in IsShort (at self.old) result }
+        ensures same { let at = served_of S.state D.flow in at self.new ≡ record (at self.old) { end = None } }
     {
         let error = io::Error::from(ErrorKind::OutOfMemory);
         self.end_or(End::Failed(error))
@@ -147,8 +149,8 @@ impl<S: HostedSession> HostedConnection<S> {
         wakes: &mut VecDeque<Waker>,
         allowed: Allowance,
     ) -> Turn
-        ensures visits { VisitsAdding S.table allowed (served_of S.state self.old) wakes.old.items result (served_of S.state self.new) wakes.new.items }
-        ensures accounts { Accounts result allowed.account (kept_by S.table (served_of S.state self.new)) budget.old budget.new }
+        ensures visits { let at = served_of S.state D.flow in VisitsAdding S.table allowed (at self.old) wakes.old.items result (at self.new) wakes.new.items }
+        ensures accounts { let at = served_of S.state D.flow in Accounts result allowed.account (kept_by S.table (at self.new)) budget.old budget.new }
     {
         if let Some(end) = self.visit(piece, wakes, allowed) {
             budget.forget(allowed.account);
@@ -173,8 +175,8 @@ impl<S: HostedSession> HostedConnection<S> {
         wakes: &mut VecDeque<Waker>,
         allowed: Allowance,
     ) -> Option<End>
-        ensures closes { IfSome result (λ end. ClosesAdding S.table allowed (served_of S.state self.old) wakes.old.items end (served_of S.state self.new) wakes.new.items) }
-        ensures stays { IfNone result (StaysAdding S.table allowed (served_of S.state self.old) wakes.old.items (served_of S.state self.new) wakes.new.items) }
+        ensures closes { let at = served_of S.state D.flow in IfSome result (λ end. ClosesAdding S.table allowed (at self.old) wakes.old.items end (at self.new) wakes.new.items) }
+        ensures stays { let at = served_of S.state D.flow in IfNone result (StaysAdding S.table allowed (at self.old) wakes.old.items (at self.new) wakes.new.items) }
     {
         if let Err(error) = self.work(piece, wakes, allowed) {
             return Some(self.end_or(End::Failed(error)));
@@ -196,12 +198,13 @@ impl<S: HostedSession> HostedConnection<S> {
         wakes: &mut VecDeque<Waker>,
         allowed: Allowance,
     ) -> io::Result<()>
-        ensures works { OnOk result (WorksAdding S.table allowed (served_of S.state self.old) wakes.old.items (served_of S.state self.new) wakes.new.items) }
-        ensures fails { IfErr result (λ error. FailsAdding S.table allowed (served_of S.state self.old) wakes.old.items error (served_of S.state self.new) wakes.new.items) }
+        ensures works { let at = served_of S.state D.flow in OnOk result (WorksAdding S.table allowed (at self.old) wakes.old.items (at self.new) wakes.new.items) }
+        ensures fails { let at = served_of S.state D.flow in IfErr result (λ error. FailsAdding S.table allowed (at self.old) wakes.old.items error (at self.new) wakes.new.items) }
     {
         if let Err(error) = self.move_on(piece, allowed) {
             // What happened before the stream failed counts.
             self.note_events();
+            self.session.close(allowed.now);
             self.hand_over(wakes)?;
             return Err(error);
         }
@@ -216,7 +219,7 @@ impl<S: HostedSession> HostedConnection<S> {
     /// Has its session refuse the peer, where more is kept for it than it is allowed: so the peer is told by an Abort.
     fn refuse(&mut self, allowed: Allowance)
         ensures refuses { Minds S.table allowed.kept allowed.now (S.state self.old.session) (S.state self.new.session) }
-        ensures same { served_of S.state self.new ≡ record (served_of S.state self.old) { session = S.state self.new.session } }
+        ensures same { let at = served_of S.state D.flow in at self.new ≡ record (at self.old) { session = S.state self.new.session } }
     {
         let kept = self.kept();
         if kept > allowed.kept {
@@ -226,8 +229,8 @@ impl<S: HostedSession> HostedConnection<S> {
 
     /// Hands out the objects of other connections that are to be woken.
     fn hand_over(&mut self, wakes: &mut VecDeque<Waker>) -> Result<(), AllocError>
-        ensures all { OnOk result (Adds wakes.old.items (λ woken. HandsOver S.table (served_of S.state self.old) woken (served_of S.state self.new)) wakes.new.items) }
-        ensures some { OnErr result (Adds wakes.old.items (λ woken. HandsSome S.table (served_of S.state self.old) woken (served_of S.state self.new)) wakes.new.items) }
+        ensures all { let at = served_of S.state D.flow in OnOk result (Adds wakes.old.items (λ woken. HandsOver S.table (at self.old) woken (at self.new)) wakes.new.items) }
+        ensures some { let at = served_of S.state D.flow in OnErr result (Adds wakes.old.items (λ woken. HandsSome S.table (at self.old) woken (at self.new)) wakes.new.items) }
     {
         for _ in 0..u64::MAX {
             // Before one is taken out, so that none is lost.
@@ -242,8 +245,8 @@ impl<S: HostedSession> HostedConnection<S> {
 
     /// Writes what waits to be written, takes one piece or polls the objects once, and writes what that leads to.
     fn move_on(&mut self, piece: &mut [u8], allowed: Allowance) -> io::Result<()>
-        ensures goes_on { OnOk result (Proceeds S.table allowed.now (served_of S.state self.old) (served_of S.state self.new)) }
-        ensures fails { IfErr result (λ error. Breaks S.table allowed.now (served_of S.state self.old) error (served_of S.state self.new)) }
+        ensures goes_on { let at = served_of S.state D.flow in OnOk result (Proceeds S.table allowed.now (at self.old) (at self.new)) }
+        ensures fails { let at = served_of S.state D.flow in IfErr result (λ error. Breaks S.table allowed.now (at self.old) error (at self.new)) }
     {
         // First what waits, so that more may be taken.
         self.write(allowed.now)?;
@@ -253,8 +256,8 @@ impl<S: HostedSession> HostedConnection<S> {
 
     /// Takes what is left of a piece, or the next one, or polls the objects.
     fn go_on(&mut self, piece: &mut [u8], allowed: Allowance) -> io::Result<()>
-        ensures goes_on { OnOk result (Proceeds S.table allowed.now (served_of S.state self.old) (served_of S.state self.new)) }
-        ensures fails { IfErr result (λ error. Breaks S.table allowed.now (served_of S.state self.old) error (served_of S.state self.new)) }
+        ensures goes_on { let at = served_of S.state D.flow in OnOk result (Proceeds S.table allowed.now (at self.old) (at self.new)) }
+        ensures fails { let at = served_of S.state D.flow in IfErr result (λ error. Breaks S.table allowed.now (at self.old) error (at self.new)) }
     {
         if !self.can_take() {
             // Why it failed an event says.
@@ -275,8 +278,8 @@ impl<S: HostedSession> HostedConnection<S> {
     /// Reads a piece, takes of it what may be taken, and keeps the rest.
     fn read(&mut self, piece: &mut [u8], allowed: Allowance) -> io::Result<()>
         requires { self.old.rest.items ≡ [] }
-        ensures goes_on { OnOk result (Proceeds S.table allowed.now (served_of S.state self.old) (served_of S.state self.new)) }
-        ensures fails { IfErr result (λ error. Breaks S.table allowed.now (served_of S.state self.old) error (served_of S.state self.new)) }
+        ensures goes_on { let at = served_of S.state D.flow in OnOk result (Proceeds S.table allowed.now (at self.old) (at self.new)) }
+        ensures fails { let at = served_of S.state D.flow in IfErr result (λ error. Breaks S.table allowed.now (at self.old) error (at self.new)) }
     {
         let got = self.stream.read(piece)?;
         self.take(got, piece, allowed)
@@ -286,8 +289,8 @@ impl<S: HostedSession> HostedConnection<S> {
     fn take(&mut self, got: Got, piece: &[u8], allowed: Allowance) -> io::Result<()>
         requires empty { self.old.rest.items ≡ [] }
         requires fits { Fits got (length piece.now) }
-        ensures goes_on { OnOk result (Serves S.table allowed.now (served_of S.state self.old) (came_by got piece.now) self.new.rest.items (served_of S.state self.new)) }
-        ensures stops { IfErr result (λ error. StopsShort S.table allowed.now (served_of S.state self.old) (came_by got piece.now) error (served_of S.state self.new)) }
+        ensures goes_on { let at = served_of S.state D.flow in OnOk result (TakesIn S.table allowed.now (at self.old) (came_by got piece.now) (ends_by got) self.new.rest.items (at self.new)) }
+        ensures stops { let at = served_of S.state D.flow in IfErr result (λ error. StopsShort S.table allowed.now (at self.old) (came_by got piece.now) (ends_by got) error (at self.new)) }
         ensures same { self.new.stream ≡ self.old.stream }
     {
         match got {
@@ -308,8 +311,8 @@ impl<S: HostedSession> HostedConnection<S> {
 
     /// Writes as much as the stream takes.
     fn write(&mut self, now: u64) -> io::Result<()>
-        ensures goes_on { OnOk result (Proceeds S.table now (served_of S.state self.old) (served_of S.state self.new)) }
-        ensures fails { IfErr result (λ error. Breaks S.table now (served_of S.state self.old) error (served_of S.state self.new)) }
+        ensures goes_on { let at = served_of S.state D.flow in OnOk result (Proceeds S.table now (at self.old) (at self.new)) }
+        ensures fails { let at = served_of S.state D.flow in IfErr result (λ error. Breaks S.table now (at self.old) error (at self.new)) }
     {
         for _ in 0..u64::MAX {
             if !self.can_write() {
@@ -322,8 +325,8 @@ impl<S: HostedSession> HostedConnection<S> {
 
     /// Offers the stream what waits, and says how much it took.
     fn write_some(&mut self, now: u64) -> io::Result<usize>
-        ensures sends { IfOk result (λ count. Sends S.table (served_of S.state self.old) count now (served_of S.state self.new)) }
-        ensures unsent { IfErr result (λ error. served_of S.state self.new ≡ record (served_of S.state self.old) { failure = Some (raw_os_error error) }) }
+        ensures sends { let at = served_of S.state D.flow in IfOk result (λ count. Sends S.table (at self.old) count now (at self.new)) }
+        ensures unsent { let at = served_of S.state D.flow in IfErr result (λ error. FailsBy (at self.old) error (at self.new)) }
     {
         let count = self.stream.write(self.session.outgoing())?;
         if count == 0 {
@@ -335,7 +338,7 @@ impl<S: HostedSession> HostedConnection<S> {
 
     /// Keeps why nothing more is taken, once an event says it.
     fn note_events(&mut self)
-        ensures { Hears S.table (served_of S.state self.old) (served_of S.state self.new) }
+        ensures { let at = served_of S.state D.flow in Hears S.table (at self.old) (at self.new) }
     {
         for _ in 0..u64::MAX {
             let is_told = self.note_event();
@@ -347,7 +350,7 @@ impl<S: HostedSession> HostedConnection<S> {
 
     /// Takes the next event. Says whether there was one.
     fn note_event(&mut self) -> bool
-        ensures { Hears S.table (served_of S.state self.old) (served_of S.state self.new) }
+        ensures { let at = served_of S.state D.flow in Hears S.table (at self.old) (at self.new) }
     {
         let Some(event) = self.session.poll_event() else {
             return false;
@@ -358,7 +361,7 @@ impl<S: HostedSession> HostedConnection<S> {
 
     /// Keeps how the connection ended, where an event says it.
     fn handle(&mut self, event: SessionEvent)
-        ensures { served_of S.state self.new ≡ heard event (served_of S.state self.old) }
+        ensures { let at = served_of S.state D.flow in at self.new ≡ heard event (at self.old) }
     {
         if let Some(end) = End::of_event(event) {
             drop(self.end.replace(end));
@@ -368,7 +371,7 @@ impl<S: HostedSession> HostedConnection<S> {
     /// Once all went out, has the peer told that nothing more comes. So one that got an Abort, or whose bytes were refused, loses
     /// nothing of it, as what it still sends is taken off the stream. One that sent an Abort closes by itself.
     fn shut(&mut self)
-        ensures { served_of S.state self.new ≡ served_of S.state self.old }
+        ensures { let at = served_of S.state D.flow in at self.new ≡ at self.old }
     {
         if self.is_shut || !self.session.is_draining() {
             return;
@@ -412,7 +415,7 @@ impl<S: HostedSession> HostedConnection<S> {
     /// How it ended before, or else in this way.
     fn end_or(&mut self, other: End) -> End
         ensures end { result ≡ end_or self.old.end other }
-        ensures same { served_of S.state self.new ≡ record (served_of S.state self.old) { end = None } }
+        ensures same { let at = served_of S.state D.flow in at self.new ≡ record (at self.old) { end = None } }
     {
         match self.end.take() {
             Some(end) => end,
@@ -429,7 +432,7 @@ pub(crate) fn session_number(number: u64, key: usize) -> u64
 }
 
 /// Gives a session these bytes, within so many messages and until more is kept for it than it is allowed, and says how many were taken.
-fn feed<S: HostedSession>(session: &mut S, piece: &[u8], allowed: Allowance) -> usize
+fn feed<S: DrivenSession>(session: &mut S, piece: &[u8], allowed: Allowance) -> usize
     ensures few { result ≤ length piece.now }
     ensures fed { IsFed S.table allowed.now (S.state session.old) (take result piece.now) (S.state session.new) }
 {
@@ -446,7 +449,7 @@ fn feed<S: HostedSession>(session: &mut S, piece: &[u8], allowed: Allowance) -> 
 }
 
 /// Gives a session these bytes up to the end of a message, and says how many were taken: none at a fault, of which an event tells.
-fn feed_next<S: HostedSession>(session: &mut S, piece: &[u8], now: u64) -> usize
+fn feed_next<S: DrivenSession>(session: &mut S, piece: &[u8], now: u64) -> usize
     ensures few { result ≤ length piece.now }
     ensures fed { IsFed S.table now (S.state session.old) (take result piece.now) (S.state session.new) }
 {

@@ -6,8 +6,9 @@ ghost use Rattle.net_host.specs.Once.{BeginsOnce, BeginsUnfailed, ReportsOnce, S
 
 use cp_objects::ObjectTable;
 
-/// The end of each connection is reported once, with the number that it had when it began. (No number is given twice: `Host::next`
-/// gives the next one to each connection that comes.)
+/// No connection is served once its end was reported, and no end is reported twice: it has the number that the connection had when it
+/// began. (That each is reported, before other news, `Host::next` says. It gives the next number to each connection that comes, so none
+/// is given twice.)
 pub fn reported_once<H: ObjectTable>()
     ensures reports { ReportsOnce H.table }
     ensures begins { BeginsOnce H.table }
@@ -19,8 +20,8 @@ pub fn keeps_within<H: ObjectTable>()
     ensures { ReportsWithin H.table }
 {}
 
-/// Limits of time are looked at by the deadline of each connection that is served, whatever turns and news there are: the host sleeps
-/// past none.
+/// A look at the limits of time is due by the deadline of each connection that is served, whatever turns and news there are. (That it
+/// waits no longer is a contract of its loop.)
 pub fn sleeps_past_none<H: ObjectTable>()
     ensures reports { ReportsAwaited H.table }
     ensures begins { BeginsAwaited H.table }

@@ -29,6 +29,8 @@ pub(crate) enum DirectionEnd {
     Closed(u64, Breach),
     /// An answer of the guard, or a message that it changed, can't be written.
     Unanswered(Refusal),
+    /// The other direction was refused, closed or unanswered, so the guard lets nothing more through.
+    Over,
     /// The source failed. What was accepted went out.
     Unread(io::Error),
     /// The target failed.
@@ -276,6 +278,7 @@ impl From<GateFault> for DirectionEnd {
             GateFault::Refused(fault) => DirectionEnd::Refused(fault),
             GateFault::Closed(at, breach) => DirectionEnd::Closed(at, breach),
             GateFault::Unwritten(refusal) => DirectionEnd::Unanswered(refusal),
+            GateFault::Over => DirectionEnd::Over,
         }
     }
 }

@@ -55,6 +55,8 @@ pub(crate) enum GateFault {
     Closed(u64, Breach),
     /// An answer, or a message in another's place, can't be written.
     Unwritten(Refusal),
+    /// The gate of the other direction has stopped.
+    Over,
 }
 
 impl<'r> PairGuard<'r> {
@@ -101,8 +103,8 @@ impl<'r> PairGuard<'r> {
                 (RelayCause::Forbidden, Some(breach)) => GateFault::Closed(fault.at, breach),
                 _ => GateFault::Refused(fault),
             },
-            FilterFault::Closed(breach) => GateFault::Closed(0, breach),
             FilterFault::Unwritten(refusal) => GateFault::Unwritten(refusal),
+            FilterFault::Over => GateFault::Over,
         }
     }
 }

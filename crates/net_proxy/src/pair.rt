@@ -28,8 +28,10 @@ impl PairEnd {
     pub(crate) fn status(&self) -> u8 {
         match self.end {
             DirectionEnd::Well | DirectionEnd::Reset => ACCEPTED,
-            DirectionEnd::Refused(_) | DirectionEnd::Closed(..) | DirectionEnd::Unanswered(_) =>
-                REFUSED,
+            DirectionEnd::Refused(_)
+            | DirectionEnd::Closed(..)
+            | DirectionEnd::Unanswered(_)
+            | DirectionEnd::Over => REFUSED,
             DirectionEnd::Unread(_) | DirectionEnd::Unwritten(_) => BROKEN,
         }
     }
@@ -43,6 +45,8 @@ impl PairEnd {
                 fault.why == RelayCause::Refused(Refusal::Frame(FrameFault::Truncated))
                     && matches!(other.end, DirectionEnd::Unwritten(_))
             }
+            // The other one's end is why.
+            DirectionEnd::Over => true,
             // What the peer had sent was its last, so what it didn't read is nobody's loss.
             DirectionEnd::Unwritten(_) => self.is_unheard() && other.status() == ACCEPTED,
             DirectionEnd::Closed(..) | DirectionEnd::Unanswered(_) | DirectionEnd::Unread(_) => {
@@ -68,7 +72,7 @@ impl PairEnd {
             | DirectionEnd::Unanswered(_)
             | DirectionEnd::Unread(_) => true,
             // A server that aborts closes while its client may still be sending: what it sent goes out.
-            DirectionEnd::Well | DirectionEnd::Unwritten(_) => false,
+            DirectionEnd::Well | DirectionEnd::Over | DirectionEnd::Unwritten(_) => false,
         }
     }
 }
@@ -76,7 +80,7 @@ impl PairEnd {
 impl fmt::Display for PairEnd {
     fn fmt<W: fmt::Write>(&self, f: &mut fmt::Formatter<W>) -> fmt::Result {
         match self.end {
-            DirectionEnd::Well | DirectionEnd::Reset => f.write_str("ended")?,
+            DirectionEnd::Well | DirectionEnd::Reset | DirectionEnd::Over => f.write_str("ended")?,
             DirectionEnd::Refused(fault) => write!(f, "{fault}")?,
             DirectionEnd::Closed(at, breach) => write!(f, "refused at byte {at}: {breach}")?,
             DirectionEnd::Unanswered(refusal) => write!(f, "not answered: {refusal}")?,

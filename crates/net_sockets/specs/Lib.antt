@@ -1,2 +1,4 @@
+pub mod Flow
 pub mod Incoming
 pub mod Reading
+pub mod Sockets

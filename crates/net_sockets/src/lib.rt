@@ -4,8 +4,11 @@
 mod incoming;
 mod listener;
 mod nonblocking_stream;
+mod socket;
 mod stream;
 
 pub use incoming::Incoming;
 pub use listener::{Listener, Peer};
 pub use nonblocking_stream::{Got, NonblockingStream};
+pub use socket::Socket;
+pub use stream::StreamSocket;

@@ -1,14 +1,16 @@
 //! A stream, and what is known of it.
 
-ghost use Rattle.std.specs.Prelude.{◌≡◌, ◌≤◌, Some, None, IfOk, IfErr, OnOk, length};
+ghost use Rattle.std.specs.Prelude.{◌≡◌, ◌≤◌, [], Some, None, IfOk, IfErr, OnOk, OnErr, length, take};
 ghost use Rattle.std.specs.IoError.{raw_os_error};
-ghost use Rattle.net_sockets.specs.Reading.{Fits, failure_of, may_read, may_write};
+ghost use Rattle.net_sockets.specs.Flow.{Moves, Rests};
+ghost use Rattle.net_sockets.specs.Reading.{Fits, came_by, ends_by, failure_of, flow_of, may_read, may_write};
 
+use crate::socket::Socket;
 use crate::stream::StreamSocket;
 use mio::event::Event;
 use mio::net::{TcpStream, UnixStream};
 use mio::{Registry, Token};
-use std::io::{self, ErrorKind, Read, Write};
+use std::io::{self, ErrorKind};
 use std::net::{Net, SocketAddr};
 
 /// What came of a read.
@@ -23,8 +25,8 @@ pub enum Got {
 
 /// A stream that never waits.
 #[derive(Drop)]
-pub struct NonblockingStream {
-    stream: StreamSocket,
+pub struct NonblockingStream<D = StreamSocket> {
+    socket: D,
     /// What the last events and calls say of it. A wrong `true` costs one call.
     readable: bool,
     writable: bool,
@@ -34,11 +36,11 @@ pub struct NonblockingStream {
     failure: Option<Option<i32>>,
 }
 
-impl NonblockingStream {
+impl NonblockingStream<StreamSocket> {
     /// Begins a connection to an address. An event says when there is one, or why there is none.
     pub fn connect<N: Net>(rt: &N, address: SocketAddr) -> io::Result<NonblockingStream> {
         Ok(NonblockingStream {
-            stream: StreamSocket::connect(rt, address)?,
+            socket: StreamSocket::connect(rt, address)?,
             readable: false,
             writable: false,
             closed: false,
@@ -60,13 +62,16 @@ impl NonblockingStream {
     pub fn of_unix(stream: UnixStream) -> NonblockingStream {
         NonblockingStream::new(StreamSocket::Unix(stream))
     }
+}
 
+impl<D: Socket> NonblockingStream<D> {
     /// A stream of which nothing is known.
-    pub(crate) fn new(stream: StreamSocket) -> NonblockingStream
-        ensures { failure_of result ≡ None }
+    pub(crate) fn new(socket: D) -> NonblockingStream<D>
+        ensures unfailed { failure_of result ≡ None }
+        ensures flow { flow_of D.flow result ≡ D.flow socket }
     {
         NonblockingStream {
-            stream,
+            socket,
             readable: true,
             writable: true,
             closed: false,
@@ -76,14 +81,15 @@ impl NonblockingStream {
 
     /// Has its readiness reported under a token.
     pub fn register(&mut self, registry: &Registry, token: Token) -> io::Result<()>
-        ensures { failure_of self.new ≡ failure_of self.old }
+        ensures { self.new ≡ self.old }
     {
-        self.stream.register(registry, token)
+        self.socket.register(registry, token)
     }
 
     /// What an event says of it.
     pub fn mark(&mut self, event: &Event)
-        ensures { failure_of self.new ≡ failure_of self.old }
+        ensures failure { failure_of self.new ≡ failure_of self.old }
+        ensures flow { flow_of D.flow self.new ≡ flow_of D.flow self.old }
     {
         let closed = event.is_read_closed() || event.is_error();
         self.closed = self.closed || closed;
@@ -111,10 +117,12 @@ impl NonblockingStream {
     /// Reads a piece.
     pub fn read(&mut self, piece: &mut [u8]) -> io::Result<Got>
         ensures fits { IfOk result (λ got. Fits got (length piece.new)) }
+        ensures gives { IfOk result (λ got. Moves (flow_of D.flow self.old) (came_by got piece.new) (ends_by got) [] (flow_of D.flow self.new)) }
+        ensures gives_none { OnErr result (Rests (flow_of D.flow self.old) (flow_of D.flow self.new)) }
         ensures failed { IfErr result (λ error. failure_of self.new ≡ Some (raw_os_error error)) }
         ensures went_well { OnOk result (failure_of self.new ≡ failure_of self.old) }
     {
-        match self.stream.read(piece) {
+        match self.socket.read(piece) {
             Ok(0) => Ok(Got::End),
             Ok(count) => {
                 // After a short read of a stream that goes on, the next bytes come with an event.
@@ -136,10 +144,12 @@ impl NonblockingStream {
     /// Writes the first of these bytes, which aren't none, and says how many.
     pub fn write(&mut self, bytes: &[u8]) -> io::Result<usize>
         ensures few { IfOk result (λ count. count ≤ length bytes.now) }
+        ensures takes { IfOk result (λ count. Moves (flow_of D.flow self.old) [] 0 (take count bytes.now) (flow_of D.flow self.new)) }
+        ensures takes_none { OnErr result (Rests (flow_of D.flow self.old) (flow_of D.flow self.new)) }
         ensures failed { IfErr result (λ error. failure_of self.new ≡ Some (raw_os_error error)) }
         ensures went_well { OnOk result (failure_of self.new ≡ failure_of self.old) }
     {
-        match self.stream.write(bytes) {
+        match self.socket.write(bytes) {
             Ok(0) => Err(self.fail(io::Error::from(ErrorKind::WriteZero))),
             Ok(count) => Ok(count),
             Err(error) => match error.kind() {
@@ -155,13 +165,14 @@ impl NonblockingStream {
 
     /// Tells the peer that nothing more comes. One that is gone isn't told.
     pub fn shut(&self) {
-        let _ = self.stream.shut();
+        let _ = self.socket.shut();
     }
 
     /// Keeps that it failed with this error.
     fn fail(&mut self, error: io::Error) -> io::Error
         ensures same { result ≡ error }
         ensures kept { failure_of self.new ≡ Some (raw_os_error error) }
+        ensures flow { flow_of D.flow self.new ≡ flow_of D.flow self.old }
     {
         self.failure = Some(error.raw_os_error());
         error

@@ -1,5 +1,6 @@
 //! A connection's socket.
 
+use crate::socket::Socket;
 use mio::net::{TcpStream, UnixStream};
 use mio::{Interest, Registry, Token};
 use std::io::{self, Read, Write};
@@ -7,7 +8,7 @@ use std::net::{Net, Shutdown, SocketAddr};
 
 /// A connection's socket.
 #[derive(Drop)]
-pub(crate) enum StreamSocket {
+pub enum StreamSocket {
     Tcp(TcpStream),
     Unix(UnixStream),
 }
@@ -19,9 +20,14 @@ impl StreamSocket {
         let _ = stream.set_nodelay(true);
         Ok(StreamSocket::Tcp(stream))
     }
+}
 
-    /// Has its readiness reported under a token.
-    pub(crate) fn register(&mut self, registry: &Registry, token: Token) -> io::Result<()> {
+impl Socket for StreamSocket {
+    ghost use Rattle.net_sockets.specs.Sockets.{flow_of_socket};
+
+    ghost flow = { flow_of_socket };
+
+    fn register(&mut self, registry: &Registry, token: Token) -> io::Result<()> {
         let both = Interest::READABLE | Interest::WRITABLE;
         match self {
             StreamSocket::Tcp(stream) => registry.register(stream, token, both),
@@ -29,33 +35,24 @@ impl StreamSocket {
         }
     }
 
-    /// Tells the peer that nothing more comes.
-    pub(crate) fn shut(&self) -> io::Result<()> {
+    fn read(&mut self, piece: &mut [u8]) -> io::Result<usize> {
+        match self {
+            StreamSocket::Tcp(stream) => stream.read(piece),
+            StreamSocket::Unix(stream) => stream.read(piece),
+        }
+    }
+
+    fn write(&mut self, bytes: &[u8]) -> io::Result<usize> {
+        match self {
+            StreamSocket::Tcp(stream) => stream.write(bytes),
+            StreamSocket::Unix(stream) => stream.write(bytes),
+        }
+    }
+
+    fn shut(&self) -> io::Result<()> {
         match self {
             StreamSocket::Tcp(stream) => stream.shutdown(Shutdown::Write),
             StreamSocket::Unix(stream) => stream.shutdown(Shutdown::Write),
         }
-    }
-}
-
-impl Read for StreamSocket {
-    fn read(&mut self, buf: &mut [u8]) -> io::Result<usize> {
-        match self {
-            StreamSocket::Tcp(stream) => stream.read(buf),
-            StreamSocket::Unix(stream) => stream.read(buf),
-        }
-    }
-}
-
-impl Write for StreamSocket {
-    fn write(&mut self, buf: &[u8]) -> io::Result<usize> {
-        match self {
-            StreamSocket::Tcp(stream) => stream.write(buf),
-            StreamSocket::Unix(stream) => stream.write(buf),
-        }
-    }
-
-    fn flush(&mut self) -> io::Result<()> {
-        Ok(())
     }
 }

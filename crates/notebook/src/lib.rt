@@ -6,21 +6,22 @@ mod page;
 mod watcher;
 
 pub use notebook::{
-    NotebookAddCall, NotebookAddParamsReader, NotebookAddResultsBuilder,
+    NotebookAddCall, NotebookAddLater, NotebookAddParamsReader, NotebookAddResultsBuilder,
     NotebookAddResultsPipeline, NotebookAddResultsReader, NotebookClient, NotebookDispatch,
-    NotebookNextCall, NotebookNextParamsReader, NotebookNextResultsBuilder,
-    NotebookNextResultsPipeline, NotebookNextResultsReader, NotebookOpenCall,
+    NotebookNextCall, NotebookNextLater, NotebookNextParamsReader, NotebookNextResultsBuilder,
+    NotebookNextResultsPipeline, NotebookNextResultsReader, NotebookOpenCall, NotebookOpenLater,
     NotebookOpenParamsReader, NotebookOpenResultsBuilder, NotebookOpenResultsPipeline,
     NotebookOpenResultsReader, NotebookResolver, NotebookServer, NotebookWatchCall,
-    NotebookWatchParamsReader, NotebookWatchResultsBuilder, NotebookWatchResultsPipeline,
-    NotebookWatchResultsReader,
+    NotebookWatchLater, NotebookWatchParamsReader, NotebookWatchResultsBuilder,
+    NotebookWatchResultsPipeline, NotebookWatchResultsReader,
 };
 pub use page::{
-    PageClient, PageDispatch, PageReadCall, PageReadParamsReader, PageReadResultsBuilder,
-    PageReadResultsPipeline, PageReadResultsReader, PageResolver, PageServer,
+    PageClient, PageDispatch, PageReadCall, PageReadLater, PageReadParamsReader,
+    PageReadResultsBuilder, PageReadResultsPipeline, PageReadResultsReader, PageResolver,
+    PageServer,
 };
 pub use watcher::{
-    WatcherAddedCall, WatcherAddedParamsReader, WatcherAddedResultsBuilder,
+    WatcherAddedCall, WatcherAddedLater, WatcherAddedParamsReader, WatcherAddedResultsBuilder,
     WatcherAddedResultsPipeline, WatcherAddedResultsReader, WatcherClient, WatcherDispatch,
     WatcherResolver, WatcherServer,
 };

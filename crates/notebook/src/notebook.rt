@@ -9,22 +9,20 @@ ghost use Rattle.cp_builder.specs.Drafts.{blank, text_tree, with_pointer, with_u
 ghost use Rattle.cp_servants.specs.Naming.{pointer_naming, with_named};
 ghost use Rattle.cp_interfaces.specs.Calls.{outgoing_call_of, request_of};
 ghost use Rattle.cp_interfaces.specs.Promises.{Finds, promised_cap};
-ghost use Rattle.cp_interface_objects.specs.Calls.{Answers};
-ghost use Rattle.cp_interface_objects.specs.Calls.{MakesOf};
-ghost use Rattle.cp_interface_objects.specs.Services.{At, at};
+ghost use Rattle.cp_interfaces.specs.ServiceCalls.{Answers};
+ghost use Rattle.cp_interfaces.specs.ServiceCalls.{MakesOf};
+ghost use Rattle.cp_interfaces.specs.Services.{At, at};
 ghost use Rattle.notebook.specs.Notebook.{NotebookKind, NotebookTakes, any_notebook};
 
 use crate::page::PageClient;
 use crate::watcher::WatcherClient;
 use cp_builder::{BuildError, StructBuilder};
 use cp_fields::{StructReader, TextReader, WrongKind};
-use cp_interface_objects::{
-    Dispatch, MethodResult, ObjectDispatch, ServiceCall, ServiceObject, TypedResolver,
-};
 use cp_interfaces::{
-    CallTarget, Caller, CapFault, CapTableBuilder, Lends, MethodCall, MethodFault, NoFieldsBuilder,
-    NoFieldsPipeline, NoFieldsReader, Pipeline, ResultPayload, Results, TypedClient, TypedPipeline,
-    refuse,
+    CallTarget, Caller, CapFault, CapTableBuilder, Dispatch, LaterAnswer, Lends, MethodCall,
+    MethodFault, MethodResult, NoFieldsBuilder, NoFieldsPipeline, NoFieldsReader, ObjectDispatch,
+    Pipeline, ResultPayload, Results, ServiceCall, ServiceObject, TypedClient, TypedPipeline,
+    TypedResolver, refuse,
 };
 use cp_objects::Context;
 use cp_refs::{Cap, Caps, Request};
@@ -191,12 +189,18 @@ pub type NotebookAddCall<'c> = ServiceCall<
     NotebookAddResultsBuilder,
 >;
 
+/// The answer of a call of `add` that is given later.
+pub type NotebookAddLater = LaterAnswer<NotebookAddResultsBuilder>;
+
 /// A call of `open`.
 pub type NotebookOpenCall<'c> = ServiceCall<
     'c,
     NotebookOpenParamsReader<'c>,
     NotebookOpenResultsBuilder,
 >;
+
+/// The answer of a call of `open` that is given later.
+pub type NotebookOpenLater = LaterAnswer<NotebookOpenResultsBuilder>;
 
 /// A call of `watch`.
 pub type NotebookWatchCall<'c> = ServiceCall<
@@ -205,12 +209,18 @@ pub type NotebookWatchCall<'c> = ServiceCall<
     NotebookWatchResultsBuilder,
 >;
 
+/// The answer of a call of `watch` that is given later.
+pub type NotebookWatchLater = LaterAnswer<NotebookWatchResultsBuilder>;
+
 /// A call of `next`.
 pub type NotebookNextCall<'c> = ServiceCall<
     'c,
     NotebookNextParamsReader<'c>,
     NotebookNextResultsBuilder,
 >;
+
+/// The answer of a call of `next` that is given later.
+pub type NotebookNextLater = LaterAnswer<NotebookNextResultsBuilder>;
 
 /// An object of `interface Notebook`.
 pub trait NotebookServer: ServiceObject {
@@ -261,7 +271,7 @@ impl<T: NotebookServer> Dispatch<T> for NotebookClient {
 
     fn dispatch(
         object: &mut T,
-        call: &MethodCall,
+        call: &MethodCall<'_>,
         context: &mut Context<T::Makes>,
     ) -> Result<Reply, AllocError> {
         match (call.request.interface, call.request.method, call.params()) {

@@ -1,24 +1,23 @@
 //! `page` of notebook.capnp, made by capnpc_rattle.
 
-ghost use Rattle.std.specs.Prelude.{◌≡◌, IfOk, OnOk, OnErr, Err, ◌≤◌, ◌^◌, length, ◌+◌, []};
+ghost use Rattle.std.specs.Prelude.{◌≡◌, IfOk, OnOk, OnErr, Err, []};
 ghost use Rattle.cp_tree.specs.Seen.{pointee_of};
 ghost use Rattle.cp_fields.specs.Pointers.{text_field};
 ghost use Rattle.cp_builder.specs.declared.fault.BuildError.TheVariants.{TooLong};
-ghost use Rattle.cp_builder.specs.Drafts.{blank, text_tree, with_pointer};
+ghost use Rattle.cp_builder.specs.Copies.{Sets};
+ghost use Rattle.cp_builder.specs.Drafts.{blank};
 ghost use Rattle.cp_interfaces.specs.Calls.{outgoing_call_of, request_of};
-ghost use Rattle.cp_interface_objects.specs.Calls.{Answers};
-ghost use Rattle.cp_interface_objects.specs.Calls.{MakesOf};
-ghost use Rattle.cp_interface_objects.specs.Services.{At, at};
+ghost use Rattle.cp_interfaces.specs.ServiceCalls.{Answers};
+ghost use Rattle.cp_interfaces.specs.ServiceCalls.{MakesOf};
+ghost use Rattle.cp_interfaces.specs.Services.{At, at};
 ghost use Rattle.notebook.specs.Page.{PageKind, PageTakes, any_page};
 
-use cp_builder::{BuildError, StructBuilder};
+use cp_builder::{BuildError, FieldValue, StructBuilder};
 use cp_fields::{StructReader, TextReader, WrongKind};
-use cp_interface_objects::{
-    Dispatch, MethodResult, ObjectDispatch, ServiceCall, ServiceObject, TypedResolver,
-};
 use cp_interfaces::{
-    CallTarget, Caller, CapTableBuilder, Lends, MethodCall, MethodFault, NoFieldsReader, Results,
-    TypedClient, TypedPipeline, refuse,
+    CallTarget, Caller, CapTableBuilder, Dispatch, LaterAnswer, Lends, MethodCall, MethodFault,
+    MethodResult, NoFieldsReader, ObjectDispatch, Results, ServiceCall, ServiceObject, TypedClient,
+    TypedPipeline, TypedResolver, refuse,
 };
 use cp_objects::Context;
 use cp_refs::{Cap, Request};
@@ -86,6 +85,9 @@ impl TypedClient for PageClient {
 /// A call of `read`.
 pub type PageReadCall<'c> = ServiceCall<'c, PageReadParamsReader<'c>, PageReadResultsBuilder>;
 
+/// The answer of a call of `read` that is given later.
+pub type PageReadLater = LaterAnswer<PageReadResultsBuilder>;
+
 /// An object of `interface Page`.
 pub trait PageServer: ServiceObject {
     /// What calls of its methods lead to. Of an object that doesn't say it nothing is known.
@@ -111,7 +113,7 @@ impl<T: PageServer> Dispatch<T> for PageClient {
 
     fn dispatch(
         object: &mut T,
-        call: &MethodCall,
+        call: &MethodCall<'_>,
         context: &mut Context<T::Makes>,
     ) -> Result<Reply, AllocError> {
         match (call.request.interface, call.request.method, call.params()) {
@@ -167,12 +169,16 @@ impl PageReadResultsBuilder {
     }
 
     /// Sets `text`.
-    pub fn set_text(&mut self, alloc: Global, value: &str) -> Result<(), BuildError>
-        ensures set { OnOk result (self.new.body ≡ with_pointer self.old.body 0 (text_tree value.now)) }
+    pub fn set_text<'a, V: FieldValue<TextReader<'a>>>(
+        &mut self,
+        value: V,
+    ) -> Result<(), BuildError>
+        ensures set { OnOk result (Sets (V.stands value) self.old.body 0 self.new.body) }
         ensures left { OnErr result (self.new ≡ self.old) }
-        ensures long { result ≡ Err TooLong → 2 ^ 29 ≤ length value.now + 1 }
+        ensures long { result ≡ Err TooLong → V.is_long value }
     {
-        self.body.set_pointer(0, cp_builder::text_of(alloc, value)?);
+        let whole = value.into_whole(self.body.alloc())?;
+        self.body.set_pointer(0, whole);
         Ok(())
     }
 }

@@ -25,7 +25,7 @@ impl FriendServer for Echo {
         let greeting = call.params.greeting()?.text(context.alloc())?;
         let said = greeting.as_str();
         let answer = format!(in context.alloc(); "{said}, {said}")?;
-        Ok(call.results.set_answer(context.alloc(), answer.as_str())?)
+        Ok(call.results.set_answer(answer.as_str())?)
     }
 }
 
@@ -92,7 +92,7 @@ impl<'a, R: Read + Drop, W: Write + Drop> Directing<'a, R, W> {
         let alloc = self.alloc;
         let mut params = DirectoryAddParamsBuilder::new(alloc)?;
         let mut person = PersonBuilder::new(alloc)?;
-        person.set_name(alloc, name)?;
+        person.set_name(name)?;
         person.set_age(age);
         person.set_friend(&mut params.table, friend)?;
         params.set_person(person);

@@ -4,7 +4,7 @@ use crate::peer::{Calling, came};
 use calculator::{
     CalculatorClient, CalculatorDefineParamsBuilder, CalculatorEvaluateParamsBuilder,
     ExpressionBuilder, ExpressionListBuilder, FunctionClient, Operator,
-    ReckonerOperatorParamsBuilder, ReckonerReckonParamsBuilder, ValueClient,
+    ReckonerReckonParamsBuilder, ValueClient,
 };
 use jamdrosek::client::Cap;
 use jamdrosek::interfaces::CapTableBuilder;
@@ -86,9 +86,7 @@ impl<'a, R: Read + Drop, W: Write + Drop> Evaluating<'a, R, W> {
     /// The function that an operator is, before it came.
     fn operator(&mut self, operator: Operator) -> anyhow::Result<FunctionClient> {
         let reckoner = self.calculator.as_reckoner()?;
-        let mut params = ReckonerOperatorParamsBuilder::new(self.alloc)?;
-        params.set_operator(operator);
-        Ok(reckoner.operator(self.client, params)?.function()?)
+        Ok(reckoner.operator(self.client, operator)?.function()?)
     }
 
     /// What an expression comes to, before it came.

@@ -10,7 +10,7 @@ use directory::{
 };
 use jamdrosek::client::{Cap, Client};
 use jamdrosek::server::{Either, Objects};
-use jamdrosek::session::{Session, SessionLimits, SessionOptions};
+use jamdrosek::session::{DrivenSession, Session, SessionLimits, SessionOptions};
 use jamdrosek::{Limits, Mode};
 use std::alloc::Global;
 use std::cell::RefCell;
@@ -44,7 +44,7 @@ fn add<R: Read + Drop, W: Write + Drop>(
     directory: &DirectoryClient,
 ) -> anyhow::Result<()> {
     let mut person = PersonBuilder::new(alloc)?;
-    person.set_name(alloc, "Ada")?;
+    person.set_name("Ada")?;
     person.set_age(36);
     let mut params = DirectoryAddParamsBuilder::new(alloc)?;
     params.set_person(person);

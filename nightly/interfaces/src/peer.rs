@@ -3,11 +3,10 @@
 use crate::Served;
 use jamdrosek::client::Client;
 use jamdrosek::interfaces::ResultPayload;
-use jamdrosek::server::Objects;
 use std::io::{Read, Write};
 
 /// A client with objects of this program.
-pub type Calling<R, W> = Client<R, W, Objects<Served>>;
+pub type Calling<R, W> = Client<R, W, Served>;
 
 /// The results of a question, while the objects answer.
 pub fn came<R: Read + Drop, W: Write + Drop>(

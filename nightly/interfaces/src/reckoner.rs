@@ -3,17 +3,16 @@
 use crate::Served;
 use crate::functions::{Binary, Function};
 use calculator::{
-    ExpressionMember, ExpressionReader, FunctionCallParamsBuilder, FunctionCallResultsReader,
-    FunctionClient, Operator, ReckonerOperatorCall, ReckonerReckonCall, ReckonerReckonResultsBuilder,
-    ReckonerDispatch, ReckonerServer,
+    ExpressionMember, ExpressionReader, FunctionCallResultsReader,
+    FunctionClient, Operator, ReckonerOperatorCall, ReckonerReckonCall, ReckonerReckonLater,
+    ReckonerReckonResultsBuilder, ReckonerDispatch, ReckonerServer,
 };
 use jamdrosek::client::{Cap, Outcome};
 use jamdrosek::interfaces::{
-    LaterCall, MethodFault, MethodResult, ResultPayload, ServiceObject, failed, payload_of,
+    MethodFault, MethodResult, ResultPayload, ServiceObject, failed, payload_of,
 };
-use jamdrosek::server::{Either, Caps, Objects, Context, Settled};
+use jamdrosek::server::{Either, Caps, Objects, Context};
 use std::alloc::Global;
-use std::collections::VecDeque;
 
 /// The most parts that an expression may have.
 const PARTS: usize = 1000;
@@ -29,7 +28,7 @@ enum Step {
 /// An expression whose call waits.
 #[derive(Drop)]
 struct Job {
-    call: LaterCall,
+    call: ReckonerReckonLater,
     /// By which what its functions give is told.
     call_id: u64,
     /// What is still to be done, the next at the end.
@@ -41,7 +40,6 @@ struct Job {
 #[derive(Drop)]
 pub struct Reckoner {
     jobs: Vec<Job>,
-    settled: VecDeque<Settled>,
     /// The mark of the last job.
     last: u64,
 }
@@ -50,7 +48,6 @@ pub struct Reckoner {
 pub fn new_reckoner(alloc: Global) -> anyhow::Result<Objects<Served>> {
     let reckoner = ReckonerDispatch::new(Reckoner {
         jobs: Vec::new(alloc),
-        settled: VecDeque::new(alloc),
         last: 0,
     });
     let mut objects = Objects::new(alloc);
@@ -87,11 +84,9 @@ impl Reckoner {
             numbers.push(job.numbers.pop().unwrap_or(0.0))?;
         }
         numbers.reverse();
-        let mut params = FunctionCallParamsBuilder::new(context.alloc())?;
-        if params.set_params(context.alloc(), &numbers).is_err() {
+        let Ok(request) = function.call_request(&numbers) else {
             return self.fail(job, "too many params", context);
-        }
-        let request = function.call_request(params);
+        };
         context.send(function.target.outgoing(request, job.call_id)?)?;
         self.jobs.push(job)?;
         Ok(())
@@ -110,16 +105,13 @@ impl Reckoner {
     fn end(&mut self, mut job: Job, context: &mut Context<Served>) -> MethodResult {
         let mut results = ReckonerReckonResultsBuilder::new(context.alloc())?;
         results.set_number(job.numbers.pop().unwrap_or(0.0));
-        self.settled
-            .push_back(job.call.answer(context.alloc(), results))?;
-        Ok(())
+        Ok(job.call.answer(context, results)?)
     }
 
     /// Answers with an exception.
     fn fail(&mut self, job: Job, reason: &str, context: &mut Context<Served>) -> MethodResult {
         let fault = MethodFault::Fails(failed(context.alloc(), reason)?);
-        self.settled.push_back(job.call.fail(context.alloc(), fault)?)?;
-        Ok(())
+        Ok(job.call.fail(context, fault)?)
     }
 
     /// Takes the job of this mark.
@@ -164,14 +156,6 @@ fn steps_of(
 impl ServiceObject for Reckoner {
     type Makes = Served;
 
-    fn poll(&mut self, _context: &mut Context<Served>) -> Result<Option<Settled>, MethodFault> {
-        Ok(self.settled.pop_front())
-    }
-
-    fn has_more(&self) -> bool {
-        !self.settled.is_empty()
-    }
-
     fn on_response(&mut self, call_id: u64, outcome: Outcome, context: &mut Context<Served>) -> MethodResult {
         let Some(job) = self.take(call_id) else {
             return Ok(());
@@ -179,8 +163,7 @@ impl ServiceObject for Reckoner {
         match outcome {
             Outcome::Failed(exception) => {
                 let fault = MethodFault::Fails(exception);
-                self.settled.push_back(job.call.fail(context.alloc(), fault)?)?;
-                Ok(())
+                Ok(job.call.fail(context, fault)?)
             }
             other => match payload_of(other) {
                 Ok(came) => self.came(job, &came, context),
@@ -195,7 +178,7 @@ impl ReckonerServer for Reckoner {
         let steps = steps_of(context.alloc(), call.params.expression()?, call.caps())?;
         self.last = self.last.saturating_add(1);
         let job = Job {
-            call: call.later()?,
+            call: call.later(context)?,
             call_id: self.last,
             steps,
             numbers: Vec::new(context.alloc()),

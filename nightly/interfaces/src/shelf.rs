@@ -49,7 +49,7 @@ impl Shelf {
 /// A person, to be written.
 fn built(alloc: Global, name: &str, age: u8) -> Result<PersonBuilder, MethodFault> {
     let mut person = PersonBuilder::new(alloc)?;
-    person.set_name(alloc, name)?;
+    person.set_name(name)?;
     person.set_age(age);
     Ok(person)
 }
@@ -60,7 +60,7 @@ impl ServiceObject for Shelf {
 
 impl NamedServer for Shelf {
     fn name(&mut self, call: &mut NamedNameCall<'_>, context: &mut Context<Served>) -> MethodResult {
-        Ok(call.results.set_name(context.alloc(), "the shelf")?)
+        Ok(call.results.set_name("the shelf")?)
     }
 }
 

@@ -3,4 +3,4 @@
 set -eu
 here=$(cd "$(dirname "${BASH_SOURCE[0]}")" && pwd)
 . "$here/../../../tools/crates.sh"
-build_beside "$1" "$here" trials "cp_words cp_frame cp_vat_machine cp_refs cp_builder cp_servants cp_client anyhow" 0
+build_beside "$1" "$here" trials "cp_words cp_frame cp_vat_machine cp_refs cp_builder cp_servants cp_objects cp_client anyhow" 0

@@ -8,21 +8,19 @@ ghost use Rattle.cp_builder.specs.Drafts.{blank, text_tree, with_pointer};
 ghost use Rattle.cp_servants.specs.Naming.{pointer_naming, with_named};
 ghost use Rattle.cp_interfaces.specs.Calls.{outgoing_call_of, request_of};
 ghost use Rattle.cp_interfaces.specs.Promises.{Finds, promised_cap};
-ghost use Rattle.cp_interface_objects.specs.Calls.{Answers};
-ghost use Rattle.cp_interface_objects.specs.Calls.{MakesOf};
-ghost use Rattle.cp_interface_objects.specs.Services.{At, at};
+ghost use Rattle.cp_interfaces.specs.ServiceCalls.{Answers};
+ghost use Rattle.cp_interfaces.specs.ServiceCalls.{MakesOf};
+ghost use Rattle.cp_interfaces.specs.Services.{At, at};
 ghost use Rattle.chat.specs.Chat.{ChatKind, ChatTakes, any_chat};
 
 use crate::listener::ListenerClient;
 use crate::member_::MemberClient;
 use cp_builder::{BuildError, StructBuilder};
 use cp_fields::{StructReader, TextReader, WrongKind};
-use cp_interface_objects::{
-    Dispatch, MethodResult, ObjectDispatch, ServiceCall, ServiceObject, TypedResolver,
-};
 use cp_interfaces::{
-    CallTarget, Caller, CapFault, CapTableBuilder, MethodCall, MethodFault, Pipeline,
-    ResultPayload, Results, TypedClient, refuse,
+    CallTarget, Caller, CapFault, CapTableBuilder, Dispatch, LaterAnswer, MethodCall, MethodFault,
+    MethodResult, ObjectDispatch, Pipeline, ResultPayload, Results, ServiceCall, ServiceObject,
+    TypedClient, TypedResolver, refuse,
 };
 use cp_objects::Context;
 use cp_refs::{Cap, Caps, Request};
@@ -109,6 +107,9 @@ impl TypedClient for ChatClient {
 /// A call of `join`.
 pub type ChatJoinCall<'c> = ServiceCall<'c, ChatJoinParamsReader<'c>, ChatJoinResultsBuilder>;
 
+/// The answer of a call of `join` that is given later.
+pub type ChatJoinLater = LaterAnswer<ChatJoinResultsBuilder>;
+
 /// An object of `interface Chat`.
 pub trait ChatServer: ServiceObject {
     /// What calls of its methods lead to. Of an object that doesn't say it nothing is known.
@@ -134,7 +135,7 @@ impl<T: ChatServer> Dispatch<T> for ChatClient {
 
     fn dispatch(
         object: &mut T,
-        call: &MethodCall,
+        call: &MethodCall<'_>,
         context: &mut Context<T::Makes>,
     ) -> Result<Reply, AllocError> {
         match (call.request.interface, call.request.method, call.params()) {

@@ -6,15 +6,17 @@ mod listener;
 mod member_;
 
 pub use chat::{
-    ChatClient, ChatDispatch, ChatJoinCall, ChatJoinParamsReader, ChatJoinResultsBuilder,
-    ChatJoinResultsPipeline, ChatJoinResultsReader, ChatResolver, ChatServer,
+    ChatClient, ChatDispatch, ChatJoinCall, ChatJoinLater, ChatJoinParamsReader,
+    ChatJoinResultsBuilder, ChatJoinResultsPipeline, ChatJoinResultsReader, ChatResolver,
+    ChatServer,
 };
 pub use listener::{
-    ListenerClient, ListenerDispatch, ListenerHeardCall, ListenerHeardParamsReader,
-    ListenerHeardResultsBuilder, ListenerHeardResultsPipeline, ListenerHeardResultsReader,
-    ListenerResolver, ListenerServer,
+    ListenerClient, ListenerDispatch, ListenerHeardCall, ListenerHeardLater,
+    ListenerHeardParamsReader, ListenerHeardResultsBuilder, ListenerHeardResultsPipeline,
+    ListenerHeardResultsReader, ListenerResolver, ListenerServer,
 };
 pub use member_::{
-    MemberClient, MemberDispatch, MemberResolver, MemberSayCall, MemberSayParamsReader,
-    MemberSayResultsBuilder, MemberSayResultsPipeline, MemberSayResultsReader, MemberServer,
+    MemberClient, MemberDispatch, MemberResolver, MemberSayCall, MemberSayLater,
+    MemberSayParamsReader, MemberSayResultsBuilder, MemberSayResultsPipeline,
+    MemberSayResultsReader, MemberServer,
 };

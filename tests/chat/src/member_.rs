@@ -5,19 +5,17 @@ ghost use Rattle.cp_tree.specs.Seen.{pointee_of};
 ghost use Rattle.cp_fields.specs.Pointers.{text_field};
 ghost use Rattle.cp_builder.specs.Drafts.{blank, text_tree, with_pointer};
 ghost use Rattle.cp_interfaces.specs.Calls.{outgoing_call_of, request_of};
-ghost use Rattle.cp_interface_objects.specs.Calls.{Answers};
-ghost use Rattle.cp_interface_objects.specs.Calls.{MakesOf};
-ghost use Rattle.cp_interface_objects.specs.Services.{At, at};
+ghost use Rattle.cp_interfaces.specs.ServiceCalls.{Answers};
+ghost use Rattle.cp_interfaces.specs.ServiceCalls.{MakesOf};
+ghost use Rattle.cp_interfaces.specs.Services.{At, at};
 ghost use Rattle.chat.specs.Member_.{MemberKind, MemberTakes, any_member};
 
 use cp_builder::{BuildError, StructBuilder};
 use cp_fields::{StructReader, TextReader, WrongKind};
-use cp_interface_objects::{
-    Dispatch, MethodResult, ObjectDispatch, ServiceCall, ServiceObject, TypedResolver,
-};
 use cp_interfaces::{
-    CallTarget, Caller, MethodCall, MethodFault, NoFieldsBuilder, NoFieldsPipeline, NoFieldsReader,
-    TypedClient, refuse,
+    CallTarget, Caller, Dispatch, LaterAnswer, MethodCall, MethodFault, MethodResult,
+    NoFieldsBuilder, NoFieldsPipeline, NoFieldsReader, ObjectDispatch, ServiceCall, ServiceObject,
+    TypedClient, TypedResolver, refuse,
 };
 use cp_objects::Context;
 use cp_refs::{Cap, Request};
@@ -89,6 +87,9 @@ impl TypedClient for MemberClient {
 /// A call of `say`.
 pub type MemberSayCall<'c> = ServiceCall<'c, MemberSayParamsReader<'c>, MemberSayResultsBuilder>;
 
+/// The answer of a call of `say` that is given later.
+pub type MemberSayLater = LaterAnswer<MemberSayResultsBuilder>;
+
 /// An object of `interface Member`.
 pub trait MemberServer: ServiceObject {
     /// What calls of its methods lead to. Of an object that doesn't say it nothing is known.
@@ -114,7 +115,7 @@ impl<T: MemberServer> Dispatch<T> for MemberClient {
 
     fn dispatch(
         object: &mut T,
-        call: &MethodCall,
+        call: &MethodCall<'_>,
         context: &mut Context<T::Makes>,
     ) -> Result<Reply, AllocError> {
         match (call.request.interface, call.request.method, call.params()) {

@@ -4,8 +4,8 @@ use crate::chat_server::{Room, Served, new_objects, new_room};
 use chat::{ChatClient, ListenerClient, ListenerHeardCall, ListenerDispatch, ListenerServer};
 use jamdrosek::client::Client;
 use jamdrosek::interfaces::{MethodResult, ServiceObject};
-use jamdrosek::server::{Objects, ObjectTable, Context, Waker};
-use jamdrosek::session::{Session, SessionLimits, SessionOptions};
+use jamdrosek::server::{Objects, Context, Waker};
+use jamdrosek::session::{DrivenSession, Session, SessionLimits, SessionOptions};
 use jamdrosek::{Limits, Mode};
 use std::alloc::Global;
 use std::cell::RefCell;
@@ -56,7 +56,7 @@ fn serve(
     room: &Rc<RefCell<Room>>,
     number: u64,
     bytes: &[u8],
-) -> anyhow::Result<Session<Objects<Served>>> {
+) -> anyhow::Result<Session<Served>> {
     let options = SessionOptions {
         mode: Mode::Plain,
         messages: Limits::standard(),
@@ -65,9 +65,8 @@ fn serve(
         releases_idle: true,
         limits: SessionLimits::standard(),
     };
-    let mut objects = new_objects(alloc, room)?;
-    objects.set_session(number);
-    let mut session = Session::new(alloc, &options, objects, 0);
+    let objects = new_objects(alloc, room)?;
+    let mut session = Session::begin(alloc, &options, number, objects, 0);
     for byte in bytes {
         session.receive(&[*byte], 0)?;
     }
@@ -103,9 +102,9 @@ fn copied(alloc: Global, heard: &Rc<RefCell<String>>) -> anyhow::Result<String> 
 }
 
 /// Joins a chat, says this if it is anything, and hears the others until the chat ends.
-fn join<R: Read + Drop, W: Write + Drop, H: ObjectTable>(
+fn join<R: Read + Drop, W: Write + Drop>(
     alloc: Global,
-    client: &mut Client<R, W, H>,
+    client: &mut Client<R, W, Hearing>,
     listener: ListenerClient,
     name: &str,
     text: Option<&str>,

@@ -1,5 +1,5 @@
-//! Runs each example on its file of `data/`, under a heading. With the word `chat` it serves a chat room. Those of
-//! `crates/examples` are laid out beside them, as the file `also` says.
+//! Runs each example on its file of `data/`, under a heading. With the word `chat` it serves a chat room, with `store` a store, which it calls
+//! with `store-client`, and with `way` and a number it serves so many calls. Those of `crates/examples` are laid out beside them, as the file `also` says.
 #![tactic(auto)]
 
 mod book;
@@ -7,6 +7,7 @@ mod call;
 mod chat_server;
 mod chat_test;
 mod connection;
+mod copies;
 mod count;
 mod draft;
 mod notebook_client;
@@ -14,8 +15,11 @@ mod notebook_server;
 mod notebook_test;
 mod serve;
 mod store;
+mod store_client;
+mod store_server;
 mod vat;
 mod view;
+mod way;
 mod write;
 
 use std::env;
@@ -25,6 +29,9 @@ fn main(rt: HostRuntime) -> anyhow::Result<()> {
         Some(word) if word.as_str() == "chat" => chat_server::run(&rt),
         Some(word) if word.as_str() == "server" => notebook_server::run(&rt),
         Some(word) if word.as_str() == "client" => notebook_client::run(&rt),
+        Some(word) if word.as_str() == "store" => store_server::run(&rt),
+        Some(word) if word.as_str() == "store-client" => store_client::run(&rt),
+        Some(word) if word.as_str() == "way" => way::run(&rt),
         _ => run_all(&rt),
     }
 }
@@ -41,6 +48,8 @@ fn run_all(rt: &HostRuntime) -> anyhow::Result<()> {
     book::run(rt)?;
     heading(rt, "draft")?;
     draft::run(rt)?;
+    heading(rt, "copies")?;
+    copies::run(rt)?;
     heading(rt, "connection")?;
     connection::run(rt)?;
     heading(rt, "vat")?;

@@ -5,8 +5,7 @@ use crate::notebook_client::talk;
 use crate::notebook_server::{Served, new_objects, new_shelf};
 use anyhow::anyhow;
 use jamdrosek::host::{Host, HostConfig, Listener, HostEvent};
-use jamdrosek::server::Objects;
-use jamdrosek::session::{Session, SessionLimits, SessionOptions};
+use jamdrosek::session::{DrivenSession, Session, SessionLimits, SessionOptions};
 use jamdrosek::{Limits, Mode};
 use std::alloc::Global;
 use std::io::{Read, Write};
@@ -46,11 +45,11 @@ fn answers_to(alloc: Global, bytes: &[u8]) -> anyhow::Result<(Vec<u8>, usize, us
     let mut most = 0;
     for byte in bytes {
         server.receive(&[*byte], 0)?;
-        most = most.max(server.object_table().len());
+        most = most.max(server.objects().len());
     }
     server.tick(1_000);
     let sent = Vec::from_slice(alloc, server.outgoing());
-    let left = server.object_table().len();
+    let left = server.objects().len();
     drop(server);
     Ok((sent?, most, left))
 }
@@ -78,7 +77,7 @@ fn client(rt: &HostRuntime, address: SocketAddr, calls: &[u8]) -> anyhow::Result
 /// Serves one shelf until the second client has ended, and then the first, which was silent meanwhile.
 fn serve_both(
     rt: &HostRuntime,
-    host: &mut Host<Objects<Served>>,
+    host: &mut Host<Served>,
     first: &TcpStream,
 ) -> anyhow::Result<()> {
     let shelf = new_shelf(rt.alloc())?;

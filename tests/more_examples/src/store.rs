@@ -1,14 +1,16 @@
-//! Serves a store of texts, the interface of tests/store/store.capnp, to a client whose messages are in a file.
+//! Serves the store of `store_server` in memory, to a client whose messages are in a file.
 
-use jamdrosek::interfaces::{MethodResult, ServiceObject};
-use jamdrosek::server::{Objects, Context};
-use jamdrosek::session::{Session, SessionLimits, SessionOptions};
+use crate::store_server::Shelf;
+use jamdrosek::server::Objects;
+use jamdrosek::session::{DrivenSession, Session, SessionLimits, SessionOptions};
 use jamdrosek::{Limits, Mode};
 use std::alloc::Global;
+use std::cell::RefCell;
 use std::collections::BTreeMap;
 use std::fs;
 use std::io::{self, Write};
-use store::{StoreGetCall, StorePutCall, StoreDispatch, StoreServer};
+use std::rc::Rc;
+use store::StoreDispatch;
 
 pub fn run(rt: &HostRuntime) -> anyhow::Result<()> {
     let calls = fs::read(rt, "serve.bin")?;
@@ -27,9 +29,8 @@ fn answers(alloc: Global, calls: &[u8]) -> anyhow::Result<Vec<u8>> {
         limits: SessionLimits::standard(),
     };
     let mut objects = Objects::new(alloc);
-    objects.add(StoreDispatch::new(Shelf {
-        texts: BTreeMap::new(alloc),
-    }))?;
+    let texts = Rc::new(alloc, RefCell::new(BTreeMap::new(alloc)))?;
+    objects.add(StoreDispatch::new(Shelf(texts)))?;
     let mut session = Session::new(alloc, &options, objects, 0);
     for byte in calls {
         session.receive(&[*byte], 0)?;
@@ -37,39 +38,4 @@ fn answers(alloc: Global, calls: &[u8]) -> anyhow::Result<Vec<u8>> {
     let sent = Vec::from_slice(alloc, session.outgoing());
     drop(session);
     Ok(sent?)
-}
-
-/// Texts by their keys.
-#[derive(Drop)]
-struct Shelf {
-    texts: BTreeMap<String, String>,
-}
-
-impl ServiceObject for Shelf {
-    type Makes = StoreDispatch<Shelf>;
-}
-
-impl StoreServer for Shelf {
-    fn put(
-        &mut self,
-        call: &mut StorePutCall<'_>,
-        context: &mut Context<StoreDispatch<Shelf>>,
-    ) -> MethodResult {
-        let key = call.params.key()?.text(context.alloc())?;
-        let value = call.params.value()?.text(context.alloc())?;
-        self.texts.insert(key, value)?;
-        Ok(())
-    }
-
-    fn get(
-        &mut self,
-        call: &mut StoreGetCall<'_>,
-        context: &mut Context<StoreDispatch<Shelf>>,
-    ) -> MethodResult {
-        let key = call.params.key()?.text(context.alloc())?;
-        if let Some(value) = self.texts.get(&key) {
-            call.results.set_value(context.alloc(), value.as_str())?;
-        }
-        Ok(())
-    }
 }

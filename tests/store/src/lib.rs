@@ -4,8 +4,8 @@
 mod store;
 
 pub use store::{
-    StoreClient, StoreDispatch, StoreGetCall, StoreGetParamsReader, StoreGetResultsBuilder,
-    StoreGetResultsPipeline, StoreGetResultsReader, StorePutCall, StorePutParamsReader,
-    StorePutResultsBuilder, StorePutResultsPipeline, StorePutResultsReader, StoreResolver,
-    StoreServer,
+    StoreClient, StoreDispatch, StoreGetCall, StoreGetLater, StoreGetParamsReader,
+    StoreGetResultsBuilder, StoreGetResultsPipeline, StoreGetResultsReader, StorePutCall,
+    StorePutLater, StorePutParamsReader, StorePutResultsBuilder, StorePutResultsPipeline,
+    StorePutResultsReader, StoreResolver, StoreServer,
 };

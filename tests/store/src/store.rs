@@ -1,24 +1,23 @@
 //! `store` of store.capnp, made by capnpc_rattle.
 
-ghost use Rattle.std.specs.Prelude.{◌≡◌, IfOk, OnOk, OnErr, Err, ◌≤◌, ◌^◌, length, ◌+◌, []};
+ghost use Rattle.std.specs.Prelude.{◌≡◌, IfOk, OnOk, OnErr, Err, []};
 ghost use Rattle.cp_tree.specs.Seen.{pointee_of};
 ghost use Rattle.cp_fields.specs.Pointers.{text_field};
 ghost use Rattle.cp_builder.specs.declared.fault.BuildError.TheVariants.{TooLong};
+ghost use Rattle.cp_builder.specs.Copies.{Sets};
 ghost use Rattle.cp_builder.specs.Drafts.{blank, text_tree, with_pointer};
 ghost use Rattle.cp_interfaces.specs.Calls.{outgoing_call_of, request_of};
-ghost use Rattle.cp_interface_objects.specs.Calls.{Answers};
-ghost use Rattle.cp_interface_objects.specs.Calls.{MakesOf};
-ghost use Rattle.cp_interface_objects.specs.Services.{At, at};
+ghost use Rattle.cp_interfaces.specs.ServiceCalls.{Answers};
+ghost use Rattle.cp_interfaces.specs.ServiceCalls.{MakesOf};
+ghost use Rattle.cp_interfaces.specs.Services.{At, at};
 ghost use Rattle.store.specs.Store.{StoreKind, StoreTakes, any_store};
 
-use cp_builder::{BuildError, StructBuilder};
+use cp_builder::{BuildError, FieldValue, StructBuilder};
 use cp_fields::{StructReader, TextReader, WrongKind};
-use cp_interface_objects::{
-    Dispatch, MethodResult, ObjectDispatch, ServiceCall, ServiceObject, TypedResolver,
-};
 use cp_interfaces::{
-    CallTarget, Caller, CapTableBuilder, Lends, MethodCall, MethodFault, NoFieldsBuilder,
-    NoFieldsPipeline, NoFieldsReader, Results, TypedClient, TypedPipeline, refuse,
+    CallTarget, Caller, CapTableBuilder, Dispatch, LaterAnswer, Lends, MethodCall, MethodFault,
+    MethodResult, NoFieldsBuilder, NoFieldsPipeline, NoFieldsReader, ObjectDispatch, Results,
+    ServiceCall, ServiceObject, TypedClient, TypedPipeline, TypedResolver, refuse,
 };
 use cp_objects::Context;
 use cp_refs::{Cap, Request};
@@ -125,8 +124,14 @@ impl TypedClient for StoreClient {
 /// A call of `put`.
 pub type StorePutCall<'c> = ServiceCall<'c, StorePutParamsReader<'c>, StorePutResultsBuilder>;
 
+/// The answer of a call of `put` that is given later.
+pub type StorePutLater = LaterAnswer<StorePutResultsBuilder>;
+
 /// A call of `get`.
 pub type StoreGetCall<'c> = ServiceCall<'c, StoreGetParamsReader<'c>, StoreGetResultsBuilder>;
+
+/// The answer of a call of `get` that is given later.
+pub type StoreGetLater = LaterAnswer<StoreGetResultsBuilder>;
 
 /// An object of `interface Store`.
 pub trait StoreServer: ServiceObject {
@@ -161,7 +166,7 @@ impl<T: StoreServer> Dispatch<T> for StoreClient {
 
     fn dispatch(
         object: &mut T,
-        call: &MethodCall,
+        call: &MethodCall<'_>,
         context: &mut Context<T::Makes>,
     ) -> Result<Reply, AllocError> {
         match (call.request.interface, call.request.method, call.params()) {
@@ -269,12 +274,16 @@ impl StoreGetResultsBuilder {
     }
 
     /// Sets `value`.
-    pub fn set_value(&mut self, alloc: Global, value: &str) -> Result<(), BuildError>
-        ensures set { OnOk result (self.new.body ≡ with_pointer self.old.body 0 (text_tree value.now)) }
+    pub fn set_value<'a, V: FieldValue<TextReader<'a>>>(
+        &mut self,
+        value: V,
+    ) -> Result<(), BuildError>
+        ensures set { OnOk result (Sets (V.stands value) self.old.body 0 self.new.body) }
         ensures left { OnErr result (self.new ≡ self.old) }
-        ensures long { result ≡ Err TooLong → 2 ^ 29 ≤ length value.now + 1 }
+        ensures long { result ≡ Err TooLong → V.is_long value }
     {
-        self.body.set_pointer(0, cp_builder::text_of(alloc, value)?);
+        let whole = value.into_whole(self.body.alloc())?;
+        self.body.set_pointer(0, whole);
         Ok(())
     }
 }

@@ -16,6 +16,8 @@ mod checks;
 #[cfg(test)]
 mod connections;
 #[cfg(test)]
+mod copies;
+#[cfg(test)]
 mod decoded;
 #[cfg(test)]
 mod drafts;

@@ -2,7 +2,7 @@
 
 use crate::fault::Fault;
 use crate::row::{decoded, expect, parts_of};
-use cp_commands::{Asked, Names, Plan, act};
+use cp_commands::{Asked, Names, Plan, act_to_end};
 use cp_frame::Mode;
 use cp_schema::{Decoder, Schema};
 use cp_words::Limits;
@@ -101,13 +101,13 @@ fn push_written(
     }
 }
 
-/// What a command does with a file: its status, what it says and what it writes, between tabs.
-fn done(alloc: Global, plan: &Plan<'_>, mut file: &[u8]) -> Result<String, Fault> {
+/// What a command does with a file: its status, what it says, or its hint in place of that, and what it writes, between tabs.
+fn done(alloc: Global, plan: &Plan<'_>, mut file: &[u8], hints: bool) -> Result<String, Fault> {
     let (mut out, mut err) = (Vec::new(alloc), Vec::new(alloc));
-    let status = act(alloc, plan, &mut file, &mut out, &mut err);
+    let ended = act_to_end(alloc, plan, &mut file, &mut out, &mut err);
     let mut text = String::new(alloc);
-    let written = (out.as_slice(), err.as_slice());
-    let pushed = push_done(alloc, &mut text, plan, status, written);
+    let said = if hints { ended.hint.unwrap_or("").as_bytes() } else { err.as_slice() };
+    let pushed = push_done(alloc, &mut text, plan, ended.status, (out.as_slice(), said));
     drop(out);
     drop(err);
     match pushed {
@@ -178,10 +178,14 @@ fn try_file(
     Ok(1)
 }
 
-/// What the command of a row does, by these names.
+/// What the command of a row does, by these names. After `hint` the row has its hint in place of what it says.
 fn done_by(alloc: Global, names: &Names, words: &str, file: &[u8]) -> Result<String, Fault> {
+    let (words, hints) = match words.strip_prefix("hint ") {
+        Some(rest) => (rest, true),
+        None => (words, false),
+    };
     match plan_of(words, names) {
-        Some(plan) => done(alloc, &plan, file),
+        Some(plan) => done(alloc, &plan, file, hints),
         None => Err(Fault::Row),
     }
 }

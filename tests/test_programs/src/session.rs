@@ -9,7 +9,9 @@ use cp_connection::ConnectionFault;
 use cp_frame::Mode;
 use cp_objects::ObjectTable;
 use cp_servants::Sample;
-use cp_session::{Limit, Session, SessionEvent, SessionLimits, SessionOptions};
+use cp_session::{
+    CallingSession, DrivenSession, Limit, SessionEvent, SessionLimits, SessionOptions, SessionOver,
+};
 use cp_vat_machine::Reason;
 use cp_words::Limits;
 use std::alloc::Global;
@@ -19,7 +21,7 @@ use std::process::Abort;
 /// to prove, and one whose objects are of a type parameter next to nothing.
 struct Trial {
     alloc: Global,
-    session: Session<Vec<Sample>>,
+    session: SessionOver<Vec<Sample>>,
 }
 
 // Not derived: who lets one go calls this function, and need not prove the drop of its session.
@@ -93,7 +95,7 @@ impl Trial {
             releases_idle: true,
             limits,
         };
-        let session = Session::new(alloc, &options, objects, now);
+        let session = SessionOver::new(alloc, &options, objects, now);
         Trial { alloc, session }
     }
 
@@ -108,7 +110,7 @@ impl Trial {
     }
 }
 
-fn act<H: ObjectTable>(rt: &impl Abort, alloc: Global, session: &mut Session<H>, step: Step<'_>) -> Stand {
+fn act<H: ObjectTable>(rt: &impl Abort, alloc: Global, session: &mut SessionOver<H>, step: Step<'_>) -> Stand {
     let mut given = None;
     match step {
         Step::Frames(frames, now) => take(rt, alloc, session, frames, now),
@@ -130,7 +132,7 @@ fn act<H: ObjectTable>(rt: &impl Abort, alloc: Global, session: &mut Session<H>,
 }
 
 /// Does a step of the driver.
-fn pass<H: ObjectTable>(rt: &impl Abort, session: &mut Session<H>, step: Step<'_>) {
+fn pass<H: ObjectTable>(rt: &impl Abort, session: &mut SessionOver<H>, step: Step<'_>) {
     match step {
         Step::Wrote(count, now) => session.wrote(count, now),
         Step::Write(now) => {
@@ -150,7 +152,7 @@ fn pass<H: ObjectTable>(rt: &impl Abort, session: &mut Session<H>, step: Step<'_
 fn take<H: ObjectTable>(
     rt: &impl Abort,
     alloc: Global,
-    session: &mut Session<H>,
+    session: &mut SessionOver<H>,
     frames: &[&str],
     now: u64,
 ) {
@@ -166,13 +168,13 @@ fn take<H: ObjectTable>(
 }
 
 /// What waits to be written are these frames.
-fn expect_outgoing<H: ObjectTable>(rt: &impl Abort, alloc: Global, session: &Session<H>, frames: &[&str]) {
+fn expect_outgoing<H: ObjectTable>(rt: &impl Abort, alloc: Global, session: &SessionOver<H>, frames: &[&str]) {
     let wanted = bytes_of(rt, alloc, frames);
     check!(rt; session.outgoing() == wanted.as_slice());
     drop(wanted);
 }
 
-fn next_told<H: ObjectTable>(session: &mut Session<H>) -> Told {
+fn next_told<H: ObjectTable>(session: &mut SessionOver<H>) -> Told {
     let event = session.poll_event();
     let told = match &event {
         None => Told::Nothing,

@@ -56,7 +56,7 @@ impl $Type$ListBuilder {
     }
 }
 
-impl cp_interface_objects::ListValue for $Type$ListBuilder {
+impl cp_interfaces::ListValue for $Type$ListBuilder {
     ghost tree = { λ l. l.items };
 
     ghost is_long = { λ l. ¬ (Unit {0}) };
@@ -66,6 +66,44 @@ impl cp_interface_objects::ListValue for $Type$ListBuilder {
         Ok(self.items.into_whole())
     }
 }
+$if never$
+
+impl<'a> FieldValue<$Type$Reader<'a>> for $Type$Reader<'a> {
+    ghost stands = { λ r t. t ≡ placed [] r.body };
+
+    ghost is_long = { λ r. ¬ (Shaped (placed [] r.body)) };
+
+    fn into_whole(self, alloc: Global) -> Result<Whole, BuildError> {
+        cp_builder::struct_copy(alloc, &self.body, &[])
+    }
+}
+
+impl<'a> FieldValue<$Type$Reader<'a>> for $Type$Builder {
+    ghost stands = { λ d t. t ≡ d.body };
+
+    ghost is_long = { λ d. ⊥ };
+
+    fn into_whole(self, _alloc: Global) -> Result<Whole, BuildError>
+        ensures value { IfOk result (λ whole. whole ≡ self.body) }
+        ensures long { result ≡ Err TooLong → ⊥ }
+    {
+        Ok(self.body.into_whole())
+    }
+}
+
+impl<'a> FieldValue<List<'a, $Type$Reader<'a>>> for $Type$ListBuilder {
+    ghost stands = { λ l t. t ≡ l.items };
+
+    ghost is_long = { λ l. ⊥ };
+
+    fn into_whole(self, _alloc: Global) -> Result<Whole, BuildError>
+        ensures value { IfOk result (λ whole. whole ≡ self.items) }
+        ensures long { result ≡ Err TooLong → ⊥ }
+    {
+        Ok(self.items.into_whole())
+    }
+}
+$end$
 $end$
 $block results$
 
@@ -105,6 +143,22 @@ $insert about$
         self.body.set_u16($tag_place$, $tag$);
     }
 $block setter field$
+$if converts$
+$insert about$
+    pub fn set_$joined$<'a, V: FieldValue<$insert type shape$>>(&mut self, value: V) -> Result<(), BuildError>
+        ensures set { OnOk result (Sets (V.stands value) $insert old$ $place$ self.new.body) }$insert table_stays$
+        ensures left { OnErr result (self.new ≡ self.old) }
+        ensures long { result ≡ Err TooLong → V.is_long value }
+    {
+        let whole = value.into_whole(self.body.alloc())?;
+$insert choose$
+        self.body.set_pointer($place$, whole);
+        Ok(())
+    }
+$if of$
+use $of.from$$of.Type$Reader;
+$end$
+$else$
 $unless client$
 $insert about$
     pub fn set_$joined$(&mut self, $insert copies kind$value: $insert takes form$)$if fails$ -> Result<(), BuildError>$end$
@@ -120,6 +174,7 @@ $if fails$
 $end$
     }
 $insert cites form$
+$end$
 $end$
 $for client$
 $insert about$
@@ -238,26 +293,26 @@ $block sets numbers$($elements$_tree $value$.items)
 $block makes numbers$cp_builder::$maker$_of($value$)?
 $block takes signed_list$&[i$width$]
 $block sets signed_list$($elements$_tree (map (cast_unsigned w$width$) $value$.now))
-$block makes signed_list$cp_interface_objects::signed$width$_of($alloc$, $value$)?
+$block makes signed_list$cp_interfaces::signed$width$_of($alloc$, $value$)?
 $block takes float_list$&[f$width$]
 $block sets float_list$($elements$_tree (map (to_bits binary$width$) $value$.now))
-$block makes float_list$cp_interface_objects::float$width$_of($alloc$, $value$)?
+$block makes float_list$cp_interfaces::float$width$_of($alloc$, $value$)?
 $block takes enum_list$&[$of.Type$]
 $block sets enum_list$(halves_tree (map $of.word$_number $value$.now))
-$block makes enum_list$cp_interface_objects::enumerants_of($alloc$, $value$)?
+$block makes enum_list$cp_interfaces::enumerants_of($alloc$, $value$)?
 $block cites enum_list$
 $insert cites enum$
-$block takes built$$for depth$cp_interface_objects::ListsBuilder<$end$$insert list base$$for depth$>$end$
+$block takes built$$for depth$cp_interfaces::ListsBuilder<$end$$insert list base$$for depth$>$end$
 $block sets built$(pointers_tree $value$.items.items)
 $block makes built$$value$.into_whole()?
 $block cites built$
-ghost use Rattle.cp_interface_objects.specs.Lists.{pointers_tree};
+ghost use Rattle.cp_interfaces.specs.Lists.{pointers_tree};
 $if of$
 $insert cites structs$
 $end$
-$block list text$cp_interface_objects::TextListBuilder
-$block list data$cp_interface_objects::DataListBuilder
-$block list cap$cp_interface_objects::CapListBuilder
+$block list text$cp_interfaces::TextListBuilder
+$block list data$cp_interfaces::DataListBuilder
+$block list cap$cp_interfaces::CapListBuilder
 $block list struct$$of.Type$ListBuilder
 $block list bool$Vec<bool>
 $block list unsigned$Vec<u$width$>

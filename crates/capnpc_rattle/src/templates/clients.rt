@@ -71,6 +71,8 @@ $for args$
         params.$if points$set_pointer($place$, $end$$if client$table.add($value$.target.into_cap())?$else$$insert makes form$$end$$if points$)$end$;
 $if client$
 use $client.from$$client.Type$Client;
+$else$
+$insert cites form$
 $end$
 $end$
         let content = params.into_whole();
@@ -95,7 +97,7 @@ $end$
         Ok(self.target.outgoing(self.$name|snake$_request($for args$$if more$, $end$$value$$end$)?, call_id)?)
     }
 use cp_servants::OutgoingCall;
-ghost use Rattle.cp_interface_objects.specs.Calls.{MakesOf};
+ghost use Rattle.cp_interfaces.specs.ServiceCalls.{MakesOf};
 $end$
 $else$
     /// A call of `$name$ @$number$`$if params.shared$, with the table of the capabilities that its params name$end$.

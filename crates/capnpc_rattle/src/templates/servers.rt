@@ -6,8 +6,12 @@ $for methods$
 
 /// A call of `$name$`.
 pub type $Type$$name|camel$Call<'c> = ServiceCall<'c, $params.Type$Reader<'c>, $insert fills results.naming$>;
+
+/// The answer of a call of `$name$` that is given later.
+pub type $Type$$name|camel$Later = LaterAnswer<$insert fills results.naming$>;
 use $params.from$$params.Type$Reader;
 use $results.from$$results.Type$Builder;
+use cp_interfaces::LaterAnswer;
 $end$
 
 /// An object of `interface $title$`.
@@ -37,7 +41,7 @@ pub type $Type$Resolver = TypedResolver<$Type$Client>;
 impl<T: $Type$Server> Dispatch<T> for $Type$Client {
     ghost takes = { $insert takes_calls$ };
 
-    fn dispatch(object: &mut T, call: &MethodCall, context: &mut Context<T::Makes>) -> Result<Reply, AllocError> {
+    fn dispatch(object: &mut T, call: &MethodCall<'_>, context: &mut Context<T::Makes>) -> Result<Reply, AllocError> {
         match (call.request.interface, call.request.method, call.params()) {
 $for methods$
             ($id|hex$, $number$, Ok(body)) => {
@@ -48,16 +52,16 @@ $for methods$
                 passed.reply(call, done)
             }
 $if results.shared$
-use cp_interface_objects::NamedResults;
+use cp_interfaces::NamedResults;
 $end$
 $end$
 $if methods$
             ($id|hex$, $if last$0..=$end$$last$, Err(fault)) => {
                 refuse(context.alloc(), call, MethodFault::WrongKind(fault))
             }
-use cp_interface_objects::MethodResult;
-use cp_interface_objects::ServiceCall;
-ghost use Rattle.cp_interface_objects.specs.Calls.{Answers};
+use cp_interfaces::MethodResult;
+use cp_interfaces::ServiceCall;
+ghost use Rattle.cp_interfaces.specs.ServiceCalls.{Answers};
 $end$
 $for family$
 $if extended$
@@ -70,19 +74,19 @@ $end$
     }
 }
 $unless supers$
-use cp_interface_objects::ServiceObject;
+use cp_interfaces::ServiceObject;
 $end$
 use cp_objects::Context;
 use cp_servants::Reply;
-use cp_interface_objects::Dispatch;
-use cp_interface_objects::ObjectDispatch;
-use cp_interface_objects::TypedResolver;
+use cp_interfaces::Dispatch;
+use cp_interfaces::ObjectDispatch;
+use cp_interfaces::TypedResolver;
 use cp_interfaces::MethodCall;
 use cp_interfaces::MethodFault;
 use cp_interfaces::refuse;
 use std::alloc::AllocError;
 ghost use $here$.{$Type$Kind, $Type$Takes, any_$word$};
-ghost use Rattle.cp_interface_objects.specs.Services.{At, at};
+ghost use Rattle.cp_interfaces.specs.Services.{At, at};
 $block bases$$for supers$$if later$ + $end$$Type$Server$end$
 $block fills never$$results.Type$Builder
 $block fills own$$results.Type$Builder

@@ -5,6 +5,7 @@
 use anyhow::anyhow;
 use cp_client::{Client, ClientFault, Question, word_at};
 use cp_frame::Mode;
+use cp_objects::ServantObject;
 use cp_refs::{Cap, Outcome, Request};
 use cp_servants::{OutgoingCall, Cell, PayloadBuilder, Reply, Servant, Settled};
 use cp_vat_machine::Ids;
@@ -67,7 +68,7 @@ impl Servant for Through {
 #[derive(Drop)]
 struct Peer<'a, R, W> {
     alloc: Global,
-    client: &'a mut Client<R, W, Vec<Box<dyn Servant>>>,
+    client: &'a mut Client<R, W, ServantObject<Box<dyn Servant>>>,
     trial: Question,
 }
 
@@ -77,8 +78,8 @@ impl<'a, R: Read + Drop, W: Write + Drop> Peer<'a, R, W> {
     }
 
     fn export_cell(&mut self) -> anyhow::Result<Cap> {
-        let cell = Box::new(self.alloc, Cell::new(self.alloc))?;
-        Ok(self.client.export(cell)?)
+        let cell: Box<dyn Servant> = Box::new(self.alloc, Cell::new(self.alloc))?;
+        Ok(self.client.export(ServantObject::new(cell))?)
     }
 
     fn call(&mut self, request: Request) -> anyhow::Result<Question> {
@@ -135,7 +136,8 @@ impl<'a, R: Read + Drop, W: Write + Drop> Peer<'a, R, W> {
             asks: Vec::new(self.alloc),
             answers: Vec::new(self.alloc),
         };
-        let object = self.client.export(Box::new(self.alloc, through)?)?;
+        let through: Box<dyn Servant> = Box::new(self.alloc, through)?;
+        let object = self.client.export(ServantObject::new(through))?;
         let asked = self.call(self.content().cap(object)?.request(DESK, 0))?;
         let (last, own) = (self.held(asked)?, self.held(given)?);
         Ok(last.saturating_mul(100).saturating_add(own))
@@ -179,7 +181,7 @@ fn came_of(rt: &HostRuntime, port: u16, trial: &str) -> anyhow::Result<u64> {
     let stream = TcpStream::connect(rt, address)?;
     stream.set_nodelay(true)?;
     let (mode, limits) = (Mode::Plain, Limits::standard());
-    let mut client = Client::with_servants(alloc, &stream, &stream, mode, limits, None);
+    let mut client = Client::exporting(alloc, &stream, &stream, mode, limits);
     let bootstrap = client.bootstrap();
     let mut peer = Peer {
         alloc,

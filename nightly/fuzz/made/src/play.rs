@@ -4,7 +4,7 @@ use crate::Served;
 use crate::trial::Trial;
 use cp_frame::Mode;
 use cp_objects::Objects;
-use cp_session::{Session, SessionLimits, SessionOptions};
+use cp_session::{DrivenSession, Session, SessionLimits, SessionOptions};
 use cp_words::Limits;
 use std::alloc::{AllocError, Global};
 
@@ -39,7 +39,7 @@ pub extern "C" fn mp_serve(
 
 #[derive(Drop)]
 struct Play {
-    session: Session<Objects<Served>>,
+    session: Session<Served>,
     now: u64,
     got: Vec<u8>,
 }
@@ -72,7 +72,7 @@ impl Play {
         if ends {
             self.end()?;
         }
-        self.got.push(self.session.object_table().len().min(255) as u8)?;
+        self.got.push(self.session.objects().len().min(255) as u8)?;
         Ok(())
     }
 

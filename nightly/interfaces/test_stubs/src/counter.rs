@@ -1,7 +1,7 @@
 //! A watcher with a relation of its own.
 
 use cp_objects::Context;
-use cp_interface_objects::{MethodResult, ServiceObject};
+use cp_interfaces::{MethodResult, ServiceObject};
 use directory::{WatcherAddedCall, WatcherDispatch, WatcherServer};
 
 /// All objects of the test.

@@ -1,17 +1,18 @@
 //! Objects that are called through the glue.
 
 ghost use Rattle.std.specs.Prelude.{IfOk};
-ghost use Rattle.cp_interface_objects.specs.Services.{at};
+ghost use Rattle.cp_interfaces.specs.Services.{at};
 ghost use Rattle.directory.specs.Watcher.{WatcherTakes};
 
 use crate::counter::{Counter, Counting};
 use crate::shelf::{Shelf, Shelved};
 use cp_builder::BuildError;
+use cp_fields::PointerReader;
 use cp_objects::{Objects, ObjectTable, Context};
 use cp_refs::{Cap, Caps, Outcome, Request};
 use cp_rpc::{Exception, ExceptionKind};
-use cp_servants::Reply;
-use cp_interface_objects::Dispatch;
+use cp_servants::{Reply, RequestView};
+use cp_interfaces::Dispatch;
 use cp_interfaces::MethodCall;
 use cp_tree::{Tree, Whole};
 use cp_vat_machine::Ids;
@@ -33,11 +34,21 @@ fn shelf(alloc: Global) -> Result<Objects<Shelved>, AllocError> {
 }
 
 /// What the first object answers, once it was polled too.
-fn reply_of<H: ObjectTable>(objects: &mut H, request: Request) -> Result<Option<Reply>, AllocError> {
+fn reply_of<H: ObjectTable>(
+    alloc: Global,
+    objects: &mut H,
+    request: &Request,
+) -> Result<Option<Reply>, AllocError> {
     if !objects.has(0) {
         return Ok(None);
     }
-    let reply = objects.call_at(0, 1, request)?;
+    let request = RequestView {
+        interface: request.interface,
+        method: request.method,
+        content: PointerReader::of_whole(&request.content),
+        caps: request.caps.copy(alloc)?,
+    };
+    let reply = objects.call_at(alloc, 0, 1, request)?;
     if objects.has(0) {
         drop(objects.poll_at(0)?);
     }
@@ -47,7 +58,7 @@ fn reply_of<H: ObjectTable>(objects: &mut H, request: Request) -> Result<Option<
 /// What a call comes to at once, and the imports that are given up. `None` says later.
 fn came(rt: &impl Abort, alloc: Global, request: Request) -> Option<(Outcome, Ids)> {
     let mut objects = shelf(alloc).expect(rt, "memory");
-    let reply = reply_of(&mut objects, request).expect(rt, "memory");
+    let reply = reply_of(alloc, &mut objects, &request).expect(rt, "memory");
     drop(objects);
     match reply {
         Some(Reply::Now { outcome, gives_up }) => Some((outcome, gives_up)),
@@ -157,7 +168,7 @@ fn methods_answer_now_or_later(rt: HostRuntime) {
 /// A counter counts a person of whom it is told by the glue. That follows from the counter's kind alone.
 fn count(
     counter: &mut Counter,
-    call: &MethodCall,
+    call: &MethodCall<'_>,
     context: &mut Context<Counting>,
 ) -> Result<Reply, AllocError>
     ensures { IfOk result (λ reply. WatcherTakes ⟦<Counter as WatcherServer>⟧.watcher_kind (at counter.old context.old) call.now reply (at counter.new context.new)) }
@@ -173,6 +184,6 @@ fn streams_are_called(rt: HostRuntime) {
     drop(added.expect(&rt, "memory"));
     let params = WatcherAddedParamsBuilder::new(alloc).expect(&rt, "memory");
     let request = WatcherClient::new(alloc, Cap::None).added_request(params);
-    let reply = reply_of(&mut objects, request).expect(&rt, "memory");
+    let reply = reply_of(alloc, &mut objects, &request).expect(&rt, "memory");
     check!(&rt; matches!(&reply, Some(Reply::Now { outcome: Outcome::Results { .. }, .. })));
 }

@@ -1,11 +1,10 @@
 //! A directory for tests: it finds nobody, counts whom it is told of, and keeps the watcher that it is given.
 
 use cp_objects::Context;
-use cp_servants::Settled;
-use cp_interface_objects::{LaterCall, MethodResult, ServiceObject};
+use cp_interfaces::{MethodResult, ServiceObject};
 use cp_interfaces::MethodFault;
 use directory::{
-    DirectoryAddCall, DirectoryFindCall, DirectoryDispatch, DirectoryServer, DirectoryWatchCall,
+    DirectoryAddCall, DirectoryFindCall, DirectoryFindLater, DirectoryDispatch, DirectoryServer, DirectoryWatchCall,
     NamedNameCall, NamedServer,
 };
 
@@ -17,27 +16,23 @@ pub type Shelved = DirectoryDispatch<Shelf>;
 pub struct Shelf {
     pub count: u32,
     /// The call of `find` that is never answered.
-    pub sought: Option<LaterCall>,
+    pub sought: Option<DirectoryFindLater>,
 }
 
 impl ServiceObject for Shelf {
     type Makes = Shelved;
-
-    fn poll(&mut self, _context: &mut Context<Shelved>) -> Result<Option<Settled>, MethodFault> {
-        Ok(None)
-    }
 }
 
 impl NamedServer for Shelf {
     fn name(&mut self, call: &mut NamedNameCall<'_>, context: &mut Context<Shelved>) -> MethodResult {
-        Ok(call.results.set_name(context.alloc(), "a shelf")?)
+        Ok(call.results.set_name("a shelf")?)
     }
 }
 
 impl DirectoryServer for Shelf {
     fn find(&mut self, call: &mut DirectoryFindCall<'_>, context: &mut Context<Shelved>) -> MethodResult {
         let _name = call.params.name()?.text(context.alloc())?;
-        self.sought = Some(call.later()?);
+        self.sought = Some(call.later(context)?);
         Ok(())
     }
 

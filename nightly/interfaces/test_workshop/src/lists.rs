@@ -2,7 +2,7 @@
 
 use cp_builder::BuildError;
 use cp_refs::{Caps, Outcome};
-use cp_interface_objects::{DataListBuilder, ListsBuilder, TextListBuilder};
+use cp_interfaces::{DataListBuilder, ListsBuilder, TextListBuilder};
 use cp_interfaces::{ResultPayload, payload_of};
 use std::alloc::Global;
 use workshop::{Colour, StockBuilder, StockReader, ToolBuilder, ToolListBuilder};
@@ -28,7 +28,7 @@ fn texts(alloc: Global, items: &[&str]) -> Result<TextListBuilder, BuildError> {
 /// A list of a tool of this name.
 fn tools(alloc: Global, name: &str) -> Result<ToolListBuilder, BuildError> {
     let mut tool = ToolBuilder::new(alloc)?;
-    tool.set_name(alloc, name)?;
+    tool.set_name(name)?;
     tool.set_labels(texts(alloc, &["sharp", "old"])?)?;
     let mut tools = ToolListBuilder::new(alloc);
     tools.push(tool)?;

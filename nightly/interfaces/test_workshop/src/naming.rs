@@ -22,7 +22,7 @@ fn made(alloc: Global) -> Result<MakerMakeResultsBuilder, BuildError> {
 fn asked(alloc: Global) -> Result<MakerMakeParamsBuilder, BuildError> {
     let mut params = MakerMakeParamsBuilder::new(alloc)?;
     params.set_for(MakerClient::new(alloc, Cap::Import(7)))?;
-    params.set_name(alloc, "plane")?;
+    params.set_name("plane")?;
     Ok(params)
 }
 

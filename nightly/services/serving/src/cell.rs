@@ -4,7 +4,7 @@ use crate::Served;
 use cp_objects::{Context, ServedObject};
 use cp_refs::{Outcome, Request};
 use cp_servants::{
-    OutgoingCall, PayloadBuilder, Reply, Settled, named_imports, no_such_method, outcome_of, word_in,
+    OutgoingCall, PayloadBuilder, Reply, RequestView, Settled, named_imports, no_such_method, outcome_of, word_in,
 };
 use std::alloc::{AllocError, Global};
 use std::rc::Rc;
@@ -37,9 +37,10 @@ impl ServedObject for Cell {
     fn call(
         &mut self,
         _ticket: u64,
-        request: Request,
+        request: RequestView<'_>,
         context: &mut Context<Served>,
     ) -> Result<Reply, AllocError> {
+        let request = request.request(context.alloc())?;
         let outcome = self.outcome(context.alloc(), &request)?;
         let gives_up = named_imports(context.alloc(), &request.caps)?;
         Ok(Reply::Now { outcome, gives_up })
@@ -47,6 +48,10 @@ impl ServedObject for Cell {
 
     fn poll(&mut self, _context: &mut Context<Served>) -> Result<Option<Settled>, AllocError> {
         Ok(None)
+    }
+
+    fn has_more(&self) -> bool {
+        false
     }
 
     fn next_call(&mut self, _context: &mut Context<Served>) -> Result<Option<OutgoingCall>, AllocError> {

@@ -6,7 +6,7 @@ use crate::later::{Answer, Asked, Vow, Wait, passed_on};
 use cp_objects::{Context, ServedObject};
 use cp_refs::{Cap, Outcome, Request, failed};
 use cp_servants::{
-    OutgoingCall, PayloadBuilder, Reply, Settled, named_imports, no_such_method, outcome_of, word_in,
+    OutgoingCall, PayloadBuilder, Reply, RequestView, Settled, named_imports, no_such_method, outcome_of, word_in,
 };
 use cp_vat_machine::Ids;
 use std::alloc::{AllocError, Global};
@@ -257,9 +257,10 @@ impl ServedObject for Trial {
     fn call(
         &mut self,
         ticket: u64,
-        request: Request,
+        request: RequestView<'_>,
         context: &mut Context<Served>,
     ) -> Result<Reply, AllocError> {
+        let request = request.request(context.alloc())?;
         self.reply(ticket, &request, context)
     }
 
@@ -275,6 +276,10 @@ impl ServedObject for Trial {
             outcome,
             gives_up: wait.gives_up,
         }))
+    }
+
+    fn has_more(&self) -> bool {
+        false
     }
 
     fn next_call(&mut self, _context: &mut Context<Served>) -> Result<Option<OutgoingCall>, AllocError> {

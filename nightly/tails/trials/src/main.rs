@@ -5,6 +5,7 @@ use anyhow::anyhow;
 use cp_builder::BuildError;
 use cp_client::{Client, Question, word_at};
 use cp_frame::Mode;
+use cp_objects::{Objects, ServantObject};
 use cp_refs::{Cap, Outcome, Request};
 use cp_servants::{OutgoingCall, Cell, PayloadBuilder, Reply, Servant, Settled, no_such_method, outcome_of};
 use cp_vat_machine::Ids;
@@ -142,7 +143,7 @@ fn fault_of(outcome: Outcome) -> anyhow::Error {
 #[derive(Drop)]
 struct Peer<'a, R, W> {
     alloc: Global,
-    client: &'a mut Client<R, W, Vec<Box<dyn Servant>>>,
+    client: &'a mut Client<R, W, ServantObject<Box<dyn Servant>>>,
     trial: Question,
 }
 
@@ -328,10 +329,12 @@ impl<'a, R: Read + Drop, W: Write + Drop> Peer<'a, R, W> {
 
 fn export<R: Read + Drop, W: Write + Drop>(
     alloc: Global,
-    client: &mut Client<R, W, Vec<Box<dyn Servant>>>,
+    client: &mut Client<R, W, ServantObject<Box<dyn Servant>>>,
 ) -> anyhow::Result<()> {
-    client.export(Box::new(alloc, new_keeper(alloc))?)?;
-    client.export(Box::new(alloc, Cell::new(alloc))?)?;
+    let keeper: Box<dyn Servant> = Box::new(alloc, new_keeper(alloc))?;
+    client.export(ServantObject::new(keeper))?;
+    let cell: Box<dyn Servant> = Box::new(alloc, Cell::new(alloc))?;
+    client.export(ServantObject::new(cell))?;
     Ok(())
 }
 
@@ -341,7 +344,7 @@ fn came_of(rt: &HostRuntime, port: u16, trial: &str) -> anyhow::Result<()> {
     let stream = TcpStream::connect(rt, address)?;
     stream.set_nodelay(true)?;
     let (mode, limits) = (Mode::Plain, Limits::standard());
-    let mut client = Client::with_servants(alloc, &stream, &stream, mode, limits, None);
+    let mut client = Client::exporting(alloc, &stream, &stream, mode, limits);
     export(alloc, &mut client)?;
     let bootstrap = client.bootstrap();
     let mut peer = Peer {
@@ -369,7 +372,8 @@ fn serve(rt: &HostRuntime, port: u16, count: u64) -> anyhow::Result<()> {
         let (stream, _) = listener.accept()?;
         stream.set_nodelay(true)?;
         let (mode, limits) = (Mode::Plain, Limits::standard());
-        let mut client = Client::with_servants(alloc, &stream, &stream, mode, limits, Some(0));
+        let none = Objects::new(alloc);
+        let mut client = Client::with_objects(alloc, &stream, &stream, mode, limits, none);
         export(alloc, &mut client)?;
         match client.serve() {
             Ok(()) => println!(rt; "served")?,

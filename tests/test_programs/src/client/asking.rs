@@ -3,16 +3,16 @@
 use crate::client::peer::{Scene, call_twice, play};
 use crate::frames::{DESK, FAILED, NEXT_SUM, SUM};
 use cp_client::{Client, ClientFault, Question, request_of, word_at};
-use cp_objects::ObjectTable;
+use cp_objects::ServedObject;
 use cp_refs::Outcome;
 use std::alloc::Global;
 use std::io::{Read, Write};
 use std::process::Abort;
 
 /// The word of an outcome that comes.
-fn word<R: Read + Drop, W: Write + Drop, H: ObjectTable>(
+fn word<R: Read + Drop, W: Write + Drop, O: ServedObject<Makes = O>>(
     rt: &impl Abort,
-    client: &mut Client<R, W, H>,
+    client: &mut Client<R, W, O>,
     question: Question,
 ) -> Option<u64> {
     let outcome = client.wait(question).expect(rt, "an outcome");
@@ -22,10 +22,10 @@ fn word<R: Read + Drop, W: Write + Drop, H: ObjectTable>(
 }
 
 /// An outcome that comes for another question is kept for it, and each is given once.
-pub(crate) fn expect_kept<R: Read + Drop, W: Write + Drop, H: ObjectTable>(
+pub(crate) fn expect_kept<R: Read + Drop, W: Write + Drop, O: ServedObject<Makes = O>>(
     rt: &impl Abort,
     alloc: Global,
-    client: &mut Client<R, W, H>,
+    client: &mut Client<R, W, O>,
 ) {
     let (first, second) = call_twice(rt, alloc, client);
     check!(rt; word(rt, client, second) == Some(42));
@@ -43,10 +43,10 @@ fn outcomes_are_kept_and_given_once(rt: HostRuntime) {
 }
 
 /// Whether a call of method 0 of the peer's object, made and finished, has results.
-fn has_results<R: Read + Drop, W: Write + Drop, H: ObjectTable>(
+fn has_results<R: Read + Drop, W: Write + Drop, O: ServedObject<Makes = O>>(
     rt: &impl Abort,
     alloc: Global,
-    client: &mut Client<R, W, H>,
+    client: &mut Client<R, W, O>,
     desk: Question,
 ) -> bool {
     let request = request_of(alloc, 1, 0, &[]).expect(rt, "memory");
@@ -59,10 +59,10 @@ fn has_results<R: Read + Drop, W: Write + Drop, H: ObjectTable>(
 }
 
 /// A call has results, and a second one fails; then what was held is given up, and the peer ends.
-pub(crate) fn expect_whole<R: Read + Drop, W: Write + Drop, H: ObjectTable>(
+pub(crate) fn expect_whole<R: Read + Drop, W: Write + Drop, O: ServedObject<Makes = O>>(
     rt: &impl Abort,
     alloc: Global,
-    client: &mut Client<R, W, H>,
+    client: &mut Client<R, W, O>,
 ) {
     let desk = client.bootstrap().expect(rt, "a bootstrap");
     check!(rt; has_results(rt, alloc, client, desk));

@@ -4,14 +4,14 @@ use crate::client::peer::{Scene, call_twice, play, play_over};
 use crate::devices::Fails;
 use crate::frames::{DESK, NEXT_SUM, SUM, bytes_of};
 use cp_client::{Client, ClientFault, Question, word_at};
-use cp_objects::ObjectTable;
+use cp_objects::ServedObject;
 use std::alloc::Global;
 use std::io::{Read, Write};
 use std::process::Abort;
 
 /// Waits until a question's outcome comes, whatever the devices do, and gives its word and how often one failed.
-fn insist<R: Read + Drop, W: Write + Drop, H: ObjectTable>(
-    client: &mut Client<R, W, H>,
+fn insist<R: Read + Drop, W: Write + Drop, O: ServedObject<Makes = O>>(
+    client: &mut Client<R, W, O>,
     question: Question,
 ) -> (Option<u64>, u64) {
     let mut failed = 0;
@@ -30,10 +30,10 @@ fn insist<R: Read + Drop, W: Write + Drop, H: ObjectTable>(
 }
 
 /// Calls twice. The second outcome comes, though a device failed more than ten times, or none failed.
-pub(crate) fn expect_insisted<R: Read + Drop, W: Write + Drop, H: ObjectTable>(
+pub(crate) fn expect_insisted<R: Read + Drop, W: Write + Drop, O: ServedObject<Makes = O>>(
     rt: &impl Abort,
     alloc: Global,
-    client: &mut Client<R, W, H>,
+    client: &mut Client<R, W, O>,
     fails: bool,
 ) {
     let (_, second) = call_twice(rt, alloc, client);
@@ -62,9 +62,9 @@ fn nothing_is_lost_where_devices_fail(rt: HostRuntime) {
 }
 
 /// A Bootstrap is written, and flushed.
-pub(crate) fn expect_flushed<R: Read + Drop, W: Write + Drop, H: ObjectTable>(
+pub(crate) fn expect_flushed<R: Read + Drop, W: Write + Drop, O: ServedObject<Makes = O>>(
     rt: &impl Abort,
-    client: &mut Client<R, W, H>,
+    client: &mut Client<R, W, O>,
 ) {
     check!(rt; client.bootstrap().is_ok());
     check!(rt; client.flush().is_ok());

@@ -6,7 +6,7 @@ use crate::frames::{ABORT, DESK, bytes_of};
 use cp_client::{Client, ClientFault};
 use cp_connection::ConnectionFault;
 use cp_frame::FrameFault;
-use cp_objects::ObjectTable;
+use cp_objects::ServedObject;
 use cp_stream::Refusal;
 use std::alloc::Global;
 use std::io::{Read, Write};
@@ -20,9 +20,9 @@ pub(crate) struct End {
     is_closed: bool,
 }
 
-pub(crate) fn expect_end<R: Read + Drop, W: Write + Drop, H: ObjectTable>(
+pub(crate) fn expect_end<R: Read + Drop, W: Write + Drop, O: ServedObject<Makes = O>>(
     rt: &impl Abort,
-    client: &mut Client<R, W, H>,
+    client: &mut Client<R, W, O>,
     end: End,
 ) {
     let first = match client.bootstrap() {

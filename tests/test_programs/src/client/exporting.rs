@@ -3,6 +3,7 @@
 use crate::frames::{BOOTSTRAP, CALL_BOOTSTRAP, DESK, NEXT_SUM, SUM, bytes_of};
 use cp_client::{Client, word_at};
 use cp_frame::Mode;
+use cp_objects::{Objects, ServedObject, ServantObject};
 use cp_refs::{Cap, Outcome, Request};
 use cp_servants::{OutgoingCall, Cell, PayloadBuilder, Reply, Servant, Settled};
 use cp_vat_machine::Ids;
@@ -73,10 +74,10 @@ impl Servant for Through {
 }
 
 /// Calls the peer's object with an object of the client's, and waits for the outcome while that answers. Gives its word.
-fn call_with<R: Read + Drop, W: Write + Drop, O: Servant>(
+fn call_with<R: Read + Drop, W: Write + Drop, O: ServedObject<Makes = O>>(
     rt: &impl Abort,
     alloc: Global,
-    client: &mut Client<R, W, Vec<O>>,
+    client: &mut Client<R, W, O>,
     object: O,
 ) -> Option<u64> {
     let cap = client.export(object).expect(rt, "a capability");
@@ -92,9 +93,9 @@ fn call_with<R: Read + Drop, W: Write + Drop, O: Servant>(
 }
 
 /// Serves the peer with an object of the client's, if it has one.
-fn serve_with<R: Read + Drop, W: Write + Drop, O: Servant>(
+fn serve_with<R: Read + Drop, W: Write + Drop, O: ServedObject<Makes = O>>(
     rt: &impl Abort,
-    client: &mut Client<R, W, Vec<O>>,
+    client: &mut Client<R, W, O>,
     object: Option<O>,
 ) {
     if let Some(object) = object {
@@ -119,10 +120,10 @@ struct Trial<'a> {
 }
 
 /// A client does what the trial says.
-fn expect_used<R: Read + Drop, W: Write + Drop, O: Servant>(
+fn expect_used<R: Read + Drop, W: Write + Drop, O: ServedObject<Makes = O>>(
     rt: &impl Abort,
     alloc: Global,
-    client: &mut Client<R, W, Vec<O>>,
+    client: &mut Client<R, W, O>,
     (object, trial): (Option<O>, Trial<'_>),
 ) {
     let has_object = object.is_some();
@@ -132,7 +133,9 @@ fn expect_used<R: Read + Drop, W: Write + Drop, O: Servant>(
     } else {
         serve_with(rt, client, object);
     }
-    check!(rt; client.objects().is_empty() != has_object);
+    // Once the peer's messages ended the objects are gone.
+    let is_served = trial.word.is_none();
+    check!(rt; (client.objects().len() > 0) == (has_object && !is_served));
     check!(rt; client.stats().sent == trial.sent);
 }
 
@@ -141,7 +144,9 @@ fn expect_trial(rt: &impl Abort, alloc: Global, object: Option<Through>, trial: 
     let bytes = bytes_of(rt, alloc, trial.frames);
     let (from, to) = (bytes.as_slice(), Vec::new(alloc));
     let limits = Limits::standard();
-    let mut client = Client::with_servants(alloc, from, to, Mode::Plain, limits, Some(0));
+    let family = Objects::new(alloc);
+    let mut client = Client::with_objects(alloc, from, to, Mode::Plain, limits, family);
+    let object = object.map(ServantObject::new);
     expect_used(rt, alloc, &mut client, (object, trial));
     let (left, written) = client.into_devices();
     check!(rt; left.is_empty());

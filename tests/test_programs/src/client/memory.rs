@@ -4,15 +4,15 @@ use crate::client::peer::{Scene, play};
 use crate::frames::{DESK, SUM};
 use cp_client::{Client, ClientFault, Question, request_of, word_at};
 use cp_connection::ConnectionFault;
-use cp_objects::ObjectTable;
+use cp_objects::ServedObject;
 use std::alloc::Global;
 use std::io::{Read, Write};
 use std::process::Abort;
 
 /// Asks what a field of the peer's object will give.
-fn ask<R: Read + Drop, W: Write + Drop, H: ObjectTable>(
+fn ask<R: Read + Drop, W: Write + Drop, O: ServedObject<Makes = O>>(
     alloc: Global,
-    client: &mut Client<R, W, H>,
+    client: &mut Client<R, W, O>,
 ) -> Result<Question, ClientFault> {
     let desk = client.bootstrap()?;
     let request = request_of(alloc, 2, 0, &[41])?;
@@ -26,9 +26,9 @@ fn ask<R: Read + Drop, W: Write + Drop, H: ObjectTable>(
 }
 
 /// The word that it gives.
-fn call<R: Read + Drop, W: Write + Drop, H: ObjectTable>(
+fn call<R: Read + Drop, W: Write + Drop, O: ServedObject<Makes = O>>(
     alloc: Global,
-    client: &mut Client<R, W, H>,
+    client: &mut Client<R, W, O>,
 ) -> Result<Option<u64>, ClientFault> {
     let question = ask(alloc, client)?;
     let outcome = client.wait(question)?;
@@ -38,10 +38,10 @@ fn call<R: Read + Drop, W: Write + Drop, H: ObjectTable>(
 }
 
 /// The word comes, or memory ran out. The writer's own allocations fail its writes.
-pub(crate) fn expect_called_or_memory<R: Read + Drop, W: Write + Drop, H: ObjectTable>(
+pub(crate) fn expect_called_or_memory<R: Read + Drop, W: Write + Drop, O: ServedObject<Makes = O>>(
     rt: &impl Abort,
     alloc: Global,
-    client: &mut Client<R, W, H>,
+    client: &mut Client<R, W, O>,
 ) {
     let memory = ClientFault::Connection(ConnectionFault::OutOfMemory);
     check!(rt; match call(alloc, client) {

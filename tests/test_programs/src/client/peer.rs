@@ -9,7 +9,7 @@ use crate::devices::{Device, Fails};
 use crate::frames::bytes_of;
 use cp_client::{Client, Question, request_of};
 use cp_frame::Mode;
-use cp_objects::ObjectTable;
+use cp_objects::ServedObject;
 use cp_words::Limits;
 use std::alloc::Global;
 use std::io::{Read, Write};
@@ -69,10 +69,10 @@ pub fn play_over(
     left
 }
 
-fn play_with<R: Read + Drop, W: Write + Drop, H: ObjectTable>(
+fn play_with<R: Read + Drop, W: Write + Drop, O: ServedObject<Makes = O>>(
     rt: &impl Abort,
     alloc: Global,
-    client: &mut Client<R, W, H>,
+    client: &mut Client<R, W, O>,
     scene: Scene,
 ) {
     match scene {
@@ -88,10 +88,10 @@ fn play_with<R: Read + Drop, W: Write + Drop, H: ObjectTable>(
 }
 
 /// Asks for the peer's object, and calls it twice before it is known.
-pub fn call_twice<R: Read + Drop, W: Write + Drop, H: ObjectTable>(
+pub fn call_twice<R: Read + Drop, W: Write + Drop, O: ServedObject<Makes = O>>(
     rt: &impl Abort,
     alloc: Global,
-    client: &mut Client<R, W, H>,
+    client: &mut Client<R, W, O>,
 ) -> (Question, Question) {
     let desk = client.bootstrap().expect(rt, "a bootstrap");
     let add = request_of(alloc, 2, 0, &[41]).expect(rt, "memory");

@@ -3,28 +3,28 @@
 use crate::client::peer::{Scene, play};
 use crate::frames::{DESK, FAILED, NEXT_SUM, SUM};
 use cp_client::{Client, CallWindow, CallError, request_of};
-use cp_objects::ObjectTable;
+use cp_objects::ServedObject;
 use cp_interfaces::{CallTarget, NoResults};
 use std::alloc::Global;
 use std::io::{Read, Write};
 use std::process::Abort;
 
 /// The peer's object.
-fn desk<R: Read + Drop, W: Write + Drop, H: ObjectTable>(
+fn desk<R: Read + Drop, W: Write + Drop, O: ServedObject<Makes = O>>(
     rt: &impl Abort,
     alloc: Global,
-    client: &mut Client<R, W, H>,
+    client: &mut Client<R, W, O>,
 ) -> CallTarget {
     let desk = client.bootstrap().expect(rt, "a bootstrap");
     CallTarget::new(alloc, desk.cap(alloc))
 }
 
 /// Calls method 0 of an object, in a stream.
-fn send<R: Read + Drop, W: Write + Drop, H: ObjectTable>(
+fn send<R: Read + Drop, W: Write + Drop, O: ServedObject<Makes = O>>(
     rt: &impl Abort,
     alloc: Global,
     stream: &mut CallWindow,
-    client: &mut Client<R, W, H>,
+    client: &mut Client<R, W, O>,
     target: &CallTarget,
 ) -> Result<(), CallError> {
     let request = request_of(alloc, 1, 0, &[]).expect(rt, "memory");
@@ -32,10 +32,10 @@ fn send<R: Read + Drop, W: Write + Drop, H: ObjectTable>(
 }
 
 /// Three calls go, two of them at once, and are waited for.
-pub(crate) fn expect_in_order<R: Read + Drop, W: Write + Drop, H: ObjectTable>(
+pub(crate) fn expect_in_order<R: Read + Drop, W: Write + Drop, O: ServedObject<Makes = O>>(
     rt: &impl Abort,
     alloc: Global,
-    client: &mut Client<R, W, H>,
+    client: &mut Client<R, W, O>,
 ) {
     let target = desk(rt, alloc, client);
     let mut stream = CallWindow::new(alloc, 2);
@@ -57,10 +57,10 @@ fn streams_have_a_window(rt: HostRuntime) {
 }
 
 /// The second of two calls, of which one goes at once, says that the first one failed.
-pub(crate) fn expect_failed<R: Read + Drop, W: Write + Drop, H: ObjectTable>(
+pub(crate) fn expect_failed<R: Read + Drop, W: Write + Drop, O: ServedObject<Makes = O>>(
     rt: &impl Abort,
     alloc: Global,
-    client: &mut Client<R, W, H>,
+    client: &mut Client<R, W, O>,
 ) {
     let target = desk(rt, alloc, client);
     let mut stream = CallWindow::new(alloc, 1);

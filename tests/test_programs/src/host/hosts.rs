@@ -1,11 +1,12 @@
 //! A host of 127.0.0.1, and a client in the same thread.
 
 use cp_frame::Mode;
-use cp_objects::ObjectTable;
+use cp_objects::{Objects, ServedObject, ServantObject};
 use cp_servants::Desk;
+use cp_session::{Limit, SessionLimits};
 use cp_words::Limits;
 use net_host::{End, Host, HostLimits, HostConfig, HostEvent};
-use net_sockets::Listener;
+use net_sockets::{Listener, Peer};
 use std::alloc::Global;
 use std::io::{Read, Write};
 use std::net::{Ipv4Addr, Net, Shutdown, SocketAddr, TcpListener, TcpStream};
@@ -55,7 +56,11 @@ enum Told {
     Other,
 }
 
-fn next_told<R: Net + Clock + Abort, H: ObjectTable>(rt: &R, host: &mut Host<H>) -> Told {
+fn next_told<R, O>(rt: &R, host: &mut Host<O>) -> Told
+where
+    R: Net + Clock + Abort,
+    O: ServedObject<Makes = O>,
+{
     let news = host.next(rt).expect(rt, "a host");
     let told = match &news {
         None => Told::Nothing,
@@ -74,7 +79,11 @@ fn next_told<R: Net + Clock + Abort, H: ObjectTable>(rt: &R, host: &mut Host<H>)
 }
 
 /// Connection 1 comes, and gets these objects. It ends by itself, and none comes after it.
-fn expect_one<R: Net + Clock + Abort, H: ObjectTable>(rt: &R, host: &mut Host<H>, objects: H) {
+fn expect_one<R, O>(rt: &R, host: &mut Host<O>, objects: Objects<O>)
+where
+    R: Net + Clock + Abort,
+    O: ServedObject<Makes = O>,
+{
     check!(rt; matches!(next_told(rt, host), Told::Connected));
     host.admit(objects).expect(rt, "a connection");
     check!(rt; matches!(next_told(rt, host), Told::Ended));
@@ -102,7 +111,8 @@ fn two_turns_of_one_connection(rt: HostRuntime) {
     let client = client(&rt, address);
     let mut host = Host::new(&rt, plan(), listener).expect(&rt, "a host");
     let desk = Desk::new(rt.alloc());
-    let objects = Vec::from_array(rt.alloc(), [desk]).expect(&rt, "memory");
+    let mut objects = Objects::new(rt.alloc());
+    drop(objects.add(ServantObject::new(desk)).expect(&rt, "memory"));
     expect_one(&rt, &mut host, objects);
     drop(host);
     expect_returns(&rt, rt.alloc(), client);
@@ -119,4 +129,97 @@ fn connections_at_once(rt: HostRuntime) {
     check!(&rt; standard.has_room(999) && !standard.has_room(1_000));
     // Half of 4 GiB is shared out.
     check!(&rt; standard.share() == 2_147_483 && standard.pool() == 2_147_483_648);
+}
+
+/// A client that has sent one of the frames, and sends no more.
+fn client_of<R>(rt: &R, address: SocketAddr, frame: &[u8]) -> TcpStream
+where
+    R: Net<Listener = TcpListener, Stream = TcpStream> + Abort,
+{
+    let mut client = TcpStream::connect(rt, address).expect(rt, "a connection");
+    client.write_all(frame).expect(rt, "a stream");
+    client.shutdown(Shutdown::Write).expect(rt, "a stream");
+    client
+}
+
+/// A connection comes from this client, whose end is at this address.
+fn expect_came_from<R>(rt: &R, host: &mut Host<ServantObject<Desk>>, client: &TcpStream)
+where
+    R: Net + Clock + Abort,
+{
+    let local = client.local_addr().expect(rt, "a stream");
+    let news = host.next(rt).expect(rt, "a host");
+    check!(rt; matches!(&news, Some(HostEvent::Connected { peer: Peer::Tcp(address), .. }) if *address == local));
+    drop(news);
+}
+
+/// Serves the connection that came with a desk.
+fn admit_desk(rt: &impl Abort, alloc: Global, host: &mut Host<ServantObject<Desk>>) {
+    let mut objects = Objects::new(alloc);
+    drop(objects.add(ServantObject::new(Desk::new(alloc))).expect(rt, "memory"));
+    host.admit(objects).expect(rt, "a connection");
+}
+
+/// A client gets the Return of this question, and its stream ends.
+fn expect_return(rt: &impl Abort, alloc: Global, mut client: TcpStream, question: u8) {
+    let mut answer = Vec::new(alloc);
+    client.read_to_end(&mut answer).expect(rt, "a stream");
+    drop(client);
+    check!(rt; answer.len() > 40 && answer[16] == 3 && answer[32] == question);
+    drop(answer);
+}
+
+#[test]
+fn each_client_gets_its_own_answer(rt: HostRuntime) {
+    let context = SocketAddr::from((Ipv4Addr::LOCALHOST, 0));
+    let listener = Listener::bind(&rt, context).expect(&rt, "a port");
+    let address = listener
+        .address()
+        .expect(&rt, "a socket")
+        .expect(&rt, "a port");
+    let first = client_of(&rt, address, &TWO[..48]);
+    let second = client_of(&rt, address, &TWO[48..]);
+    let plan = HostConfig {
+        count: Some(2),
+        ..plan()
+    };
+    let mut host = Host::new(&rt, plan, listener).expect(&rt, "a host");
+    expect_came_from(&rt, &mut host, &first);
+    admit_desk(&rt, rt.alloc(), &mut host);
+    expect_came_from(&rt, &mut host, &second);
+    admit_desk(&rt, rt.alloc(), &mut host);
+    // The ends of both are heard, and each is reported before there is nothing more to tell.
+    for _ in 0..2 {
+        let news = host.next(&rt).expect(&rt, "a host");
+        check!(&rt; matches!(&news, Some(HostEvent::Ended { end: End::Ended, .. })));
+        drop(news);
+    }
+    check!(&rt; matches!(next_told(&rt, &mut host), Told::Nothing));
+    drop(host);
+    expect_return(&rt, rt.alloc(), first, 7);
+    expect_return(&rt, rt.alloc(), second, 8);
+}
+
+#[test]
+fn a_silent_client_meets_a_limit_of_time(rt: HostRuntime) {
+    let context = SocketAddr::from((Ipv4Addr::LOCALHOST, 0));
+    let listener = Listener::bind(&rt, context).expect(&rt, "a port");
+    let address = listener
+        .address()
+        .expect(&rt, "a socket")
+        .expect(&rt, "a port");
+    let silent = TcpStream::connect(&rt, address).expect(&rt, "a connection");
+    let mut plan = plan();
+    plan.limits.session = SessionLimits {
+        idle: 50,
+        ..SessionLimits::standard()
+    };
+    let mut host = Host::new(&rt, plan, listener).expect(&rt, "a host");
+    expect_came_from(&rt, &mut host, &silent);
+    admit_desk(&rt, rt.alloc(), &mut host);
+    let news = host.next(&rt).expect(&rt, "a host");
+    check!(&rt; matches!(&news, Some(HostEvent::Ended { end: End::Limit(Limit::Idle), .. })));
+    drop(news);
+    drop(host);
+    drop(silent);
 }

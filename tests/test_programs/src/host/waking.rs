@@ -1,8 +1,8 @@
 //! A host's program has an object woken while its client is silent, and is told when its time has come.
 
 use cp_objects::{Objects, Context, ServedObject, Waker};
-use cp_refs::{Outcome, Request};
-use cp_servants::{OutgoingCall, Reply, Settled};
+use cp_refs::Outcome;
+use cp_servants::{OutgoingCall, Reply, RequestView, Settled};
 use net_host::{Host, HostConfig, HostEvent};
 use net_sockets::Listener;
 use std::alloc::AllocError;
@@ -27,7 +27,7 @@ impl ServedObject for Bell {
     fn call(
         &mut self,
         _ticket: u64,
-        request: Request,
+        request: RequestView<'_>,
         _context: &mut Context<Bell>,
     ) -> Result<Reply, AllocError> {
         drop(request);
@@ -41,6 +41,10 @@ impl ServedObject for Bell {
             pushed?;
         }
         Ok(None)
+    }
+
+    fn has_more(&self) -> bool {
+        false
     }
 
     fn next_call(&mut self, _context: &mut Context<Bell>) -> Result<Option<OutgoingCall>, AllocError> {
@@ -68,14 +72,14 @@ fn waker_of(rt: &impl Abort, polled: &Polled, polls: usize) -> Waker {
 }
 
 /// The only connection comes.
-fn expect_came<R: Net + Clock + Abort>(rt: &R, host: &mut Host<Objects<Bell>>) {
+fn expect_came<R: Net + Clock + Abort>(rt: &R, host: &mut Host<Bell>) {
     let news = host.next(rt).expect(rt, "a host");
     check!(rt; matches!(&news, Some(HostEvent::Connected { number: 1, .. })));
     drop(news);
 }
 
 /// The program names a time, and is told when that has come. A millisecond has begun at both ends.
-fn expect_woken<R: Net + Clock + Abort>(rt: &R, host: &mut Host<Objects<Bell>>) {
+fn expect_woken<R: Net + Clock + Abort>(rt: &R, host: &mut Host<Bell>) {
     let began = Instant::now(rt).expect(rt, "a clock");
     host.wake_after(rt, 50).expect(rt, "a clock");
     let news = host.next(rt).expect(rt, "a host");

@@ -44,10 +44,6 @@ const OF_CLIENTS: &[(ClientFault, &str)] = &[
         ClientFault::TooLong,
         "a struct, a list, a text, data or a table is longer than a message's can be",
     ),
-    (
-        ClientFault::TooManyObjects,
-        "there are 2^32 objects already",
-    ),
 ];
 
 const OF_CONNECTIONS: &[(ConnectionFault, &str)] = &[

@@ -5,6 +5,7 @@ ghost use Rattle.cp_servants.specs.declared.servant.Reply.TheVariants.{Later};
 
 use crate::frames::{AT_ONCE, BOOTSTRAP, LATER, bytes_of};
 use cp_connection::Connection;
+use cp_fields::PointerReader;
 use cp_frame::Mode;
 use cp_objects::ObjectTable;
 use cp_dispatch::Dispatcher;
@@ -51,11 +52,28 @@ impl Servant for Counter {
 }
 
 /// What a counter replies. That it is later follows from its relation alone.
-fn reply_of(objects: &mut [Counter], place: usize, request: Request) -> Result<Reply, AllocError>
+fn reply_of(
+    alloc: Global,
+    objects: &mut [Counter],
+    place: usize,
+    request: Request,
+) -> Result<Reply, AllocError>
     requires { place < length objects.old }
     ensures { IfOk result (λ reply. reply ≡ Later) }
 {
-    let reply = call_at(objects, place, 0, request)?;
+    let Request {
+        interface,
+        method,
+        content,
+        caps,
+    } = request;
+    let request = RequestView {
+        interface,
+        method,
+        content: PointerReader::of_whole(&content),
+        caps,
+    };
+    let reply = call_at(alloc, objects, place, 0, request)?;
     Ok(reply)
 }
 
@@ -72,7 +90,7 @@ fn request(alloc: Global) -> Request {
 #[test]
 fn an_object_does_what_its_kind_says(rt: HostRuntime) {
     let mut counters = [Counter { calls: 0, lent: 0 }, Counter { calls: 1, lent: 0 }];
-    let reply = reply_of(&mut counters, 1, request(rt.alloc()));
+    let reply = reply_of(rt.alloc(), &mut counters, 1, request(rt.alloc()));
     check!(&rt; matches!(reply, Ok(Reply::Later)));
     drop(reply);
     check!(&rt; counters[0].calls == 0 && counters[1].calls == 2);
@@ -111,7 +129,7 @@ fn call<H: ObjectTable>(rt: &impl Abort, alloc: Global, objects: &mut H, lends: 
     drop(connection);
 }
 
-/// A call that is answered at once is lent. Its object may look at the params in place.
+/// Each call is lent, out of its frame or out of its tree: its object may look at the params in place.
 #[test]
 fn a_call_is_lent(rt: HostRuntime) {
     let mut counters = Vec::new(rt.alloc());
@@ -119,7 +137,7 @@ fn a_call_is_lent(rt: HostRuntime) {
     counters.push(counter).expect(&rt, "memory");
     for (lends, calls) in [(true, 2), (false, 4)] {
         call(&rt, rt.alloc(), &mut counters, lends);
-        expect_counted(&rt, &counters, calls, 2);
+        expect_counted(&rt, &counters, calls, calls);
     }
     drop(counters);
 }

@@ -6,7 +6,9 @@ use cp_frame::Mode;
 use cp_objects::{ObjectTable, Waker};
 use cp_refs::{Cap, Caps, Outcome, Path, Request};
 use cp_servants::{PayloadBuilder, results_of, word_in};
-use cp_session::{Session, SessionEvent, SessionLimits, SessionOptions};
+use cp_session::{
+    CallingSession, DrivenSession, SessionEvent, SessionLimits, SessionOptions, SessionOver,
+};
 use cp_words::Limits;
 use std::alloc::Global;
 use std::process::Abort;
@@ -14,8 +16,8 @@ use std::process::Abort;
 /// A client and a server, each of which gets what the other sends.
 pub(crate) struct Ends<C, S> {
     pub(crate) alloc: Global,
-    pub(crate) client: Session<C>,
-    pub(crate) server: Session<S>,
+    pub(crate) client: SessionOver<C>,
+    pub(crate) server: SessionOver<S>,
     pub(crate) now: u64,
 }
 
@@ -40,7 +42,9 @@ pub(crate) enum Step {
     Call(u32, u16, With),
     /// All bytes go over. The client takes its first event, and finishes the question.
     Take,
-    /// The client drops an import, and all bytes go over.
+    /// The client drops an import, once for each result that named it, and all bytes go over.
+    Drop(u32),
+    /// The client gives an import back once, and all bytes go over.
     Release(u32),
     /// The client drops all imports but this one that it may drop, and all bytes go over.
     ReleaseOthers(u32),
@@ -92,12 +96,10 @@ pub(crate) struct Got {
 impl<C: ObjectTable, S: ObjectTable> Ends<C, S> {
     /// A client with these objects, and a server with those, whose first one the client may ask for. The server's session has this number.
     pub(crate) fn new(alloc: Global, client: C, server: S, session: u64) -> Ends<C, S> {
-        let mut server = server;
-        server.set_session(session);
         Ends {
             alloc,
-            client: Session::new(alloc, &options(None), client, 0),
-            server: Session::new(alloc, &options(Some(0)), server, 0),
+            client: SessionOver::new(alloc, &options(None), client, 0),
+            server: SessionOver::begin(alloc, &options(Some(0)), session, server, 0),
             now: 0,
         }
     }
@@ -127,6 +129,11 @@ impl<C: ObjectTable, S: ObjectTable> Ends<C, S> {
         }
     }
 
+    /// Whether the client may give an import back.
+    pub(crate) fn releases(&mut self, import: u32) -> bool {
+        self.client.release(import).is_ok()
+    }
+
     /// All bytes go over. The client takes its first event, and finishes the question.
     fn take(&mut self, rt: &impl Abort) -> Option<(u32, Got)> {
         self.run(rt);
@@ -148,9 +155,14 @@ impl<C: ObjectTable, S: ObjectTable> Ends<C, S> {
             Step::ReleaseOthers(kept) => {
                 for import in 0..16 {
                     if import != kept {
-                        let _ = self.client.release(import);
+                        while self.client.release(import).is_ok() {}
                     }
                 }
+                self.run(rt);
+            }
+            Step::Drop(import) => {
+                self.client.release(import).expect(rt, "a release");
+                while self.client.release(import).is_ok() {}
                 self.run(rt);
             }
             Step::Pass(time) => self.pass(rt, time),
@@ -204,8 +216,8 @@ fn options(bootstrap: Option<u32>) -> SessionOptions {
 /// All bytes that one session sends come to the other. Says whether there were any.
 fn carry<F: ObjectTable, T: ObjectTable>(
     rt: &impl Abort,
-    from: &mut Session<F>,
-    to: &mut Session<T>,
+    from: &mut SessionOver<F>,
+    to: &mut SessionOver<T>,
     (alloc, now): (Global, u64),
 ) -> bool {
     let bytes = from.outgoing().to_vec(alloc).expect(rt, "memory");
@@ -217,7 +229,7 @@ fn carry<F: ObjectTable, T: ObjectTable>(
 }
 
 /// Gives bytes to a session, and has it do all that they lead to.
-fn give<H: ObjectTable>(rt: &impl Abort, session: &mut Session<H>, bytes: &[u8], now: u64) {
+fn give<H: ObjectTable>(rt: &impl Abort, session: &mut SessionOver<H>, bytes: &[u8], now: u64) {
     let mut left = bytes;
     for _ in 0..bytes.len() {
         if left.is_empty() {

@@ -2,9 +2,9 @@
 
 use crate::services::ends::{Ends, Seen, Step, With};
 use cp_objects::{Objects, Context, ServedObject};
-use cp_refs::{Outcome, Request};
-use cp_servants::{OutgoingCall, Reply, Settled};
-use cp_interface_objects::{LaterCall, MethodResult, ServiceCall};
+use cp_refs::Outcome;
+use cp_servants::{OutgoingCall, Reply, RequestView, Settled};
+use cp_interfaces::{LaterAnswer, MethodResult, ServiceCall};
 use cp_interfaces::{MethodCall, MethodFault, NoFieldsBuilder};
 use std::alloc::AllocError;
 use std::process::Abort;
@@ -12,14 +12,18 @@ use std::process::Abort;
 /// Answers no call until there are two: then the second one with results, and the first one with an exception.
 #[derive(Drop)]
 struct Slow {
-    calls: Vec<LaterCall>,
+    calls: Vec<LaterAnswer<NoFieldsBuilder>>,
     is_ready: bool,
 }
 
 impl Slow {
     /// The call is to be answered later.
-    fn put_off(&mut self, call: &mut ServiceCall<'_, (), NoFieldsBuilder>) -> MethodResult {
-        let later = call.later()?;
+    fn put_off(
+        &mut self,
+        call: &mut ServiceCall<'_, (), NoFieldsBuilder>,
+        context: &mut Context<Slow>,
+    ) -> MethodResult {
+        let later = call.later(context)?;
         self.calls.push(later)?;
         self.is_ready = self.calls.len() == 2;
         Ok(())
@@ -32,13 +36,13 @@ impl ServedObject for Slow {
     fn call(
         &mut self,
         ticket: u64,
-        request: Request,
+        request: RequestView<'_>,
         context: &mut Context<Slow>,
     ) -> Result<Reply, AllocError> {
         let call = MethodCall { ticket, request };
         let results = NoFieldsBuilder::new(context.alloc())?;
         let mut passed = ServiceCall::new(context.alloc(), &call, (), results);
-        let done = self.put_off(&mut passed);
+        let done = self.put_off(&mut passed, context);
         passed.reply(&call, done)
     }
 
@@ -46,14 +50,19 @@ impl ServedObject for Slow {
         if !self.is_ready {
             return Ok(None);
         }
-        let Some(call) = self.calls.pop() else {
-            return Ok(None);
-        };
-        if self.calls.is_empty() {
-            return Ok(Some(call.fail(context.alloc(), MethodFault::InUse)?));
+        while let Some(call) = self.calls.pop() {
+            if self.calls.is_empty() {
+                call.fail(context, MethodFault::InUse)?;
+            } else {
+                let results = NoFieldsBuilder::new(context.alloc())?;
+                call.answer(context, results)?;
+            }
         }
-        let results = NoFieldsBuilder::new(context.alloc())?;
-        Ok(Some(call.answer(context.alloc(), results)))
+        Ok(None)
+    }
+
+    fn has_more(&self) -> bool {
+        false
     }
 
     fn next_call(&mut self, _context: &mut Context<Slow>) -> Result<Option<OutgoingCall>, AllocError> {

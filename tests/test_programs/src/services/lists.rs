@@ -4,7 +4,7 @@ ghost use Rattle.std.specs.Prelude.{ℕ};
 
 use cp_builder::BuildError;
 use cp_refs::Cap;
-use cp_interface_objects::{
+use cp_interfaces::{
     CapListBuilder, DataListBuilder, Enumerant, ListsBuilder, NamedResults,
     TextListBuilder, enumerants_of, float32_of, float64_of, signed8_of, signed16_of, signed32_of,
     signed64_of,

@@ -170,7 +170,7 @@ impl Walk {
                 self.model.set_kept(place, None);
             }
             _ => {
-                self.pair.act(rt, Step::Release(import));
+                self.pair.act(rt, Step::Drop(import));
                 self.model.drop_import(place);
             }
         }

@@ -3,7 +3,7 @@
 use cp_objects::{Either, Context, ServedObject, Resolver, Waker};
 use cp_refs::{Cap, Caps, Outcome, Request};
 use cp_servants::{
-    OutgoingCall, PayloadBuilder, Reply, Settled, named_imports, no_such_method, outcome_of, word_in,
+    OutgoingCall, PayloadBuilder, Reply, Settled, named_imports, no_such_method, outcome_of, word_in, RequestView,
 };
 use cp_vat_machine::Ids;
 use std::alloc::{AllocError, Global};
@@ -448,9 +448,10 @@ impl ServedObject for Book {
     fn call(
         &mut self,
         _ticket: u64,
-        request: Request,
+        request: RequestView<'_>,
         context: &mut Context<Served>,
     ) -> Result<Reply, AllocError> {
+        let request = request.request(context.alloc())?;
         let reply = self.reply(&request, context);
         drop(request);
         reply
@@ -467,6 +468,10 @@ impl ServedObject for Book {
         }
         self.leave_in_time(context)?;
         Ok(None)
+    }
+
+    fn has_more(&self) -> bool {
+        false
     }
 
     fn next_call(&mut self, context: &mut Context<Served>) -> Result<Option<OutgoingCall>, AllocError> {
@@ -562,9 +567,10 @@ impl ServedObject for Page {
     fn call(
         &mut self,
         _ticket: u64,
-        request: Request,
+        request: RequestView<'_>,
         context: &mut Context<Served>,
     ) -> Result<Reply, AllocError> {
+        let request = request.request(context.alloc())?;
         let reply = self.reply(&request, context);
         drop(request);
         reply
@@ -573,6 +579,10 @@ impl ServedObject for Page {
     fn poll(&mut self, context: &mut Context<Served>) -> Result<Option<Settled>, AllocError> {
         self.vow.keep_in_time(context)?;
         Ok(None)
+    }
+
+    fn has_more(&self) -> bool {
+        false
     }
 
     fn next_call(&mut self, _context: &mut Context<Served>) -> Result<Option<OutgoingCall>, AllocError> {

@@ -31,7 +31,7 @@ fn pages_come_and_go(rt: HostRuntime) {
         let page = pair.page(&rt, OPEN, number);
         check!(&rt; pair.objects() == 2);
         expect_number(&rt, &mut pair, page, number);
-        pair.act(&rt, Step::Release(page));
+        pair.act(&rt, Step::Drop(page));
     }
     check!(&rt; pair.objects() == 1);
     drop(pair);
@@ -45,14 +45,14 @@ fn a_page_that_is_kept_stays(rt: HostRuntime) {
     expect_objects(&rt, &mut pair, 3);
     let kept = kept(&rt, &mut pair, page);
     expect_number(&rt, &mut pair, kept, 8);
-    pair.act(&rt, Step::Release(kept));
+    pair.act(&rt, Step::Drop(kept));
     check!(&rt; pair.objects() == 3);
     pair.call(&rt, page, GIVE_UP, With::Word(0));
     check!(&rt; pair.objects() == 2);
     pair.call(&rt, page, KEEP, With::Word(9));
     check!(&rt; pair.objects() == 3);
     // Its keeper goes, and so it goes.
-    pair.act(&rt, Step::Release(page));
+    pair.act(&rt, Step::Drop(page));
     expect_objects(&rt, &mut pair, 1);
     drop(pair);
 }
@@ -68,7 +68,7 @@ fn many_pages_at_once(rt: HostRuntime) {
     }
     check!(&rt; pair.objects() == 301);
     for page in pages {
-        pair.act(&rt, Step::Release(page));
+        pair.act(&rt, Step::Drop(page));
     }
     expect_objects(&rt, &mut pair, 1);
     drop(pair);

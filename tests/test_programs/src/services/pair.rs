@@ -119,12 +119,12 @@ impl Pair {
 
     /// How many objects the server has.
     pub(crate) fn objects(&self) -> usize {
-        self.ends.server.object_table().len()
+        self.ends.server.objects().len()
     }
 
     /// The words that the client's watcher was told of.
     pub(crate) fn words(&self) -> &[u64] {
-        match self.ends.client.objects() {
+        match self.ends.client.objects().as_slice() {
             [watcher, ..] => watcher.words.as_slice(),
             [] => &[],
         }

@@ -106,7 +106,7 @@ fn who_promised_stays_until_it_resolved(rt: HostRuntime) {
     let first = pair.page(&rt, OPEN, 1);
     let page = pair.call(&rt, first, VOW, With::Word(5_000)).import;
     let page = page.expect(&rt, "a page");
-    pair.act(&rt, Step::Release(first));
+    pair.act(&rt, Step::Drop(first));
     let early = pair.begin(&rt, page, READ, With::Word(0));
     pair.act(&rt, Step::Pass(4_000));
     expect_silence(&rt, &mut pair);
@@ -135,7 +135,7 @@ fn a_promise_that_was_given_up_goes(rt: HostRuntime) {
     let mut pair = Pair::new(&rt, rt.alloc(), 1);
     let kept = pair.act(&rt, Step::Pass(0)).kept;
     let page = pair.page(&rt, PROMISE, 0);
-    pair.act(&rt, Step::Release(page));
+    pair.act(&rt, Step::Drop(page));
     resolve(&rt, &mut pair, With::Word(7));
     check!(&rt; pair.act(&rt, Step::Pass(2_000)).kept == kept);
     check!(&rt; pair.objects() == 1);

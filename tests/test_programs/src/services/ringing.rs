@@ -1,12 +1,13 @@
 //! An object of a client wakes another of it, and one of another session.
 
+use crate::devices::{Device, Fails};
 use crate::frames::{BOOTSTRAP, CALL_BOOTSTRAP, bytes_of};
 use crate::services::notebook::done;
-use cp_client::Client;
+use cp_client::{Client, ClientFault};
 use cp_frame::Mode;
-use cp_objects::{Objects, ObjectTable, Context, ServedObject, Waker};
-use cp_refs::{Caps, Outcome, Request};
-use cp_servants::{OutgoingCall, Reply, Settled};
+use cp_objects::{Objects, Context, ServedObject, Waker};
+use cp_refs::{Caps, Outcome};
+use cp_servants::{OutgoingCall, Reply, RequestView, Settled};
 use cp_words::Limits;
 use std::alloc::{AllocError, Global};
 use std::cell::RefCell;
@@ -37,7 +38,7 @@ impl ServedObject for Bell {
     fn call(
         &mut self,
         _ticket: u64,
-        request: Request,
+        request: RequestView<'_>,
         context: &mut Context<Bell>,
     ) -> Result<Reply, AllocError> {
         let reply = rung(context, &request.caps);
@@ -52,6 +53,10 @@ impl ServedObject for Bell {
             pushed?;
         }
         Ok(None)
+    }
+
+    fn has_more(&self) -> bool {
+        false
     }
 
     fn next_call(&mut self, _context: &mut Context<Bell>) -> Result<Option<OutgoingCall>, AllocError> {
@@ -92,6 +97,8 @@ fn expect_polled(rt: &impl Abort, polled: &Polled, wanted: &[u32]) {
 #[derive(Clone, Copy)]
 struct Trial<'a> {
     frames: &'a [&'a str],
+    /// The call of the reader that fails, in place of the end of its bytes.
+    fails: u64,
     /// How many messages the client sent.
     sent: u64,
     served: &'a [u32],
@@ -101,6 +108,7 @@ struct Trial<'a> {
 /// Both bells are polled after the Bootstrap, since they are new. After the call object 1 is polled since it was woken.
 const CALLED: Trial<'static> = Trial {
     frames: &[BOOTSTRAP, CALL_BOOTSTRAP],
+    fails: 2,
     sent: 2,
     served: &[0, 1, 0, 1],
     woken: &[0, 1, 0, 1, 1],
@@ -109,19 +117,20 @@ const CALLED: Trial<'static> = Trial {
 /// Nobody calls.
 const UNCALLED: Trial<'static> = Trial {
     frames: &[],
+    fails: 1,
     sent: 0,
     served: &[0, 1],
     woken: &[0, 1, 1],
 };
 
-/// A client does what a trial says. If the peer called, the object of another session is handed on.
-fn expect_trial<R: Read + Drop, W: Write + Drop, H: ObjectTable>(
+/// A client does what a trial says: its reader fails, so that its objects are there yet. If the peer called, the object of another session is handed on.
+fn expect_trial<R: Read + Drop, W: Write + Drop, O: ServedObject<Makes = O>>(
     rt: &impl Abort,
-    client: &mut Client<R, W, H>,
+    client: &mut Client<R, W, O>,
     polled: &Polled,
     trial: Trial<'_>,
 ) {
-    check!(rt; client.serve().is_ok());
+    check!(rt; matches!(client.serve(), Err(ClientFault::Device(_))));
     check!(rt; client.stats().sent == trial.sent);
     expect_polled(rt, polled, trial.served);
     if trial.sent > 0 {
@@ -143,7 +152,7 @@ fn objects_of_a_client_are_woken(rt: HostRuntime) {
         let family = bells(&rt, alloc, &polled);
         let bytes = bytes_of(&rt, alloc, trial.frames);
         let (to, limits) = (Vec::new(alloc), Limits::standard());
-        let from = bytes.as_slice();
+        let from = Device::new(bytes.as_slice(), Fails::At(trial.fails), usize::MAX);
         let mut client = Client::with_objects(alloc, from, to, Mode::Plain, limits, family);
         expect_trial(&rt, &mut client, &polled, trial);
         drop(client);

@@ -86,7 +86,7 @@ fn a_page_that_is_dropped_releases_its_watcher_at_once(rt: HostRuntime) {
     let joined = pair.call(&rt, book, JOIN, WATCHER);
     let page = joined.import.expect(&rt, "a page");
     check!(&rt; pair.objects() == 2);
-    check!(&rt; pair.act(&rt, Step::Release(page)).kept == before);
+    check!(&rt; pair.act(&rt, Step::Drop(page)).kept == before);
     check!(&rt; pair.objects() == 1);
     drop(pair);
 }

@@ -6,7 +6,7 @@ use Rattle.cp_fields.proofs.utf8.is_utf8.Goals as goal
 pub loop-i-preserved : goal.loop-i-preserved
 loop-i-preserved c =
     let next : (c.loop-i.i + 1) * 64 ≡ c.loop-i.i * 64 + 64 = omega arith in
-    rw (next, range-append (byte_before c.args.words.now c.args.count) (c.loop-i.i * 64) 64, ← c.block_at-block.ensures) (c.step-checker.ensures _ c.loop-i.invariant)
+    rw (next, range-append (byte_before c.args.words.now c.args.count) (c.loop-i.i * 64) 64, ← c.next_block-block.ensures) (c.step-checker.ensures _ c.loop-i.invariant)
 
 pub returns : goal.returns
 returns c =

@@ -7,5 +7,5 @@ use Rattle.net_host.proofs.event_loop.note_events.Given as goal
 abbrev pub invariant-loop-event : goal.invariant-loop-event
 invariant-loop-event g l = record {
   len : slab_len l.guests ≡ slab_len l.fn.guests;
-  same : (key : ℕ) → seen g.S.HostedSession.state l.guests key ≡ seen g.S.HostedSession.state l.fn.guests key;
+  same : (key : ℕ) → seen g.S.DrivenSession.state g.D.Socket.flow l.guests key ≡ seen g.S.DrivenSession.state g.D.Socket.flow l.fn.guests key;
 }

@@ -6,6 +6,6 @@ abbrev pub invariant-loop-entry : goal.invariant-loop-entry
 invariant-loop-entry g l = record {
   can_next : (goal.iterator-loop-entry g).can_next l.entry-iterator;
   is_finite : (goal.iterator-loop-entry g).is_finite l.entry-iterator;
-  seeks : Seeks g.S.HostedSession.table g.S.HostedSession.state l.guests l.now l.queue.items l.entry-iterator;
-  firsts : Firsts g.S.HostedSession.table g.S.HostedSession.state l.guests l.first l.entry-iterator;
+  seeks : Seeks g.S.DrivenSession.table g.S.DrivenSession.state g.D.Socket.flow l.guests l.now l.queue.items l.entry-iterator;
+  firsts : Firsts g.S.DrivenSession.table g.S.DrivenSession.state g.D.Socket.flow l.guests l.first l.entry-iterator;
 }

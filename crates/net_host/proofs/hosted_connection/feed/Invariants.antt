@@ -3,4 +3,4 @@ use Rattle.net_host.proofs.hosted_connection.feed.Given as goal
 
 -- the session was given what isn't left of the piece
 abbrev pub invariant-loop : goal.invariant-loop
-invariant-loop g l = Leaves g.S.HostedSession.table l.allowed.now (g.S.HostedSession.state l.fn.session) l.fn.piece l.left (g.S.HostedSession.state l.session)
+invariant-loop g l = Leaves g.S.DrivenSession.table l.allowed.now (g.S.DrivenSession.state l.fn.session) l.fn.piece l.left (g.S.DrivenSession.state l.session)

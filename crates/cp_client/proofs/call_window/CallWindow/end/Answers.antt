@@ -31,7 +31,7 @@ returns-in_err-end_oldest-clause-breaks g c =
       q = c.in-Some.question;
       rest = drop 1 c.ending.self.under_way;
       in_order = h.1 ∙ ap (λ z. h.0 ++ z) first;
-      mid = seen g.R.Read.remaining g.W.Write.contents c.ending.client;
+      mid = seen g.S.DrivenSession.state g.R.Read.remaining g.W.Write.contents c.ending.client;
       ends = h.2;
       unended = rw first at c.in_err-end_oldest.ensures.unended;
     })
@@ -43,7 +43,7 @@ pub returns-clause-ends : goal.returns-clause-ends
 returns-clause-ends g c =
     let h = c.ending.invariant in
     let none = none_oldest c.ending.self.under_way (sym c.in_default.ensures) in
-    subst (λ qs. EndsEach g.H.ObjectTable.table (seen g.R.Read.remaining g.W.Write.contents c.args.client.now) qs (seen g.R.Read.remaining g.W.Write.contents c.ending.client))
+    subst (λ qs. EndsEach g.S.DrivenSession.table (seen g.S.DrivenSession.state g.R.Read.remaining g.W.Write.contents c.args.client.now) qs (seen g.S.DrivenSession.state g.R.Read.remaining g.W.Write.contents c.ending.client))
     (sym (h.1 ∙ ap (λ z. h.0 ++ z) none ∙ append-nil h.0)) h.2
 
 pub returns-clause-same_window : goal.returns-clause-same_window

@@ -8,7 +8,7 @@ abbrev pub invariant-ending : goal.invariant-ending
 invariant-ending g l =
     (ended : List ℕ)
     × (l.fn.self.under_way ≡ ended ++ l.self.under_way)
-    × EndsEach g.H.ObjectTable.table (seen g.R.Read.remaining g.W.Write.contents l.fn.client) ended (seen g.R.Read.remaining g.W.Write.contents l.client)
+    × EndsEach g.S.DrivenSession.table (seen g.S.DrivenSession.state g.R.Read.remaining g.W.Write.contents l.fn.client) ended (seen g.S.DrivenSession.state g.R.Read.remaining g.W.Write.contents l.client)
     × (l.self.window ≡ l.fn.self.window)
 
 abbrev pub decreases-ending : goal.decreases-ending

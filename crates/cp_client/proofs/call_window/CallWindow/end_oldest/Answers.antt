@@ -24,7 +24,7 @@ pub returns-clause-ends : goal.returns-clause-ends
 returns-clause-ends g c = record {
   outcome = c.in_ok-wait.field-0;
   results = c.in_default.ensures;
-  told = seen g.R.Read.remaining g.W.Write.contents c.wait.new.self;
+  told = seen g.S.DrivenSession.state g.R.Read.remaining g.W.Write.contents c.wait.new.self;
   waits = c.in_ok-wait.ensures.waits;
   finishes = c.in_ok-finish.ensures.finishes;
 }

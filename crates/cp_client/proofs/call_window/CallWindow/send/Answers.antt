@@ -14,25 +14,25 @@ pub returns-in_err-promised-clause-unsent : goal.returns-in_err-promised-clause-
 returns-in_err-promised-clause-unsent g c =
     let p = err_from_is_err_and c.from_residual-in_err-promised.result c.from_residual-in_err-promised.ensures.1 in
     rw (p.1, p.2)
-    (uncalled c.in_err-promised.field-0.0 (seen g.R.Read.remaining g.W.Write.contents c.make_room.new.client) refl c.in_ok-make_room.ensures.room
+    (uncalled c.in_err-promised.field-0.0 (seen g.S.DrivenSession.state g.R.Read.remaining g.W.Write.contents c.make_room.new.client) refl c.in_ok-make_room.ensures.room
     c.in_err-promised.ensures)
 
 pub returns-in_err-push_back-clause-unsent : goal.returns-in_err-push_back-clause-unsent
 returns-in_err-push_back-clause-unsent g c =
     let p = err_from_is_err_and c.from_residual-in_err-push_back.result c.from_residual-in_err-push_back.ensures.1 in
-    let old = seen g.R.Read.remaining g.W.Write.contents c.args.client.now in
-    let mid = seen g.R.Read.remaining g.W.Write.contents c.make_room.new.client in
-    let room = room_seen g.H.ObjectTable.table c.args.self.now.under_way old mid (due c.args.self.now) c.self.view_is c.in_ok-make_room.ensures.room in
+    let old = seen g.S.DrivenSession.state g.R.Read.remaining g.W.Write.contents c.args.client.now in
+    let mid = seen g.S.DrivenSession.state g.R.Read.remaining g.W.Write.contents c.make_room.new.client in
+    let room = room_seen g.S.DrivenSession.table c.args.self.now.under_way old mid (due c.args.self.now) c.self.view_is c.in_ok-make_room.ensures.room in
     rw (p.1, p.2, c.in_err-push_back.ensures.items) (forgotten c.in_ok-promised.promised.question mid refl room c.in_ok-promised.ensures.0)
 
 pub returns-clause-sends : goal.returns-clause-sends
 returns-clause-sends g c =
-    let old = seen g.R.Read.remaining g.W.Write.contents c.args.client.now in
-    let mid = seen g.R.Read.remaining g.W.Write.contents c.make_room.new.client in
+    let old = seen g.S.DrivenSession.state g.R.Read.remaining g.W.Write.contents c.args.client.now in
+    let mid = seen g.S.DrivenSession.state g.R.Read.remaining g.W.Write.contents c.make_room.new.client in
     record {
       left = c.self.inside.under_way.items;
       mid = mid;
-      room = room_seen g.H.ObjectTable.table c.args.self.now.under_way old mid (due c.args.self.now) c.self.view_is c.in_ok-make_room.ensures.room;
+      room = room_seen g.S.DrivenSession.table c.args.self.now.under_way old mid (due c.args.self.now) c.self.view_is c.in_ok-make_room.ensures.room;
       question = c.in_ok-promised.promised.question;
       asks = c.in_ok-promised.ensures.0;
       noted =

@@ -1,5 +1,5 @@
 use Rattle.std.proofs.Common.{refl}
-use Rattle.cp_dispatch.proofs.Living.{lives_none, lives_both}
+use Rattle.cp_dispatch.proofs.Living.{lives_none}
 use Rattle.cp_dispatch.proofs.Working.{after_ok}
 use Rattle.cp_dispatch.proofs.dispatcher.Dispatcher.answer_lent.Goals as goal
 
@@ -9,27 +9,5 @@ returns-in_default-clause-done g c = rw c.in_default.is (refl, refl)
 pub returns-in_default-clause-lives : goal.returns-in_default-clause-lives
 returns-in_default-clause-lives g c = lives_none c.args.connection.now
 
-pub returns-in_err-said-clause-lives : goal.returns-in_err-said-clause-lives
-returns-in_err-said-clause-lives g c = lives_none c.args.connection.now
-
-pub returns-in_err-reply-2-clause-lives : goal.returns-in_err-reply-2-clause-lives
-returns-in_err-reply-2-clause-lives g c = lives_both c.with_promise_requests_kept.ensures.lives c.reply.ensures.lives
-
 pub returns-clause-done : goal.returns-clause-done
-returns-clause-done g c =
-    after_ok c.make_calls.result c.make_calls.ensures.done
-    (λ calls. rw c.in-Some.is (
-      _,
-      _,
-      _,
-      c.with_promise_requests_kept.new.connection,
-      _,
-      _,
-      c.in_ok-said.ensures c.args.connection.now,
-      c.in_ok-reply.ensures.done,
-      rw c.in_ok-reply.ensures.same at c.in_ok-reply-2.ensures.done,
-      calls,
-    ))
-
-pub returns-clause-lives : goal.returns-clause-lives
-returns-clause-lives g c = lives_both (lives_both c.with_promise_requests_kept.ensures.lives c.reply.ensures.lives) c.make_calls.ensures.lives
+returns-clause-done g c = after_ok c.take_call.result c.take_call.ensures.done (λ done. rw c.in-Some.is (rw c.of_view.ensures at done))

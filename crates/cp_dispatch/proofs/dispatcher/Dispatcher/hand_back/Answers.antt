@@ -6,7 +6,7 @@ use Rattle.cp_dispatch.proofs.dispatcher.Dispatcher.hand_back.Goals as goal
 
 pub returns-in_default-clause-done : goal.returns-in_default-clause-done
 returns-in_default-clause-done g c =
-    after_ok c.note.result c.note.ensures (λ noted. hands_to_user (work_of c.args.self.now c.args.connection.now) c.remove.new.self c.args.question c.args.outcome
+    after_ok c.note_outcome.result c.note_outcome.ensures (λ noted. hands_to_user (work_of c.args.self.now c.args.connection.now) c.remove.new.self c.args.question c.args.outcome
     (sym c.remove.ensures.value ∙ c.in_default.is) c.remove.ensures.removed (noted c.args.connection.now))
 
 pub returns-in_default-clause-lives : goal.returns-in_default-clause-lives

@@ -1,32 +1,10 @@
-use Rattle.cp_dispatch.proofs.Living.{lives_none, lives_both}
+use Rattle.cp_dispatch.proofs.Living.{lives_none}
 use Rattle.cp_dispatch.proofs.Working.{after_ok}
 use Rattle.std.proofs.Common.{refl}
 use Rattle.cp_dispatch.proofs.dispatcher.Dispatcher.handle.Goals as goal
 
-pub returns-in_err-said-in-Delivered-clause-lives : goal.returns-in_err-said-in-Delivered-clause-lives
-returns-in_err-said-in-Delivered-clause-lives g c = lives_none c.args.connection.now
-
-pub returns-in_err-reply-in-Delivered-2-clause-lives : goal.returns-in_err-reply-in-Delivered-2-clause-lives
-returns-in_err-reply-in-Delivered-2-clause-lives g c = lives_both c.with_promise_requests_kept.ensures.lives c.reply.ensures.lives
-
-pub returns-in_ok-reply-in-Delivered-2-clause-done : goal.returns-in_ok-reply-in-Delivered-2-clause-done
-returns-in_ok-reply-in-Delivered-2-clause-done g c =
-    after_ok c.make_calls.result c.make_calls.ensures.done
-    (λ calls. rw c.in-Delivered.is (
-      _,
-      _,
-      _,
-      c.with_promise_requests_kept.new.connection,
-      _,
-      _,
-      c.in_ok-said-in-Delivered.ensures c.args.connection.now,
-      c.in_ok-reply-in-Delivered.ensures.done,
-      rw c.in_ok-reply-in-Delivered.ensures.same at c.in_ok-reply-in-Delivered-2.ensures.done,
-      calls,
-    ))
-
-pub returns-in_ok-reply-in-Delivered-2-clause-lives : goal.returns-in_ok-reply-in-Delivered-2-clause-lives
-returns-in_ok-reply-in-Delivered-2-clause-lives g c = lives_both (lives_both c.with_promise_requests_kept.ensures.lives c.reply.ensures.lives) c.make_calls.ensures.lives
+pub returns-in-Delivered-clause-done : goal.returns-in-Delivered-clause-done
+returns-in-Delivered-clause-done g c = after_ok c.take_call.result c.take_call.ensures.done (λ done. rw c.in-Delivered.is (rw c.of_whole.ensures at done))
 
 pub returns-in-Settled-clause-done : goal.returns-in-Settled-clause-done
 returns-in-Settled-clause-done g c = after_ok c.hand_back.result c.hand_back.ensures.done (λ back. rw c.in-Settled.is back)

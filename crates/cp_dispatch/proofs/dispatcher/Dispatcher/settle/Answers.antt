@@ -1,5 +1,5 @@
 use Rattle.std.proofs.Common.{refl, sym, ◌∙◌}
-use Rattle.cp_dispatch.specs.Rounds.{gives_none}
+use Rattle.cp_dispatch.specs.Calling.{gives_none}
 use Rattle.cp_dispatch.specs.WorkOf.{work_of}
 use Rattle.cp_dispatch.proofs.Living.{lives_none}
 use Rattle.cp_dispatch.proofs.Working.{settles_stranger, settles_awaited}

@@ -11,7 +11,7 @@ pub returns-in_err-back-clause-stopped : goal.returns-in_err-back-clause-stopped
 returns-in_err-back-clause-stopped g c =
     let p = err_from_is_err_and c.from_residual-in_err-back.result c.from_residual-in_err-back.ensures.1 in
     let fed = c.feeding.invariant in
-    rw (p.1, p.2) (inl (stops_after g.V.Visitor.says c.args.self.now c.feeding.self c.next.new.self fed.0 c.feeding.left.now c.args.piece.now c.args.visitor.now c.feeding.visitor c.next.new.visitor c.args.out.now.items c.feeding.out.items c.next.new.out.items c.in_err-back.field-0.0 fed.2 fed.1 c.in_err-back.ensures.stopped))
+    rw (p.1, p.2) (inl (stops_after g.V.Visitor.says c.args.self.now c.feeding.self c.next.new.self fed.0 c.feeding.left.now c.args.piece.now c.args.visitor.now c.feeding.visitor c.next.new.visitor c.args.out.now.items c.feeding.out.items c.next.new.out.items c.in_err-back.field-0.0 fed.2 fed.1 c.in_err-back.ensures.nothing c.in_err-back.ensures.stopped))
 
 pub returns-in_default-clause-given : goal.returns-in_default-clause-given
 returns-in_default-clause-given g c =

@@ -1,5 +1,5 @@
-use Rattle.std.proofs.Common.{◌≡◌, inl, Some, None, ℕ, List, refl, sym, ◌∙◌, subst, ap}
-use Rattle.cp_relay.specs.Relay.{Relay, Stops}
+use Rattle.std.proofs.Common.{◌≡◌, inl, Some, None, refl, ◌∙◌, subst, ap}
+use Rattle.cp_relay.specs.Relay.{Relay, StopsNext}
 use Rattle.cp_relay.specs.Passage.{seen}
 use Rattle.cp_relay.proofs.Passing.{stops_here}
 use Rattle.cp_relay.proofs.relay.Relay.next.Goals as goal
@@ -13,6 +13,5 @@ returns-in-Err-clause-stopped g c =
     let new = seen c.stop-fault.new.self (Some fault) in
     let none : before ≡ None = ap (λ (r : Relay). r.fault) c.self.view_is ∙ c.in_ok-go_on.ensures.ok in
     let at = c.stop-fault.ensures.counts ∙ c.in-Err.ensures.counts in
-    let stops = stops_here says p before new c.args.piece.now c.args.visitor.now c.next.new.visitor c.args.out.now.items fault c.in-Err.why none c.in-Err.ensures.refused refl c.stop-fault.ensures.place at c.stop-fault.ensures.why in
-    let seen_so = subst (λ (r : Relay). Stops says r c.args.piece.now new c.args.visitor.now c.next.new.visitor c.args.out.now.items c.args.out.now.items fault) c.self.view_is stops in
-    inl (subst (λ (out : List ℕ). Stops says c.args.self.now c.args.piece.now new c.args.visitor.now c.next.new.visitor c.args.out.now.items out fault) (sym c.in-Err.ensures.nothing) seen_so)
+    let stops = stops_here says p before new c.args.piece.now c.args.visitor.now c.next.new.visitor fault c.in-Err.why none c.in-Err.ensures.refused refl c.stop-fault.ensures.place at c.stop-fault.ensures.why in
+    inl (subst (λ (r : Relay). StopsNext says r c.args.piece.now new c.args.visitor.now c.next.new.visitor fault) c.self.view_is stops)

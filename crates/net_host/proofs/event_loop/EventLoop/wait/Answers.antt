@@ -7,7 +7,7 @@ pub returns-clause-rests : goal.returns-clause-rests
 returns-clause-rests g c = record { same = c.note_events.ensures.same; ended = refl; budget = refl; wakes = refl; due = ap (λ t. t.sweep_at) c.look.ensures }
 
 pub returns-in_err-poll-clause-rests : goal.returns-in_err-poll-clause-rests
-returns-in_err-poll-clause-rests g c = rests_none (floor_of g.S.HostedSession.state c.args.self.now)
+returns-in_err-poll-clause-rests g c = rests_none (floor_of g.S.DrivenSession.state g.D.Socket.flow c.args.self.now)
 
 pub returns-in_err-look-clause-rests : goal.returns-in_err-look-clause-rests
 returns-in_err-look-clause-rests g c = record { same = λ key. refl; ended = refl; budget = refl; wakes = refl; due = ap (λ t. t.sweep_at) c.look.ensures }

@@ -7,5 +7,5 @@ use Rattle.net_host.proofs.event_loop.EventLoop.wake_each.Given as goal
 abbrev pub invariant-loop : goal.invariant-loop
 invariant-loop g l = record {
   no_more : slab_len l.self.guests ≤ slab_len l.fn.self.guests;
-  turns : Rounds g.S.HostedSession.table (floor_of g.S.HostedSession.state l.fn.self) (floor_of g.S.HostedSession.state l.self);
+  turns : Rounds g.S.DrivenSession.table (floor_of g.S.DrivenSession.state g.D.Socket.flow l.fn.self) (floor_of g.S.DrivenSession.state g.D.Socket.flow l.self);
 }

@@ -10,4 +10,4 @@ returns-in_err-reserve-2-clause-turns g c = rests (record { same = λ key. refl;
 
 pub returns-clause-turns : goal.returns-clause-turns
 returns-clause-turns g c =
-    subst (λ f. Turns g.S.HostedSession.table f (floor_of g.S.HostedSession.state c.wake_first.new.self)) (ap (λ e. record (floor_of g.S.HostedSession.state c.args.self.now) { ended = e }) c.reserve.ensures.items) c.wake_first.ensures.turns
+    subst (λ f. Turns g.S.DrivenSession.table f (floor_of g.S.DrivenSession.state g.D.Socket.flow c.wake_first.new.self)) (ap (λ e. record (floor_of g.S.DrivenSession.state g.D.Socket.flow c.args.self.now) { ended = e }) c.reserve.ensures.items) c.wake_first.ensures.turns

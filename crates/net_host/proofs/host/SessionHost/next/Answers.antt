@@ -28,7 +28,7 @@ returns-in-HostEvent-clause-hears g c =
 
 pub returns-in-HostEvent-clause-reports : goal.returns-in-HostEvent-clause-reports
 returns-in-HostEvent-clause-reports g c =
-    reports_after (Some c.in-HostEvent.news) (connections_of g.S.HostedSession.state c.look.new.self) c.loop.invariant.turns (rw c.in-HostEvent.is at c.in_ok-look.ensures.reports)
+    reports_after (Some c.in-HostEvent.news) (connections_of g.S.DrivenSession.state c.look.new.self) c.loop.invariant.turns (rw c.in-HostEvent.is at c.in_ok-look.ensures.reports)
 
 pub returns-in-Over-clause-hears : goal.returns-in-Over-clause-hears
 returns-in-Over-clause-hears g c =
@@ -36,7 +36,7 @@ returns-in-Over-clause-hears g c =
 
 pub returns-in-Over-clause-reports : goal.returns-in-Over-clause-reports
 returns-in-Over-clause-reports g c =
-    reports_after None (connections_of g.S.HostedSession.state c.look.new.self) c.loop.invariant.turns (rw c.in-Over.is at c.in_ok-look.ensures.reports)
+    reports_after None (connections_of g.S.DrivenSession.state c.look.new.self) c.loop.invariant.turns (rw c.in-Over.is at c.in_ok-look.ensures.reports)
 
 pub returns-in-HostEvent-clause-on_time : goal.returns-in-HostEvent-clause-on_time
 returns-in-HostEvent-clause-on_time g c =

@@ -9,6 +9,6 @@ use Rattle.net_host.proofs.host.SessionHost.next.Given as goal
 abbrev pub invariant-loop : goal.invariant-loop
 invariant-loop g l = record {
   goes_on : GoesOn (roster l.fn.self) (roster l.self);
-  turns : Rounds g.S.HostedSession.table (connections_of g.S.HostedSession.state l.fn.self) (connections_of g.S.HostedSession.state l.self);
+  turns : Rounds g.S.DrivenSession.table (connections_of g.S.DrivenSession.state l.fn.self) (connections_of g.S.DrivenSession.state l.self);
   on_time : ComesBy (now_of l.fn.self) l.fn.self.alarm → now_of l.self ≡ now_of l.fn.self;
 }

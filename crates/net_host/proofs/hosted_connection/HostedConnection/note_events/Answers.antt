@@ -3,7 +3,7 @@ use Rattle.net_host.specs.HostedConnections.{served_of}
 use Rattle.net_host.proofs.hosted_connection.HostedConnection.note_events.Goals as goal
 
 pub loop-init : goal.loop-init
-loop-init g c = hears_none (served_of g.S.HostedSession.state c.args.self.now)
+loop-init g c = hears_none (served_of g.S.DrivenSession.state g.D.Socket.flow c.args.self.now)
 
 pub loop-preserved : goal.loop-preserved
 loop-preserved g c = hears_both c.loop.invariant c.note_event-is_told.ensures

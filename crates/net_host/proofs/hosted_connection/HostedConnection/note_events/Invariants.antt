@@ -3,4 +3,4 @@ use Rattle.net_host.proofs.hosted_connection.HostedConnection.note_events.Given 
 
 -- the events so far were handed out
 abbrev pub invariant-loop : goal.invariant-loop
-invariant-loop g l = Hears g.S.HostedSession.table (served_of g.S.HostedSession.state l.fn.self) (served_of g.S.HostedSession.state l.self)
+invariant-loop g l = Hears g.S.DrivenSession.table (served_of g.S.DrivenSession.state g.D.Socket.flow l.fn.self) (served_of g.S.DrivenSession.state g.D.Socket.flow l.self)

@@ -7,14 +7,14 @@ use Rattle.net_host.proofs.hosted_connection.HostedConnection.visit.Goals as goa
 pub returns-in-Err-clause-closes : goal.returns-in-Err-clause-closes
 returns-in-Err-clause-closes g c =
     let failed = c.in-Err.ensures.fails in
-    (failed.0, failed.1, closes_failed (served_of g.S.HostedSession.state c.args.self.now) (served_of g.S.HostedSession.state c.work.new.self) _ c.in-Err.error _ failed.2 c.end_or.ensures.end c.end_or.ensures.same)
+    (failed.0, failed.1, closes_failed (served_of g.S.DrivenSession.state g.D.Socket.flow c.args.self.now) (served_of g.S.DrivenSession.state g.D.Socket.flow c.work.new.self) _ c.in-Err.error _ failed.2 c.end_or.ensures.end c.end_or.ensures.same)
 
 pub returns-then-is_over-clause-closes : goal.returns-then-is_over-clause-closes
 returns-then-is_over-clause-closes g c =
     let works = c.in_default.ensures.works in (
       works.0,
       works.1,
-      closes (served_of g.S.HostedSession.state c.args.self.now) (served_of g.S.HostedSession.state c.shut.new.self) _ _ (works_as works.2 c.shut.ensures)
+      closes (served_of g.S.DrivenSession.state g.D.Socket.flow c.args.self.now) (served_of g.S.DrivenSession.state g.D.Socket.flow c.shut.new.self) _ _ (works_as works.2 c.shut.ensures)
           (is_over (c.if-is_over.ensures.0 refl) c.end_or-then-is_over.ensures.end) c.end_or-then-is_over.ensures.same,
     )
 
@@ -23,7 +23,7 @@ returns-then-kept-allowed-clause-closes g c =
     let works = c.in_default.ensures.works in (
       works.0,
       works.1,
-      closes (served_of g.S.HostedSession.state c.args.self.now) (served_of g.S.HostedSession.state c.shut.new.self) _ _ (works_as works.2 c.shut.ensures)
+      closes (served_of g.S.DrivenSession.state g.D.Socket.flow c.args.self.now) (served_of g.S.DrivenSession.state g.D.Socket.flow c.shut.new.self) _ _ (works_as works.2 c.shut.ensures)
           (is_full (rw c.kept.ensures at c.if-kept-allowed.true) c.end_or-then-kept-allowed.ensures.end) c.end_or-then-kept-allowed.ensures.same,
     )
 

@@ -4,7 +4,7 @@ use Rattle.net_host.specs.HostedConnections.{served_of}
 use Rattle.net_host.proofs.hosted_connection.HostedConnection.write.Goals as goal
 
 pub loop-init : goal.loop-init
-loop-init g c = proceeds_none c.args.now (served_of g.S.HostedSession.state c.args.self.now)
+loop-init g c = proceeds_none c.args.now (served_of g.S.DrivenSession.state g.D.Socket.flow c.args.self.now)
 
 pub loop-preserved : goal.loop-preserved
 loop-preserved g c = proceeds_both c.loop.invariant (proceeds_sent _ _ _ _ c.in_ok-write_some.ensures.sends)

@@ -3,4 +3,4 @@ use Rattle.net_host.proofs.hosted_connection.HostedConnection.write.Given as goa
 
 -- the connection went on so far
 abbrev pub invariant-loop : goal.invariant-loop
-invariant-loop g l = Proceeds g.S.HostedSession.table l.now (served_of g.S.HostedSession.state l.fn.self) (served_of g.S.HostedSession.state l.self)
+invariant-loop g l = Proceeds g.S.DrivenSession.table l.now (served_of g.S.DrivenSession.state g.D.Socket.flow l.fn.self) (served_of g.S.DrivenSession.state g.D.Socket.flow l.self)

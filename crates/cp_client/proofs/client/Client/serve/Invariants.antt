@@ -1,7 +1,0 @@
-use Rattle.cp_client.specs.ConversationOf.{seen}
-use Rattle.cp_client.specs.Waits.{Serves}
-use Rattle.cp_client.proofs.client.Client.serve.Given as goal
-
--- the client went on
-abbrev pub invariant-loop : goal.invariant-loop
-invariant-loop g l = Serves g.H.ObjectTable.table (seen g.R.Read.remaining g.W.Write.contents l.fn.self) (seen g.R.Read.remaining g.W.Write.contents l.self)

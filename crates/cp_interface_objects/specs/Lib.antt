@@ -1,4 +1,0 @@
-pub mod Services
-pub mod Promises
-pub mod Calls
-pub mod Lists
