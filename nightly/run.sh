@@ -16,6 +16,7 @@
 #   fields    texts of schemas, read by generated code and by the reference tool   half an hour
 #   schemas   random schemas, shown and read by generated code as by the reference tool   half an hour
 #   texts     texts by random schemas, made messages of as by the reference tool     five minutes
+#   json      JSON by random schemas, printed and read as by the reference tool      ten minutes
 #   host      many connections at once, and the sessions of peers with them    four minutes
 #   load      an hour of 1,000 connections that come and go                    an hour and two minutes, with a fifth of a processor
 #   callees   calls of servers by the reference library, and of peers at fault two minutes
@@ -48,7 +49,7 @@
 set -u
 here=$(cd "$(dirname "${BASH_SOURCE[0]}")" && pwd)
 . "$here/../tools/crates.sh"
-all=(look proofs memory moves peers matrix relay guard fields schemas texts host load callees faults readme interfaces services notebook lives chat netns sessions crowd served pieces starved embed fuzz words made edits planted plants)
+all=(look proofs memory moves peers matrix relay guard fields schemas texts json host load callees faults readme interfaces services notebook lives chat netns sessions crowd served pieces starved embed fuzz words made edits planted plants)
 alone=night # runs only where it is named: it takes as long as all others
 of_plants=(cp_words cp_tables cp_writing cp_packed cp_frame cp_messages cp_rpc cp_stream cp_refs cp_vat cp_serve)
 
@@ -133,6 +134,8 @@ schemas() {
 }
 
 texts() { built && "$here/texts/run.sh" "$server" "$folder/texts"; }
+
+json() { built && "$here/json/run.sh" "$server" "$folder/json"; }
 
 host() { built && "$here/host/run.sh" "$server" "$folder"; }
 

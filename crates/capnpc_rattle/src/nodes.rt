@@ -6,7 +6,9 @@ use crate::interfaces::interface;
 use crate::model::Model;
 use crate::trees::tree;
 use crate::types::{base_of, is_lent};
-use cp_schema::{Base, ConstNode, FieldKind, Node, NodeKind, SchemaValue, StructField, Structure};
+use cp_schema::{
+    Base, ConstNode, Enumerant, FieldKind, Node, NodeKind, SchemaValue, StructField, Structure,
+};
 
 /// Adds a type or a constant.
 pub fn node<'m>(model: &mut Model<'m>, book: &'m Book<'_>, of: &'m Node, with: &'m Named) {
@@ -41,11 +43,11 @@ pub fn node<'m>(model: &mut Model<'m>, book: &'m Book<'_>, of: &'m Node, with: &
 }
 
 /// Adds the values of an enum.
-fn enumeration<'m>(model: &mut Model<'m>, book: &'m Book<'_>, id: u64, items: &'m [String]) {
+fn enumeration<'m>(model: &mut Model<'m>, book: &'m Book<'_>, id: u64, items: &'m [Enumerant]) {
     model.number("last", items.len().saturating_sub(1) as u64);
     model.list("values");
     for (i, item) in items.iter().enumerate() {
-        value(model, i, item.as_str(), book.about_member(id, i));
+        value(model, i, item.name.as_str(), book.about_member(id, i));
     }
     model.close();
 }
@@ -284,6 +286,6 @@ fn item<'m>(model: &mut Model<'m>, book: &'m Book<'_>, id: u64, number: u64) -> 
         return false;
     };
     named(model, book, "of", with);
-    model.text("item", item.as_str());
+    model.text("item", item.name.as_str());
     true
 }

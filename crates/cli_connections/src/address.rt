@@ -52,7 +52,7 @@ fn call_all<'p>(
     plan: &CallPlan<'p, '_>,
     schema: Option<&Schema>,
 ) -> Result<bool, CommandFault<'p>> {
-    let calls = calls_of(rt, schema, plan.calls)?;
+    let calls = calls_of(rt, schema, plan.notation, plan.calls)?;
     match connect(rt, plan.address, plan.timeout) {
         Ok(stream) => converse(rt, stream, plan, schema, calls, &mut io::writer(rt)),
         Err(fault) => {

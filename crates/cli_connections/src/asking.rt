@@ -6,9 +6,9 @@ use cp_client::{Client, ClientFault, Question};
 use cp_commands::{CallPlan, peer_hint};
 use cp_connection::ConnectionFault;
 use cp_lines::push_outcome_of;
-use cp_methods::results_line;
+use cp_methods::{ResultsForm, results_line};
 use cp_refs::{Cap, Outcome, Request};
-use cp_schema::{MethodNumber, Schema};
+use cp_schema::{MethodNumber, Schema, json_string};
 use cp_stream::DeviceError;
 use net_sockets::NonblockingStream;
 use std::alloc::Global;
@@ -163,7 +163,8 @@ impl<'a, 'p> Peer<'a, 'p> {
         Ok(has_results)
     }
 
-    /// Prints what a call came to: by the names of the schema, where there is one that has its method, else by numbers.
+    /// Prints what a call came to: by the names of the schema, where there is one that has its method, else by numbers, which in
+    /// JSON are a string.
     fn print<O: Write>(
         &self,
         asked: Asked,
@@ -182,19 +183,32 @@ impl<'a, 'p> Peer<'a, 'p> {
         }
     }
 
-    /// The line of results by the names of the schema.
+    /// The line of what a call came to by the names of the schema.
     fn named(
         &self,
         plain: &str,
         method: MethodNumber,
         outcome: &Outcome,
     ) -> Result<Option<String>, CommandFault<'p>> {
-        match (self.schema, outcome) {
-            (Some(schema), Outcome::Results { content, .. }) => {
-                let limits = self.plan.limits;
-                Ok(results_line(self.alloc, schema, method, plain, content, limits)?)
+        let Some(schema) = self.schema else {
+            return Ok(None);
+        };
+        let form = ResultsForm {
+            schema,
+            notation: self.plan.notation,
+            limits: self.plan.limits,
+        };
+        let line = match outcome {
+            Outcome::Results { content, .. } => {
+                results_line(self.alloc, &form, method, plain, content)?
             }
-            _ => Ok(None),
+            _ => None,
+        };
+        match line {
+            None if form.notation.is_json() => {
+                Ok(Some(json_string(self.alloc, schema, plain.trim_end_matches('\n'))?))
+            }
+            line => Ok(line),
         }
     }
 

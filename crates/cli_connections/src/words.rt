@@ -9,7 +9,7 @@ use cp_lines::{WrittenCall, call_of, cap_of, payload_of};
 use cp_methods::{CallReader, NamedCall, is_named, plain_params};
 use cp_reading::read_root;
 use cp_refs::{Cap, Caps, Path, Request};
-use cp_schema::{MethodNumber, Schema};
+use cp_schema::{MethodNumber, Notation, Schema};
 use cp_tree::{Body, Tree, Whole};
 use cp_words::Limits;
 use std::alloc::{AllocError, Global};
@@ -24,11 +24,12 @@ const STORED: &str = " @";
 pub(crate) fn calls_of<'w, N: Files + AllocGlobal>(
     rt: &N,
     schema: Option<&Schema>,
+    notation: Notation,
     words: &[&'w str],
 ) -> Result<Vec<(Cap, Request)>, CommandFault<'w>> {
     let mut calls = Vec::new(rt.alloc());
     let mut names = match schema {
-        Some(schema) => Some(CallReader::new(rt.alloc(), schema)),
+        Some(schema) => Some(CallReader::new(rt.alloc(), schema, notation)),
         None => None,
     };
     let added = add_all(rt, &mut names, words, &mut calls);

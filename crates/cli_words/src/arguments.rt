@@ -2,6 +2,7 @@
 
 use clap::{Arg, ArgAction, ArgMatches, Command, value_parser};
 use cp_frame::Mode;
+use cp_schema::Notation;
 use cp_words::Limits;
 use std::alloc::{AllocError, Global};
 
@@ -34,6 +35,13 @@ pub(crate) const FILE: Argument = Argument {
     name: "FILE",
     form: ArgumentForm::Place,
     help: "A file of frames, one after another; - is standard input",
+};
+
+/// JSON on several lines.
+pub(crate) const PRETTY: Argument = Argument {
+    name: "pretty",
+    form: ArgumentForm::FlagBeside("json"),
+    help: "Print each member and element on a line of its own",
 };
 
 /// The port that is served.
@@ -211,6 +219,24 @@ pub(crate) fn mode_of(matches: &ArgMatches) -> Mode {
         Mode::Packed
     } else {
         Mode::Plain
+    }
+}
+
+/// The notation that was given.
+pub(crate) fn notation_of(matches: &ArgMatches) -> Notation {
+    if matches.get_flag("json") {
+        Notation::Json { is_pretty: false }
+    } else {
+        Notation::Text
+    }
+}
+
+/// The same, where JSON may be printed on several lines.
+pub(crate) fn printed_notation_of(matches: &ArgMatches) -> Notation {
+    if matches.get_flag("pretty") {
+        Notation::Json { is_pretty: true }
+    } else {
+        notation_of(matches)
     }
 }
 

@@ -1,8 +1,8 @@
 //! The words of `loop`, `relay` and `call`.
 
 use crate::arguments::{
-    Argument, ArgumentForm, COUNT, FILE, MOST_WORDS, NESTING, PACKED, PORT, TRAVERSAL, Words,
-    limits_of, mode_of,
+    Argument, ArgumentForm, COUNT, FILE, MOST_WORDS, NESTING, PACKED, PORT, PRETTY, TRAVERSAL,
+    Words, limits_of, mode_of, printed_notation_of,
 };
 use crate::serving::{LISTEN, address};
 use clap::ArgMatches;
@@ -145,6 +145,13 @@ const SCHEMA: Argument = Argument {
     help: "Name methods and fields by a schema: what `capnp compile -o- X.capnp` prints",
 };
 
+/// Params and results as JSON.
+const JSON: Argument = Argument {
+    name: "json",
+    form: ArgumentForm::FlagBeside("schema"),
+    help: "Params and results are JSON; what a call without results came to is a string",
+};
+
 /// The schema whose types are asked for.
 const ASKED_SCHEMA: Argument = Argument {
     name: "schema",
@@ -248,6 +255,7 @@ pub(crate) const CALL: Words = Words {
          \x20 1.FIELD.METHOD (..)  calls a capability in the results of question 1, before they arrive\n\
          \x20 question:1.FIELD     passes such a capability in params\n\
          \x20 @FILE                in place of params sends the content of a stored message\n\
+         With --json params are an object of JSON: INTERFACE.METHOD {\"FIELD\": VALUE, ..}.\n\
          Without --schema a CALL is [TARGET] i=INTERFACE m=METHOD [PARAMS].\n\
          \x20 TARGET               question:N[FIELDS]; by default the bootstrap object\n\
          \x20 PARAMS               {TREE caps[..]}, as `show` prints it, or @FILE; by default an empty struct\n\
@@ -259,13 +267,15 @@ pub(crate) const CALL: Words = Words {
          \n\
          Examples:\n\
          \x20 capnp_cli call --schema notebook.request 127.0.0.1:7001 'Notebook.add (text = \"hello\")'\n\
+         \x20 capnp_cli call --schema notebook.request --json 127.0.0.1:7001 'Notebook.add {\"text\": \"hello\"}'\n\
          \x20 capnp_cli call --schema notebook.request --list\n\
          \x20 capnp_cli call 127.0.0.1:7000 'i=e5a1000000000001 m=0'",
 };
 
 /// The arguments of `call`.
-pub(crate) static CALL_ARGUMENTS: [Argument; 10] = [
-    SCHEMA, LIST, DESCRIBE, PACKED, NESTING, TRAVERSAL, MESSAGES, TIMEOUT, ADDRESS, CALLS,
+pub(crate) static CALL_ARGUMENTS: [Argument; 12] = [
+    SCHEMA, JSON, PRETTY, LIST, DESCRIBE, PACKED, NESTING, TRAVERSAL, MESSAGES, TIMEOUT, ADDRESS,
+    CALLS,
 ];
 
 /// The same, where types are asked for.
@@ -343,6 +353,7 @@ pub(crate) fn call_of<'a, 'b>(matches: &'b ArgMatches<'a>) -> Option<Task<'a, 'b
         shows_messages: matches.get_flag("messages"),
         timeout: matches.get_one::<u32>("timeout"),
         request,
+        notation: printed_notation_of(matches),
         address: matches.get_str("ADDRESS")?,
         calls: matches.get_strs("CALL")?,
     }))

@@ -1,7 +1,8 @@
 //! The words of the commands on a file.
 
 use crate::arguments::{
-    Argument, ArgumentForm, FILE, MOST_WORDS, NESTING, PACKED, TRAVERSAL, Words, limits_of, mode_of,
+    Argument, ArgumentForm, FILE, MOST_WORDS, NESTING, PACKED, PRETTY, TRAVERSAL, Words, limits_of,
+    mode_of, notation_of, printed_notation_of,
 };
 use clap::ArgMatches;
 use cp_commands::{EncodePlan, FileTask, Plan, STDIN, ShowPlan, Task};
@@ -33,6 +34,20 @@ const CALLS: Argument = Argument {
         excludes: Some("type"),
     },
     help: "The messages of the other direction: results are shown by the methods that these call",
+};
+
+/// Structs as JSON.
+const SHOWN_JSON: Argument = Argument {
+    name: "json",
+    form: ArgumentForm::FlagBeside("type"),
+    help: "Print each struct as JSON",
+};
+
+/// Objects of JSON in place of texts.
+const READ_JSON: Argument = Argument {
+    name: "json",
+    form: ArgumentForm::Flag,
+    help: "The texts are objects of JSON",
 };
 
 /// The schema by which texts are read.
@@ -77,12 +92,13 @@ pub(crate) const SHOW: Words = Words {
          Examples:\n\
          \x20 capnp_cli show calls.bin\n\
          \x20 capnp_cli show --schema addressbook.request --type AddressBook book.bin\n\
+         \x20 capnp_cli show --schema addressbook.request --type AddressBook --json book.bin | jq .people\n\
          \x20 capnp_cli show --schema store.request --calls client.bin server.bin",
 };
 
 /// The arguments of `show`.
-pub(crate) static SHOW_ARGUMENTS: [Argument; 7] = [
-    SCHEMA, TYPE, CALLS, PACKED, NESTING, TRAVERSAL, FILE,
+pub(crate) static SHOW_ARGUMENTS: [Argument; 9] = [
+    SCHEMA, TYPE, CALLS, SHOWN_JSON, PRETTY, PACKED, NESTING, TRAVERSAL, FILE,
 ];
 
 /// The words of `encode`.
@@ -90,18 +106,26 @@ pub(crate) const ENCODE: Words = Words {
     name: "encode",
     about: "Write each text of FILE as a message of a struct of your schema",
     after_help: "A text is what `show --schema --type` prints, and what `capnp encode` reads.\n\
+         With --json it is an object of JSON, as `show --json` prints it.\n\
          \n\
          Exit status:\n\
          \x20 0  every text was written\n\
          \x20 1  a text was refused; standard error says where, and why\n\
-         \x20 2  the command line is wrong, or a file failed\n\
+         \x20 2  the command line or JSON is wrong, or a file failed\n\
          \n\
-         Example:\n\
-         \x20 echo '(id = 1, name = \"Alice\")' | capnp_cli encode --schema addressbook.request --type Person",
+         Examples:\n\
+         \x20 echo '(id = 1, name = \"Alice\")' | capnp_cli encode --schema addressbook.request --type Person\n\
+         \x20 echo '{\"id\": 1, \"name\": \"Alice\"}' | capnp_cli encode --schema addressbook.request --type Person --json",
 };
 
 /// The arguments of `encode`.
-pub(crate) static ENCODE_ARGUMENTS: [Argument; 4] = [TEXT_SCHEMA, TEXT_TYPE, PACKED, TEXTS];
+pub(crate) static ENCODE_ARGUMENTS: [Argument; 5] = [
+    TEXT_SCHEMA,
+    TEXT_TYPE,
+    READ_JSON,
+    PACKED,
+    TEXTS,
+];
 
 /// The words of `check`.
 pub(crate) const CHECK: Words = Words {
@@ -183,6 +207,7 @@ pub(crate) fn show_of<'a, 'b>(matches: &'b ArgMatches<'a>) -> Option<Task<'a, 'b
         request,
         name: matches.get_str("type"),
         calls: matches.get_str("calls"),
+        notation: printed_notation_of(matches),
         path,
     })))
 }
@@ -193,6 +218,7 @@ pub(crate) fn encode_of<'a, 'b>(matches: &'b ArgMatches<'a>) -> Option<Task<'a, 
         mode: mode_of(matches),
         request: matches.get_str("schema")?,
         name: matches.get_str("type")?,
+        notation: notation_of(matches),
         path: matches.get_str("FILE").unwrap_or(STDIN),
     })))
 }

@@ -54,7 +54,7 @@ fn show_structs(
 
 /// How messages are shown as structs of this name, if the schema has it.
 fn structs_plan<'s>(plan: &ShowPlan<'_>, schema: &'s Schema, name: &str) -> Option<Plan<'s>> {
-    let decoder = Decoder::by_name(schema, name)?;
+    let decoder = Decoder::by_name(schema, name)?.written_as(plan.notation);
     Some(Plan::Decode {
         mode: plan.mode,
         limits: plan.limits,
@@ -138,7 +138,7 @@ fn no_struct(rt: &HostRuntime, plan: &EncodePlan<'_>, schema: &Schema) -> io::Re
 
 /// By what texts are read, if the schema has such a struct.
 fn encoding_of<'s>(plan: &EncodePlan<'_>, schema: &'s Schema) -> Option<Encoding<'s>> {
-    let encoder = Encoder::by_name(schema, plan.name)?;
+    let encoder = Encoder::by_name(schema, plan.name)?.written_as(plan.notation);
     let mode = plan.mode;
     Some(Encoding { encoder, mode })
 }

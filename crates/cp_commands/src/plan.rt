@@ -11,7 +11,7 @@ use cp_frame::{FrameReader, Mode};
 use cp_lines::push_line;
 use cp_reading::{View, read_root};
 use cp_rpc::{MessageView, SchemaFault};
-use cp_schema::{Decoder, message_line};
+use cp_schema::{Decoder, push_message};
 use cp_stream::{Refusal, check_in, view_in};
 use cp_words::{Limits, Segments};
 use cp_writing::write_segments;
@@ -128,7 +128,7 @@ impl Plan<'_> {
                 limits,
                 decoder,
                 ..
-            } => decode(alloc, segments, *limits, decoder, out),
+            } => decode(segments, *limits, decoder, last, out),
             Plan::Name { limits, names, .. } => name(segments, *limits, names, last, out),
             Plan::Check { limits, .. } => Ok(check_in(segments, *limits)?),
             Plan::Pack => last.batch.put(segments, Mode::Packed, out),
@@ -322,17 +322,16 @@ fn shown_in<'a>(segments: &'a Segments, limits: Limits) -> Result<MessageView<'a
 
 /// Writes the message's line by a struct of a schema.
 fn decode<W: Write>(
-    alloc: Global,
     segments: &Segments,
     limits: Limits,
     decoder: &Decoder<'_>,
+    last: &mut Last,
     out: &mut W,
 ) -> Result<(), Stop> {
     let view = View::root(segments, limits)?;
-    let text = message_line(alloc, decoder, view)?;
-    let written = out.write_all(text.as_bytes());
-    drop(text);
-    Ok(written?)
+    last.line.clear();
+    push_message(last.alloc, &mut last.line, decoder, view)?;
+    Ok(out.write_all(last.line.as_bytes())?)
 }
 
 /// Writes the frame's tree again, in segments of at most this many words.

@@ -2,6 +2,7 @@
 
 use crate::plan::Plan;
 use cp_frame::Mode;
+use cp_schema::Notation;
 use cp_words::Limits;
 use std::fmt;
 use std::net::SocketAddr;
@@ -39,6 +40,8 @@ pub struct ShowPlan<'a> {
     pub name: Option<&'a str>,
     /// The path of the other direction's messages, whose calls they return from.
     pub calls: Option<&'a str>,
+    /// How structs are written.
+    pub notation: Notation,
     pub path: &'a str,
 }
 
@@ -49,6 +52,7 @@ pub struct EncodePlan<'a> {
     /// The path of the file that has the schema.
     pub request: &'a str,
     pub name: &'a str,
+    pub notation: Notation,
     pub path: &'a str,
 }
 
@@ -179,6 +183,8 @@ pub struct CallPlan<'a, 'b> {
     pub timeout: Option<u32>,
     /// The path of the file that has the schema by which calls are named, and results printed.
     pub request: Option<&'a str>,
+    /// How params and results are written by that schema.
+    pub notation: Notation,
     /// `HOST:PORT`, or the path of a Unix socket, which has a slash or comes after `unix:`.
     pub address: &'a str,
     pub calls: &'b [&'a str],

@@ -2,7 +2,7 @@
 
 use crate::batch::Batch;
 use crate::fault::Stop;
-use crate::status::{ACCEPTED, REFUSED};
+use crate::status::{ACCEPTED, BROKEN, REFUSED};
 use crate::stop::stopped;
 use cp_encoder::{EncodeFault, Encoder, NotationFault, Splitter};
 use cp_frame::Mode;
@@ -62,11 +62,11 @@ struct Texts {
 }
 
 impl Texts {
-    /// Nothing read yet.
-    fn new(alloc: Global) -> Texts {
+    /// Nothing read yet of texts, or of objects of JSON.
+    fn new(alloc: Global, is_json: bool) -> Texts {
         Texts {
             alloc,
-            splitter: Splitter::new(),
+            splitter: Splitter::new(is_json),
             text: Vec::new(alloc),
             line: 1,
             column: 1,
@@ -205,7 +205,7 @@ impl Texts {
 }
 
 /// Makes a frame of each text that a reader gives. What is made before a fault is written. The status is 0 where all texts
-/// were right, 1 where one is refused, which a line to `err` says, and 2 where a device failed.
+/// were right, 1 where one is refused, which a line to `err` says, and 2 where that one is JSON, or a device failed.
 pub fn encode<R: Read, W: Write, E: Write>(
     alloc: Global,
     by: &Encoding<'_>,
@@ -213,12 +213,12 @@ pub fn encode<R: Read, W: Write, E: Write>(
     out: &mut W,
     err: &mut E,
 ) -> u8 {
-    let mut texts = Texts::new(alloc);
+    let mut texts = Texts::new(alloc, by.encoder.is_json());
     let done = texts.read_all(by, from, out);
     let flushed = texts.flush(out);
     drop(texts);
     match flushed {
-        Ok(()) => ended(done, err),
+        Ok(()) => ended(done, by.encoder.is_json(), err),
         Err(error) => {
             drop(done);
             stopped(Stop::Writing(error), 0, err)
@@ -227,13 +227,13 @@ pub fn encode<R: Read, W: Write, E: Write>(
 }
 
 /// Says why texts ended, if not at their end, and answers the status.
-fn ended<E: Write>(done: Result<(), Halt>, err: &mut E) -> u8 {
+fn ended<E: Write>(done: Result<(), Halt>, is_json: bool, err: &mut E) -> u8 {
     match done {
         Ok(()) => ACCEPTED,
         Err(Halt::Text(fault)) => {
             let _ = writeln!(err, "refused at {fault}");
             drop(fault);
-            REFUSED
+            if is_json { BROKEN } else { REFUSED }
         }
         Err(Halt::Stop(stop)) => stopped(stop, 0, err),
     }

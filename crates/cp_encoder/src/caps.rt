@@ -16,9 +16,26 @@ impl<'s, 't> Reader<'s, 't> {
             self.miss("null, since a message by itself has no capabilities");
             return TextValue::Null;
         }
-        let mut words = String::new(self.alloc);
-        self.cap_words(&mut words);
+        let words = if self.is_json {
+            self.cap_string()
+        } else {
+            let mut words = String::new(self.alloc);
+            self.cap_words(&mut words);
+            words
+        };
         self.add_cap(words)
+    }
+
+    /// What a string of JSON has that names a capability.
+    fn cap_string(&mut self) -> String {
+        let Token::Text(raw) = self.token else {
+            self.miss("null, or a capability such as \"question:1[0]\"");
+            return String::new(self.alloc);
+        };
+        let bytes = self.unescaped(raw);
+        self.advance();
+        // It is UTF-8, as each string of JSON is.
+        String::from_utf8(bytes).unwrap_or(String::new(self.alloc))
     }
 
     /// Adds a capability to those that were named.

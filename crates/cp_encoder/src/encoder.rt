@@ -4,15 +4,16 @@ use crate::fault::EncodeFault;
 use crate::making::object_of;
 use crate::reader::Reader;
 use crate::room::Room;
-use cp_schema::{Node, NodeKind, Schema, Structure};
+use cp_schema::{Node, Notation, Schema, Structure};
 use cp_tree::Object;
 use std::alloc::Global;
 
-/// By what texts are read: a schema, and the struct that each text is.
+/// By what texts are read: a schema, the struct that each text is, and whether it is JSON.
 #[derive(Clone, Copy)]
 pub struct Encoder<'s> {
     schema: &'s Schema,
     of: &'s Structure,
+    is_json: bool,
 }
 
 /// A struct, and the capabilities that its text names, in the notation of scripts and in the order of their numbers.
@@ -38,6 +39,19 @@ impl<'s> Encoder<'s> {
         Encoder::of(schema, schema.find(id)?)
     }
 
+    /// The same in this notation.
+    pub fn written_as(self, notation: Notation) -> Encoder<'s> {
+        Encoder {
+            is_json: notation.is_json(),
+            ..self
+        }
+    }
+
+    /// Whether texts are JSON.
+    pub fn is_json(&self) -> bool {
+        self.is_json
+    }
+
     /// The struct that a text is, which names no capability.
     pub fn object(&self, alloc: Global, text: &[u8]) -> Result<Object, EncodeFault> {
         let Encoded { object, caps: _ } = self.read(alloc, text, None)?;
@@ -56,7 +70,7 @@ impl<'s> Encoder<'s> {
         text: &[u8],
         caps: Option<Vec<String>>,
     ) -> Result<Encoded, EncodeFault> {
-        let mut reader = Reader::new(alloc, self.schema, text, caps);
+        let mut reader = Reader::new(alloc, self.schema, self.is_json, text, caps);
         let fields = reader.body(self.of, Room::in_root());
         match reader.end() {
             Ok(caps) => {
@@ -73,10 +87,11 @@ impl<'s> Encoder<'s> {
 
     /// By this node of a schema, if it is a struct.
     fn of(schema: &'s Schema, node: &'s Node) -> Option<Encoder<'s>> {
-        match &node.kind {
-            NodeKind::Struct(of) => Some(Encoder { schema, of }),
-            _ => None,
-        }
+        Some(Encoder {
+            schema,
+            of: node.structure()?,
+            is_json: false,
+        })
     }
 }
 

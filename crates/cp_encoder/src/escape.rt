@@ -39,7 +39,7 @@ pub(crate) fn push_hex(bytes: &mut Vec<u8>, raw: &[u8]) -> Result<bool, AllocErr
 }
 
 /// What of a text stands for itself, and what comes from its first escape on.
-fn before_escape(text: &[u8]) -> (&[u8], &[u8]) {
+pub(crate) fn before_escape(text: &[u8]) -> (&[u8], &[u8]) {
     for (place, byte) in text.iter().enumerate() {
         if *byte == b'\\' {
             return (&text[..place], &text[place..]);
@@ -94,7 +94,7 @@ fn meant_by(mark: u8) -> Option<u8> {
 }
 
 /// What a digit counts.
-fn digit_of(byte: u8, radix: u32) -> Option<u8>
+pub(crate) fn digit_of(byte: u8, radix: u32) -> Option<u8>
     requires least { 2 ≤ radix }
     requires greatest { radix ≤ 36 }
 {

@@ -37,7 +37,13 @@ impl<'s, 't> Reader<'s, 't> {
     }
 
     /// Notes that a field is given, unless it is already, or another one of its union.
-    fn note(&mut self, of: &Structure, given: &mut Given, index: usize, field: &StructField) {
+    pub(crate) fn note(
+        &mut self,
+        of: &Structure,
+        given: &mut Given,
+        index: usize,
+        field: &StructField,
+    ) {
         let earlier = given.note(index, field.is_member());
         match earlier {
             Ok(None) => {}

@@ -6,30 +6,35 @@ use crate::numbers::{is_pointer, width_of};
 use crate::reader::Reader;
 use crate::room::Room;
 use crate::value::{Fields, TextPointer, TextValue};
-use cp_schema::{Base, FieldKind, Slot, Structure, Type};
+use cp_schema::{Base, DataForm, FieldKind, Slot, StructField, Structure, Type, UnionNames};
 
 impl<'s, 't> Reader<'s, 't> {
     /// A struct.
     #[cycle(value)]
     pub(crate) fn body(&mut self, of: &Structure, room: Room) -> Fields {
-        let mut fields = Fields {
+        let mut fields = self.no_fields(of);
+        self.fields(of, of.json.union_names(None), &mut fields, room);
+        fields
+    }
+
+    /// A struct whose fields aren't given.
+    pub(crate) fn no_fields(&self, of: &Structure) -> Fields {
+        Fields {
             words: of.words,
             pointers: of.pointers,
             numbers: Vec::new(self.alloc),
             values: Vec::new(self.alloc),
-        };
-        self.fields(of, &mut fields, room);
-        fields
+        }
     }
 
-    /// What a pointer of this type stands for.
+    /// What a pointer of this type stands for. Data has this form in JSON.
     #[cycle(value)]
-    pub(crate) fn pointer(&mut self, of: Type, room: Room) -> TextValue {
+    pub(crate) fn pointer(&mut self, of: Type, data: DataForm, room: Room) -> TextValue {
         if of.lists == 0 && matches!(of.of, Base::Interface(_) | Base::AnyPointer) {
             return self.cap();
         }
         let Some(inner) = room.inside() else {
-            self.miss("structs and lists that lie no more than 64 deep within one another");
+            self.miss_depth();
             return TextValue::Null;
         };
         if of.lists > 0 {
@@ -41,7 +46,7 @@ impl<'s, 't> Reader<'s, 't> {
         }
         match of.of {
             Base::Struct(id) => self.inner_struct(id, inner),
-            Base::Data => self.data_bytes(),
+            Base::Data => self.data_bytes(data),
             _ => self.text(),
         }
     }
@@ -58,11 +63,15 @@ impl<'s, 't> Reader<'s, 't> {
         }
     }
 
-    /// The fields of a struct or a group.
+    /// The fields of a struct or a group, whose union has these names in JSON.
     #[cycle(value)]
-    fn fields(&mut self, of: &Structure, into: &mut Fields, room: Room) {
+    fn fields(&mut self, of: &Structure, names: UnionNames<'_>, into: &mut Fields, room: Room) {
+        if self.is_json {
+            self.object(of, names, into, room);
+            return;
+        }
         self.skip(b'(', "( and fields");
-        let mut given = Given::new(self.alloc);
+        let mut given = Given::new(self.alloc, None);
         for place in 0..=self.most() {
             if !self.goes_on(place, b')', ", or )") {
                 break;
@@ -81,18 +90,24 @@ impl<'s, 't> Reader<'s, 't> {
         if field.is_member() {
             self.tag(of, field.tag, into);
         }
+        self.content(field, into, room);
+    }
+
+    /// The value of a field.
+    #[cycle(value)]
+    pub(crate) fn content(&mut self, field: &StructField, into: &mut Fields, room: Room) {
         match &field.kind {
             FieldKind::Slot(slot) => self.slot(slot, into, room),
-            FieldKind::Group(id) => self.group(*id, into, room),
+            FieldKind::Group(id) => self.group(*id, field.union_names(), into, room),
             FieldKind::Unknown => self.miss("a field of a kind that is known"),
         }
     }
 
-    /// The fields of the group of this node.
+    /// The fields of the group of this node, whose union has these names in JSON.
     #[cycle(value)]
-    fn group(&mut self, id: u64, into: &mut Fields, room: Room) {
+    fn group(&mut self, id: u64, names: UnionNames<'_>, into: &mut Fields, room: Room) {
         match (self.structure(id), room.in_group()) {
-            (Some(of), Some(inner)) => self.fields(of, into, inner),
+            (Some(of), Some(inner)) => self.fields(of, names, into, inner),
             _ => self.miss("a group that the schema has"),
         }
     }
@@ -101,7 +116,7 @@ impl<'s, 't> Reader<'s, 't> {
     #[cycle(value)]
     fn slot(&mut self, slot: &Slot, into: &mut Fields, room: Room) {
         if is_pointer(slot.of) {
-            let value = self.pointer(slot.of, room);
+            let value = self.pointer(slot.of, slot.data, room);
             let place = slot.place;
             self.push(&mut into.values, TextPointer { place, value });
         } else {
@@ -136,7 +151,7 @@ impl<'s, 't> Reader<'s, 't> {
             if !self.goes_on(place, END, WANTED) {
                 break;
             }
-            let value = self.pointer(element, room);
+            let value = self.pointer(element, DataForm::Numbers, room);
             self.push(&mut items, value);
         }
         TextValue::Pointers(items)

@@ -1,11 +1,12 @@
 //! Numbers, bools and values of enums.
 
+use crate::json::{real_of, whole_of};
 use crate::nearest::Nearest;
 use crate::number::{bits_of_float, float_of, infinity, integer_of, nan, sign_bit};
 use crate::reader::Reader;
 use crate::token::Token;
 use crate::value::Width;
-use cp_schema::{Base, Node, NodeKind, Type};
+use cp_schema::{Base, Enumerant, Node, NodeKind, Type};
 
 /// How many bits a value of this type has, which is no pointer. `None`: it has none.
 pub(crate) fn width_of(of: Base) -> Option<Width> {
@@ -63,23 +64,19 @@ impl<'s, 't> Reader<'s, 't> {
 
     /// The value of type Void.
     pub(crate) fn void(&mut self) {
-        match self.token {
-            Token::Name(b"void") => self.advance(),
-            _ => self.miss("void"),
+        match (self.token, self.is_json) {
+            (Token::Name(b"void"), false) | (Token::Name(b"null"), true) => self.advance(),
+            (_, false) => self.miss("void"),
+            (_, true) => self.miss("null"),
         }
     }
 
     /// The bits of a whole number of this width.
     fn integer(&mut self, of: Base, width: u32) -> u64 {
         let before = self.mark();
-        let is_negative = self.takes(b'-');
-        let size = match self.token {
-            Token::Number(numeral) => integer_of(numeral),
-            _ => None,
-        };
         let is_signed = matches!(of, Base::Signed(_));
-        match size {
-            Some(size) if is_in_range(is_signed, width, is_negative, size) => {
+        match self.whole() {
+            Some((is_negative, size)) if is_in_range(is_signed, width, is_negative, size) => {
                 self.advance();
                 if is_negative {
                     0_u64.wrapping_sub(size) & mask(width)
@@ -94,8 +91,54 @@ impl<'s, 't> Reader<'s, 't> {
         }
     }
 
+    /// The sign and the size of the whole number that is next. Its sign is taken off, where it is a token of its own.
+    fn whole(&mut self) -> Option<(bool, u64)> {
+        if self.is_json {
+            return match self.token {
+                Token::Number(numeral) | Token::Text(numeral) => whole_of(numeral),
+                _ => None,
+            };
+        }
+        let is_negative = self.takes(b'-');
+        match self.token {
+            Token::Number(numeral) => Some((is_negative, integer_of(numeral)?)),
+            _ => None,
+        }
+    }
+
+    /// The bits of a float of this width, as JSON has it.
+    fn json_float(&mut self, width: u32) -> u64 {
+        let found = match self.token {
+            Token::Text(b"NaN") | Token::Name(b"null") => Some((false, nan(width))),
+            Token::Text(b"Infinity") => Some((false, infinity(width))),
+            Token::Text(b"-Infinity") => Some((true, infinity(width))),
+            Token::Number(numeral) | Token::Text(numeral) => real_of(numeral).map(|(
+                is_negative,
+                x,
+            )| (is_negative, bits_of_float(width, x))),
+            _ => None,
+        };
+        match found {
+            Some((is_negative, bits)) => {
+                self.advance();
+                if is_negative {
+                    bits ^ sign_bit(width)
+                } else {
+                    bits
+                }
+            }
+            None => {
+                self.miss("a number, \"NaN\", \"Infinity\" or \"-Infinity\"");
+                0
+            }
+        }
+    }
+
     /// The bits of a float of this width.
     fn float(&mut self, width: u32) -> u64 {
+        if self.is_json {
+            return self.json_float(width);
+        }
         let is_negative = self.takes(b'-');
         let bits = match self.token {
             Token::Name(b"inf") => Some(infinity(width)),
@@ -121,6 +164,9 @@ impl<'s, 't> Reader<'s, 't> {
 
     /// The number of a value of the enum of this node: by its name, or by a number between brackets.
     fn enum_value(&mut self, id: u64) -> u64 {
+        if self.is_json {
+            return self.json_enum(id);
+        }
         if self.takes(b'(') {
             let number = self.integer(Base::Unsigned(16), 16);
             self.skip(b')', ")");
@@ -136,18 +182,33 @@ impl<'s, 't> Reader<'s, 't> {
                 number
             }
             None => {
-                self.miss_enum(id);
+                let name = match self.token {
+                    Token::Name(name) => name,
+                    _ => &[],
+                };
+                self.miss_enum(id, name);
                 0
             }
         }
     }
 
-    /// Ends the reading here, where a value of the enum of this number is wanted.
-    fn miss_enum(&mut self, id: u64) {
-        let name = match self.token {
-            Token::Name(name) => name,
-            _ => &[],
+    /// The number of a value of the enum of this node in JSON: by its name, or by its number.
+    fn json_enum(&mut self, id: u64) -> u64 {
+        let Token::Text(raw) = self.token else {
+            return self.integer(Base::Unsigned(16), 16);
         };
+        let name = self.unescaped(raw);
+        let found = self.number_of(id, &name);
+        match found {
+            Some(_) => self.advance(),
+            None => self.miss_enum(id, &name),
+        }
+        drop(name);
+        found.unwrap_or(0)
+    }
+
+    /// Ends the reading here, where a value of the enum of this number is wanted, and not this name.
+    fn miss_enum(&mut self, id: u64, name: &[u8]) {
         match self.schema.find(id) {
             Some(node) => self.miss_value(node, name),
             None => self.miss("a value of an enum that the schema has"),
@@ -159,7 +220,7 @@ impl<'s, 't> Reader<'s, 't> {
         let mut nearest = Nearest::new(self.alloc, name);
         if let NodeKind::Enum(items) = &node.kind {
             for item in items {
-                nearest.add(item.as_str());
+                nearest.add(self.name_of(item));
             }
         }
         let wanted = nearest.wanted(node.name());
@@ -172,8 +233,21 @@ impl<'s, 't> Reader<'s, 't> {
         let NodeKind::Enum(items) = &self.schema.find(id)?.kind else {
             return None;
         };
-        let place = items.iter().position(|item| item.as_bytes() == name)?;
-        Some(place as u64)
+        for (place, item) in items.iter().enumerate() {
+            if self.name_of(item).as_bytes() == name {
+                return Some(place as u64);
+            }
+        }
+        None
+    }
+
+    /// The name of a value of an enum.
+    fn name_of<'e>(&self, item: &'e Enumerant) -> &'e str {
+        if self.is_json {
+            item.json_name()
+        } else {
+            item.name.as_str()
+        }
     }
 }
 

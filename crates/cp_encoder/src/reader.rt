@@ -1,9 +1,10 @@
 //! A text, token by token.
 
 use crate::fault::{EncodeFault, NotationFault};
+use crate::json::after_json_blanks;
 use crate::naming::put_type;
-use crate::token::{Token, after_blanks, first_token};
-use cp_schema::{NodeKind, Schema, Structure, Type};
+use crate::token::{Token, after_blanks, first_json_token, first_token};
+use cp_schema::{Schema, Structure, Type};
 use std::alloc::{AllocError, Global};
 
 /// How many bytes of a token a fault shows at most.
@@ -14,6 +15,7 @@ const SHOWN: usize = 40;
 pub(crate) struct Reader<'s, 't> {
     pub(crate) alloc: Global,
     pub(crate) schema: &'s Schema,
+    pub(crate) is_json: bool,
     text: &'t [u8],
     /// The token that is next.
     pub(crate) token: Token<'t>,
@@ -31,12 +33,14 @@ impl<'s, 't> Reader<'s, 't> {
     pub(crate) fn new(
         alloc: Global,
         schema: &'s Schema,
+        is_json: bool,
         text: &'t [u8],
         caps: Option<Vec<String>>,
     ) -> Reader<'s, 't> {
         let mut reader = Reader {
             alloc,
             schema,
+            is_json,
             text,
             token: Token::End,
             from: text,
@@ -56,6 +60,7 @@ impl<'s, 't> Reader<'s, 't> {
         let Reader {
             alloc,
             schema: _,
+            is_json: _,
             text: _,
             token: _,
             from: _,
@@ -75,10 +80,23 @@ impl<'s, 't> Reader<'s, 't> {
 
     /// Goes on to the token after the next.
     pub(crate) fn advance(&mut self) {
-        self.from = after_blanks(self.rest);
-        let (token, rest) = first_token(self.from);
+        let (token, rest) = if self.is_json {
+            self.from = after_json_blanks(self.rest);
+            first_json_token(self.from)
+        } else {
+            self.from = after_blanks(self.rest);
+            first_token(self.from)
+        };
         self.token = token;
         self.rest = rest;
+    }
+
+    /// Goes back to the token that was next when this was left, unless the reading has ended.
+    pub(crate) fn go_to(&mut self, left: &'t [u8]) {
+        if self.is_right() {
+            self.rest = left;
+            self.advance();
+        }
     }
 
     /// Whether nothing was wrong so far.
@@ -112,14 +130,14 @@ impl<'s, 't> Reader<'s, 't> {
         }
     }
 
-    /// Whether a row has a part at this place. Takes the comma before it off, or the row's end, before which a comma may be.
+    /// Whether a row has a part at this place. Takes the comma before it off, or the row's end, before which a comma may be in texts.
     pub(crate) fn goes_on(&mut self, place: usize, end: u8, wanted: &str) -> bool {
         if self.takes(end) {
             return false;
         }
         if place > 0 {
             self.skip(b',', wanted);
-            if self.takes(end) {
+            if !self.is_json && self.takes(end) {
                 return false;
             }
         }
@@ -154,6 +172,11 @@ impl<'s, 't> Reader<'s, 't> {
             }
             Err(_) => self.starve(),
         }
+    }
+
+    /// Ends the reading here, where structs and lists would lie too deep.
+    pub(crate) fn miss_depth(&mut self) {
+        self.miss("structs and lists that lie no more than 64 deep within one another");
     }
 
     /// Ends the reading here, where a value of this type is wanted.
@@ -200,10 +223,7 @@ impl<'s, 't> Reader<'s, 't> {
 
     /// The struct of this number, if the schema has it.
     pub(crate) fn structure(&self, id: u64) -> Option<&'s Structure> {
-        match &self.schema.find(id)?.kind {
-            NodeKind::Struct(of) => Some(of),
-            _ => None,
-        }
+        self.schema.find(id)?.structure()
     }
 
     /// Ends the reading here.

@@ -18,6 +18,7 @@ enum Within {
 /// How far a text was followed.
 #[derive(Clone, Copy)]
 pub struct Splitter {
+    is_json: bool,
     within: Within,
     /// How many brackets are open.
     depth: usize,
@@ -35,9 +36,10 @@ pub struct Piece<'t> {
 }
 
 impl Splitter {
-    /// A text of which nothing came yet.
-    pub fn new() -> Splitter {
+    /// A text of which nothing came yet, or an object of JSON.
+    pub fn new(is_json: bool) -> Splitter {
         Splitter {
+            is_json,
             within: Within::Plain,
             depth: 0,
             is_begun: false,
@@ -56,7 +58,7 @@ impl Splitter {
     {
         for (place, byte) in piece.iter().enumerate() {
             if self.ends_with(*byte) {
-                *self = Splitter::new();
+                *self = Splitter::new(self.is_json);
                 return Piece {
                     text: &piece[..place + 1],
                     rest: &piece[place + 1..],
@@ -85,14 +87,22 @@ impl Splitter {
 
     /// Follows a byte that is in no comment, and in no text between quotes. Says whether the text ends with it.
     fn plain(&mut self, byte: u8) -> bool {
-        match byte {
-            b'#' => self.within = Within::Comment,
-            b'"' => self.within = Within::Quotes,
-            b'(' => self.depth = self.depth.saturating_add(1),
-            b')' => self.depth = self.depth.saturating_sub(1),
-            _ => {}
+        let (open, close) = if self.is_json {
+            (b'{', b'}')
+        } else {
+            (b'(', b')')
+        };
+        let begins_comment = byte == b'#' && !self.is_json;
+        if begins_comment {
+            self.within = Within::Comment;
+        } else if byte == b'"' {
+            self.within = Within::Quotes;
+        } else if byte == open {
+            self.depth = self.depth.saturating_add(1);
+        } else if byte == close {
+            self.depth = self.depth.saturating_sub(1);
         }
-        self.is_begun = self.is_begun || byte != b'#' && !is_blank(byte);
-        byte == b')' && self.depth == 0
+        self.is_begun = self.is_begun || !begins_comment && !is_blank(byte);
+        byte == close && self.depth == 0
     }
 }

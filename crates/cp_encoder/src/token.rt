@@ -24,6 +24,8 @@ pub(crate) enum Token<'t> {
 enum Class {
     Name,
     Number,
+    /// A number of JSON, with its sign.
+    Signed,
 }
 
 impl Class {
@@ -34,6 +36,7 @@ impl Class {
             Class::Number => {
                 is_of_name(byte) || byte == b'.' || is_sign(byte) && (before | 32) == b'e'
             }
+            Class::Signed => is_of_name(byte) || byte == b'.' || is_sign(byte),
         }
     }
 }
@@ -51,6 +54,17 @@ pub(crate) fn first_token(text: &[u8]) -> (Token<'_>, &[u8]) {
             (Token::Name(name), rest)
         }
         byte => (Token::Mark(byte), after),
+    }
+}
+
+/// The first token of JSON, and what comes after it. A number has its sign.
+pub(crate) fn first_json_token(text: &[u8]) -> (Token<'_>, &[u8]) {
+    match text {
+        [b'-' | b'0'..=b'9', ..] => {
+            let (number, rest) = cut(text, Class::Signed);
+            (Token::Number(number), rest)
+        }
+        text => first_token(text),
     }
 }
 

@@ -2,13 +2,13 @@
 
 ghost use Rattle.std.specs.Prelude.{◌≡◌, ◌+◌, IfOk, length};
 
-use crate::fault::{missed, missed_made};
+use crate::fault::{behind, missed, missed_made};
 use crate::finding::{interface_named, interface_of, lineage, method_at, method_named, own_method};
 use crate::given::GivenKind;
 use crate::mentions::Mentions;
-use crate::word::{Part, Word};
+use crate::word::{Part, Word, text_of};
 use cp_encoder::{EncodeFault, Encoded, Encoder, Nearest, name_of, put_name};
-use cp_schema::{MethodNumber, Schema};
+use cp_schema::{MethodNumber, Notation, Schema};
 use std::alloc::{AllocError, Global};
 
 /// A call that a word names.
@@ -26,6 +26,8 @@ pub struct NamedCall {
 pub struct CallReader<'s> {
     pub(crate) alloc: Global,
     pub(crate) schema: &'s Schema,
+    /// How params are written.
+    notation: Notation,
     /// Of each call so far, the struct of its results, if the schema has it.
     results: Vec<Option<u64>>,
 }
@@ -38,11 +40,12 @@ struct Called {
 }
 
 impl<'s> CallReader<'s> {
-    /// No call so far.
-    pub fn new(alloc: Global, schema: &'s Schema) -> CallReader<'s> {
+    /// No call so far, where params are written so.
+    pub fn new(alloc: Global, schema: &'s Schema, notation: Notation) -> CallReader<'s> {
         CallReader {
             alloc,
             schema,
+            notation,
             results: Vec::new(alloc),
         }
     }
@@ -181,15 +184,20 @@ impl<'s> CallReader<'s> {
         word: &Word<'_>,
         number: MethodNumber,
     ) -> Result<Option<Encoded>, EncodeFault> {
-        let text: &[u8] = match word.params.first().copied() {
-            Some(b'(') => word.params,
-            None => b"()",
+        let text: &[u8] = match (self.notation.is_json(), word.params.first().copied()) {
+            (false, Some(b'(')) | (true, Some(b'{')) => word.params,
+            (false, None) => b"()",
+            (true, None) => b"{}",
+            (true, Some(b'(')) => return Err(self.missed_json(word)),
             _ => return Ok(None),
         };
         let Some(encoder) = self.encoder(number) else {
             let wanted = "a method whose params the schema has";
             return Err(missed(self.alloc, word.method.column, wanted, word.method.text));
         };
+        if self.notation.is_json() {
+            return Ok(Some(self.json_params(encoder, text, word.before)?));
+        }
         let mentions = Mentions::read(self, text, word.before)?;
         let encoded = encoder.encoded(self.alloc, &mentions.text);
         let placed = match encoded {
@@ -198,6 +206,68 @@ impl<'s> CallReader<'s> {
         };
         drop(mentions);
         placed
+    }
+
+    /// Params in JSON, before which so many bytes of the word stand.
+    fn json_params(
+        &self,
+        encoder: Encoder<'s>,
+        text: &[u8],
+        before: usize,
+    ) -> Result<Encoded, EncodeFault> {
+        match encoder.written_as(self.notation).encoded(self.alloc, text) {
+            Ok(encoded) => self.with_numbers(encoded, before.saturating_add(1)),
+            Err(fault) => Err(behind(before, fault)),
+        }
+    }
+
+    /// A struct, given in this column, whose capabilities are named by the numbers of pointers in the place of fields.
+    fn with_numbers(&self, encoded: Encoded, column: usize) -> Result<Encoded, EncodeFault> {
+        let Encoded { object, caps } = encoded;
+        match self.numbered(caps, column) {
+            Ok(caps) => Ok(Encoded { object, caps }),
+            Err(fault) => {
+                drop(object);
+                Err(fault)
+            }
+        }
+    }
+
+    /// Capabilities by the numbers of pointers.
+    fn numbered(&self, names: Vec<String>, column: usize) -> Result<Vec<String>, EncodeFault> {
+        let mut caps = Vec::new(self.alloc);
+        let added = self.add_numbered(&names, column, &mut caps);
+        drop(names);
+        match added {
+            Ok(()) => Ok(caps),
+            Err(fault) => {
+                drop(caps);
+                Err(fault)
+            }
+        }
+    }
+
+    /// Adds capabilities by the numbers of pointers.
+    fn add_numbered(
+        &self,
+        names: &[String],
+        column: usize,
+        caps: &mut Vec<String>,
+    ) -> Result<(), EncodeFault> {
+        for name in names {
+            let part = Part {
+                text: name.as_str(),
+                column,
+            };
+            caps.push(self.target(part)?)?;
+        }
+        Ok(())
+    }
+
+    /// Params that aren't JSON.
+    fn missed_json(&self, word: &Word<'_>) -> EncodeFault {
+        let column = word.before.saturating_add(1);
+        missed(self.alloc, column, "{ and members", text_of(word.params))
     }
 
     /// By what the params of a method are read.

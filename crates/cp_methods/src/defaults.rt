@@ -57,8 +57,8 @@ impl<'s> Text<'s> {
     fn enumerant(&mut self, id: u64, bits: u64) -> Result<(), AllocError> {
         if let Some(node) = self.schema.find(id) {
             if let NodeKind::Enum(items) = &node.kind {
-                if let Some(name) = items.get(bits as usize) {
-                    return self.put(name.as_str());
+                if let Some(item) = items.get(bits as usize) {
+                    return self.put(item.name.as_str());
                 }
             }
         }

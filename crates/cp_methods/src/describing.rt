@@ -4,7 +4,7 @@ use crate::defaults::bits_of;
 use crate::listing::{put_head, put_types};
 use cp_encoder::{Nearest, put_type};
 use cp_schema::{
-    Comments, FieldKind, Interface, Node, NodeKind, Schema, Slot, StructField, Structure,
+    Comments, Enumerant, FieldKind, Interface, Node, NodeKind, Schema, Slot, StructField, Structure,
 };
 use std::alloc::{AllocError, Global};
 
@@ -148,10 +148,10 @@ impl<'s> Text<'s> {
     }
 
     /// Adds the values of an enum.
-    fn enumerants(&mut self, items: &[String]) -> Result<(), AllocError> {
-        for (place, name) in items.iter().enumerate() {
+    fn enumerants(&mut self, items: &[Enumerant]) -> Result<(), AllocError> {
+        for (place, item) in items.iter().enumerate() {
             self.indent()?;
-            write!(self.lines, "{} @{place};\n", name.as_str())?;
+            write!(self.lines, "{} @{place};\n", item.name.as_str())?;
             self.member_comment(place)?;
         }
         Ok(())

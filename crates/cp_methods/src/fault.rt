@@ -36,3 +36,21 @@ pub(crate) fn missed_made(
         Err(error) => EncodeFault::from(error),
     }
 }
+
+/// A fault of a text before which so many bytes of the word stand.
+pub(crate) fn behind(before: usize, fault: EncodeFault) -> EncodeFault {
+    match fault {
+        EncodeFault::Text(
+            NotationFault {
+                line: 1,
+                column,
+                message,
+            },
+        ) => EncodeFault::Text(NotationFault {
+            line: 1,
+            column: column.saturating_add(before),
+            message,
+        }),
+        fault => fault,
+    }
+}

@@ -17,6 +17,6 @@ mod word;
 pub use calls::{CallReader, NamedCall};
 pub use describing::{describe, nearest_names, type_named};
 pub use listing::list_methods;
-pub use results::results_line;
+pub use results::{ResultsForm, results_line};
 pub use rules::{NamedMethod, RuleFault, named_methods, ruled_method};
 pub use word::{is_named, plain_params};

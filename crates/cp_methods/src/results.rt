@@ -1,7 +1,7 @@
 //! What calls came to, by the names of a schema.
 
 use cp_reading::View;
-use cp_schema::{DecodeFault, MethodNumber, Schema, return_line};
+use cp_schema::{DecodeFault, MethodNumber, Notation, Schema, results_json, return_line};
 use cp_tree::{Tree, Whole};
 use cp_words::{Limits, Segments};
 use cp_writing::write_root;
@@ -10,16 +10,24 @@ use std::alloc::Global;
 /// The pointer to a struct of size zero.
 const EMPTY: u64 = 0xffff_fffc;
 
+/// How results are printed: by the names of a schema, in a notation, within limits.
+#[derive(Clone, Copy)]
+pub struct ResultsForm<'s> {
+    pub schema: &'s Schema,
+    pub notation: Notation,
+    pub limits: Limits,
+}
+
 /// The line of results whose line by numbers is `plain`, with the name of their method, and their fields by its struct of
-/// results. `None`: the schema has no such method, or the results aren't as it says.
+/// results; in JSON the fields alone. `None`: the schema has no such method, or the results aren't as it says.
 pub fn results_line(
     alloc: Global,
-    schema: &Schema,
+    form: &ResultsForm<'_>,
     number: MethodNumber,
     plain: &str,
     results: &Whole,
-    limits: Limits,
 ) -> Result<Option<String>, DecodeFault> {
+    let limits = form.limits;
     let Ok(copy) = results.copy(alloc) else {
         return Err(DecodeFault::OutOfMemory);
     };
@@ -27,11 +35,29 @@ pub fn results_line(
         return Ok(None);
     };
     let line = match View::root(&segments, limits) {
-        Ok(view) => return_line(alloc, schema, number, plain, view),
+        Ok(view) => form.line(alloc, number, plain, view),
         Err(_) => Ok(None),
     };
     drop(segments);
     line
+}
+
+impl ResultsForm<'_> {
+    /// The same of their view.
+    fn line(
+        &self,
+        alloc: Global,
+        number: MethodNumber,
+        plain: &str,
+        results: View<'_>,
+    ) -> Result<Option<String>, DecodeFault> {
+        match self.notation {
+            Notation::Text => return_line(alloc, self.schema, number, plain, results),
+            Notation::Json { is_pretty } => {
+                results_json(alloc, self.schema, number, is_pretty, results)
+            }
+        }
+    }
 }
 
 /// A struct in one segment. A null pointer stands for one whose fields have their defaults.

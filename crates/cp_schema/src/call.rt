@@ -3,6 +3,7 @@
 use crate::decoder::{DecodeFault, Decoder};
 use crate::line::Line;
 use crate::node::{Method, NodeKind, Schema};
+use crate::notation::Notation;
 use cp_reading::View;
 use std::alloc::Global;
 
@@ -51,6 +52,35 @@ pub fn return_line(
     }
 }
 
+/// Results of this method as JSON by their struct, with a line feed. `None`: the schema has no such method, or the results
+/// aren't as it says.
+pub fn results_json(
+    alloc: Global,
+    schema: &Schema,
+    number: MethodNumber,
+    is_pretty: bool,
+    results: View<'_>,
+) -> Result<Option<String>, DecodeFault> {
+    let Some(named) = Named::find(schema, number) else {
+        return Ok(None);
+    };
+    let Some(decoder) = Decoder::by_number(schema, named.method.results) else {
+        return Ok(None);
+    };
+    let decoder = decoder.written_as(Notation::Json { is_pretty });
+    let mut line = decoder.line_after(alloc, String::new(alloc));
+    decoder.put(&mut line, results);
+    right(line.done())
+}
+
+/// A text as JSON, with a line feed.
+pub fn json_string(alloc: Global, schema: &Schema, text: &str) -> Result<String, DecodeFault> {
+    let notation = Notation::Json { is_pretty: false };
+    let mut line = Line::after(alloc, String::new(alloc), schema, notation);
+    line.characters(text);
+    line.done()
+}
+
 impl<'s> Named<'s> {
     /// The method of this number, if a schema has it.
     fn find(schema: &'s Schema, number: MethodNumber) -> Option<Named<'s>> {
@@ -77,7 +107,7 @@ impl<'s> Named<'s> {
         let Some(decoder) = Decoder::by_number(self.schema, structure) else {
             return Ok(None);
         };
-        let mut line = Line::new(alloc);
+        let mut line = decoder.line_after(alloc, String::new(alloc));
         line.put(before(plain, mark));
         line.push(' ');
         line.put(self.interface);
@@ -90,11 +120,16 @@ impl<'s> Named<'s> {
             line.put(" caps[");
             line.put(caps);
         }
-        match line.done() {
-            Ok(text) => Ok(Some(text)),
-            Err(DecodeFault::OutOfMemory) => Err(DecodeFault::OutOfMemory),
-            Err(_) => Ok(None),
-        }
+        right(line.done())
+    }
+}
+
+/// A line, if what it shows is as the schema says.
+fn right(line: Result<String, DecodeFault>) -> Result<Option<String>, DecodeFault> {
+    match line {
+        Ok(text) => Ok(Some(text)),
+        Err(DecodeFault::OutOfMemory) => Err(DecodeFault::OutOfMemory),
+        Err(_) => Ok(None),
     }
 }
 

@@ -1,7 +1,8 @@
 //! The fields of structs.
 
+use crate::annotation::{DataForm, JsonOptions, UnionNames};
 use crate::fault::RequestFault;
-use crate::kind::{DEEPEST, Type, type_of};
+use crate::kind::{Base, DEEPEST, Type, type_of};
 use crate::load::{Load, text_of};
 use crate::value::{SchemaValue, bits_of, value_of};
 use cp_schema_capnp::{FieldReader, FieldSlotReader, FieldWhich};
@@ -17,6 +18,7 @@ pub struct StructField {
     pub ordinal: u16,
     pub kind: FieldKind,
     pub default: SchemaValue,
+    pub json: JsonOptions,
 }
 
 /// What a field is.
@@ -39,6 +41,8 @@ pub struct Slot {
     pub default: u64,
     /// Whether it is a pointer whose default reads otherwise than null.
     pub points: bool,
+    /// How JSON has it, if it is data.
+    pub data: DataForm,
 }
 
 impl StructField {
@@ -46,23 +50,59 @@ impl StructField {
     pub fn is_member(&self) -> bool {
         self.tag != 65_535
     }
+
+    /// Whether it has no bits and is no pointer.
+    pub(crate) fn is_void(&self) -> bool {
+        match &self.kind {
+            FieldKind::Slot(slot) => slot.of.lists == 0 && matches!(slot.of.of, Base::Void),
+            FieldKind::Group(_) | FieldKind::Unknown => false,
+        }
+    }
+
+    /// Its name in JSON.
+    pub fn json_name(&self) -> &str {
+        self.json.name_or(self.name.as_str())
+    }
+
+    /// The names by which the union is written of a group.
+    pub fn union_names(&self) -> UnionNames<'_> {
+        self.json.union_names(Some(self.name.as_str()))
+    }
 }
 
 impl<'n> Load<FieldReader<'n>> for StructField {
     fn load(alloc: Global, view: &FieldReader<'n>) -> Result<StructField, RequestFault> {
         let default = default_of(alloc, view)?;
-        match named(alloc, view, &default) {
-            Ok((name, kind)) => Ok(StructField {
-                name,
-                tag: view.discriminant_value(),
-                ordinal: view.ordinal().explicit(),
-                kind,
-                default,
-            }),
+        match JsonOptions::load(alloc, view.annotations()) {
+            Ok(json) => with_default(alloc, view, default, json),
             Err(fault) => {
                 drop(default);
                 Err(fault)
             }
+        }
+    }
+}
+
+/// A field with this default, which JSON has so.
+fn with_default(
+    alloc: Global,
+    view: &FieldReader<'_>,
+    default: SchemaValue,
+    json: JsonOptions,
+) -> Result<StructField, RequestFault> {
+    match named(alloc, view, &default, json.data) {
+        Ok((name, kind)) => Ok(StructField {
+            name,
+            tag: view.discriminant_value(),
+            ordinal: view.ordinal().explicit(),
+            kind,
+            default,
+            json,
+        }),
+        Err(fault) => {
+            drop(default);
+            drop(json);
+            Err(fault)
         }
     }
 }
@@ -72,8 +112,9 @@ fn named(
     alloc: Global,
     view: &FieldReader<'_>,
     default: &SchemaValue,
+    data: DataForm,
 ) -> Result<(String, FieldKind), RequestFault> {
-    let kind = kind_of(view, default)?;
+    let kind = kind_of(view, default, data)?;
     Ok((text_of(alloc, view.name())?, kind))
 }
 
@@ -86,21 +127,30 @@ fn default_of(alloc: Global, view: &FieldReader<'_>) -> Result<SchemaValue, Requ
 }
 
 /// What a field with this default is.
-fn kind_of(view: &FieldReader<'_>, default: &SchemaValue) -> Result<FieldKind, RequestFault> {
+fn kind_of(
+    view: &FieldReader<'_>,
+    default: &SchemaValue,
+    data: DataForm,
+) -> Result<FieldKind, RequestFault> {
     match view.which() {
-        FieldWhich::Slot => slot_of(&view.slot(), default),
+        FieldWhich::Slot => slot_of(&view.slot(), default, data),
         FieldWhich::Group => Ok(FieldKind::Group(view.group().type_id())),
         FieldWhich::Unknown(_) => Ok(FieldKind::Unknown),
     }
 }
 
 /// Where a field with this default lies.
-fn slot_of(view: &FieldSlotReader<'_>, default: &SchemaValue) -> Result<FieldKind, RequestFault> {
+fn slot_of(
+    view: &FieldSlotReader<'_>,
+    default: &SchemaValue,
+    data: DataForm,
+) -> Result<FieldKind, RequestFault> {
     let of = type_of(&view.type_()?, DEEPEST)?;
     Ok(FieldKind::Slot(Slot {
         place: view.offset(),
         of,
         default: bits_of(&view.default_value()?),
         points: view.had_explicit_default() && default.points(),
+        data,
     }))
 }

@@ -1,5 +1,6 @@
 //! The nodes of a request: its files, structs, enums, interfaces and constants.
 
+use crate::annotation::JsonOptions;
 use crate::fault::RequestFault;
 use crate::field::StructField;
 use crate::kind::{DEEPEST, Type, type_of};
@@ -68,8 +69,8 @@ pub struct Node {
 pub enum NodeKind {
     File,
     Struct(Structure),
-    /// An enum, with the names of its values.
-    Enum(Vec<String>),
+    /// An enum, by its values.
+    Enum(Vec<Enumerant>),
     Interface(Interface),
     Const(ConstNode),
     /// An annotation, or what a newer schema.capnp has.
@@ -88,6 +89,28 @@ pub struct Structure {
     /// Where the number of the member is that is set.
     pub tag_place: u32,
     pub fields: Vec<StructField>,
+    pub json: JsonOptions,
+}
+
+impl Structure {
+    /// Whether a field is the member of the union that is set by this number.
+    pub(crate) fn is_set(&self, field: &StructField, number: u16) -> bool {
+        self.tags > 0 && field.is_member() && field.tag == number
+    }
+}
+
+/// A value of an enum.
+#[derive(Drop)]
+pub struct Enumerant {
+    pub name: String,
+    pub json: JsonOptions,
+}
+
+impl Enumerant {
+    /// Its name in JSON.
+    pub fn json_name(&self) -> &str {
+        self.json.name_or(self.name.as_str())
+    }
 }
 
 /// An interface.
@@ -205,6 +228,16 @@ impl Node {
     }
 }
 
+impl Node {
+    /// The struct or the group that it is.
+    pub fn structure(&self) -> Option<&Structure> {
+        match &self.kind {
+            NodeKind::Struct(of) => Some(of),
+            _ => None,
+        }
+    }
+}
+
 impl<'n> Load<NodeReader<'n>> for Node {
     fn load(alloc: Global, view: &NodeReader<'n>) -> Result<Node, RequestFault> {
         let title = text_of(alloc, view.display_name())?;
@@ -221,7 +254,7 @@ impl<'n> Load<NodeReader<'n>> for Node {
 fn kind_of(alloc: Global, view: &NodeReader<'_>) -> Result<NodeKind, RequestFault> {
     match view.which() {
         NodeWhich::File => Ok(NodeKind::File),
-        NodeWhich::Struct => structure_of(alloc, &view.struct_()),
+        NodeWhich::Struct => structure_of(alloc, view),
         NodeWhich::Enum => Ok(NodeKind::Enum(load_all(alloc, view.enum_().enumerants()?)?)),
         NodeWhich::Interface => interface_of(alloc, &view.interface()),
         NodeWhich::Const => constant_of(alloc, &view.const_()),
@@ -230,15 +263,29 @@ fn kind_of(alloc: Global, view: &NodeReader<'_>) -> Result<NodeKind, RequestFaul
 }
 
 /// A struct or a group.
-fn structure_of(alloc: Global, view: &NodeStructReader<'_>) -> Result<NodeKind, RequestFault> {
-    Ok(NodeKind::Struct(Structure {
-        is_group: view.is_group(),
-        words: view.data_word_count(),
-        pointers: view.pointer_count(),
-        tags: view.discriminant_count(),
-        tag_place: view.discriminant_offset(),
-        fields: load_all(alloc, view.fields()?)?,
-    }))
+fn structure_of(alloc: Global, node: &NodeReader<'_>) -> Result<NodeKind, RequestFault> {
+    let json = JsonOptions::load(alloc, node.annotations())?;
+    let view = node.struct_();
+    match fields_of(alloc, &view) {
+        Ok(fields) => Ok(NodeKind::Struct(Structure {
+            is_group: view.is_group(),
+            words: view.data_word_count(),
+            pointers: view.pointer_count(),
+            tags: view.discriminant_count(),
+            tag_place: view.discriminant_offset(),
+            fields,
+            json,
+        })),
+        Err(fault) => {
+            drop(json);
+            Err(fault)
+        }
+    }
+}
+
+/// The fields of a struct or a group.
+fn fields_of(alloc: Global, view: &NodeStructReader<'_>) -> Result<Vec<StructField>, RequestFault> {
+    load_all(alloc, view.fields()?)
 }
 
 /// An interface.
@@ -267,9 +314,16 @@ fn constant_of(alloc: Global, view: &NodeConstReader<'_>) -> Result<NodeKind, Re
     }))
 }
 
-impl<'n> Load<EnumerantReader<'n>> for String {
-    fn load(alloc: Global, view: &EnumerantReader<'n>) -> Result<String, RequestFault> {
-        text_of(alloc, view.name())
+impl<'n> Load<EnumerantReader<'n>> for Enumerant {
+    fn load(alloc: Global, view: &EnumerantReader<'n>) -> Result<Enumerant, RequestFault> {
+        let name = text_of(alloc, view.name())?;
+        match JsonOptions::load(alloc, view.annotations()) {
+            Ok(json) => Ok(Enumerant { name, json }),
+            Err(fault) => {
+                drop(name);
+                Err(fault)
+            }
+        }
     }
 }
 

@@ -2,7 +2,8 @@
 
 use crate::line::Line;
 use std::num::{
-    nearest_u32_to_f32, nearest_u64_to_f64, saturating_f32_to_u32, saturating_f64_to_u64,
+    f32_to_f64_with_nan, nearest_u32_to_f32, nearest_u64_to_f64, saturating_f32_to_u32,
+    saturating_f64_to_u64,
 };
 
 /// The smallest float of 32 bits that has all its bits.
@@ -24,7 +25,20 @@ pub(crate) fn signed(width: u32, bits: u64) -> (&'static str, u64) {
     }
 }
 
-impl Line {
+impl Line<'_> {
+    /// Adds a whole number of this width. In JSON one of 64 bits is a text, since many readers have no such numbers.
+    pub(crate) fn integer(&mut self, width: u32, sign: &str, size: u64) {
+        let is_quoted = width == 64 && self.is_json();
+        if is_quoted {
+            self.push('"');
+        }
+        self.put(sign);
+        self.unsigned(size);
+        if is_quoted {
+            self.push('"');
+        }
+    }
+
     /// Adds a number.
     pub(crate) fn unsigned(&mut self, number: u64) {
         if write!(self.text, "{number}").is_err() {
@@ -35,6 +49,10 @@ impl Line {
     /// Adds a float of 32 bits: by six digits, or by eight where six say another number, or where it is so small that
     /// it has fewer bits.
     pub(crate) fn float32(&mut self, x: f32) {
+        if self.is_json() {
+            self.float64(f32_to_f64_with_nan(x));
+            return;
+        }
         let size = if x < 0.0 { -x } else { x };
         let count = saturating_f32_to_u32(size * 1000.0 + 0.5);
         // The float nearest to so few thousandths is shown as these: they have six digits at the most.
@@ -43,29 +61,33 @@ impl Line {
             return;
         }
         // The reference tool's digits.
-        let mut short = Line::new(self.alloc);
-        if write!(short.text, "{x:e}").is_err() {
+        let mut short = String::new(self.alloc);
+        if write!(short, "{x:e}").is_err() {
             self.is_full = true;
         }
-        let mut long = Line::new(self.alloc);
+        let mut long = String::new(self.alloc);
         let is_small = x != 0.0 && x > -SMALLEST && x < SMALLEST;
-        let precision = if is_small || digits(short.text.as_str()) > 6 {
+        let precision = if is_small || digits(short.as_str()) > 6 {
             8
         } else {
             6
         };
         let written = match precision {
-            6 => write!(long.text, "{x:.5e}"),
-            _ => write!(long.text, "{x:.7e}"),
+            6 => write!(long, "{x:.5e}"),
+            _ => write!(long, "{x:.7e}"),
         };
         if written.is_err() {
             self.is_full = true;
         }
-        self.general(long.text.as_str(), precision);
+        self.general(long.as_str(), precision);
     }
 
     /// Adds a float of 64 bits: by fifteen digits, or by seventeen where fifteen say another number.
     pub(crate) fn float64(&mut self, x: f64) {
+        if self.is_json() && !x.is_finite() {
+            self.characters(not_finite(x));
+            return;
+        }
         let size = if x < 0.0 { -x } else { x };
         let count = saturating_f64_to_u64(size * 1000.0 + 0.5);
         // As above: they have fifteen digits at the most.
@@ -76,24 +98,20 @@ impl Line {
             self.thousandths(x < 0.0, count);
             return;
         }
-        let mut short = Line::new(self.alloc);
-        if write!(short.text, "{x:e}").is_err() {
+        let mut short = String::new(self.alloc);
+        if write!(short, "{x:e}").is_err() {
             self.is_full = true;
         }
-        let mut long = Line::new(self.alloc);
-        let precision = if digits(short.text.as_str()) > 15 {
-            17
-        } else {
-            15
-        };
+        let mut long = String::new(self.alloc);
+        let precision = if digits(short.as_str()) > 15 { 17 } else { 15 };
         let written = match precision {
-            15 => write!(long.text, "{x:.14e}"),
-            _ => write!(long.text, "{x:.16e}"),
+            15 => write!(long, "{x:.14e}"),
+            _ => write!(long, "{x:.16e}"),
         };
         if written.is_err() {
             self.is_full = true;
         }
-        self.general(long.text.as_str(), precision);
+        self.general(long.as_str(), precision);
     }
 
     /// Adds a number of thousandths, without zeros at its end.
@@ -181,6 +199,17 @@ impl Line {
             }
         }
         self.zeros(last.saturating_add(1).saturating_sub(place));
+    }
+}
+
+/// The word of JSON for a float that isn't finite.
+fn not_finite(x: f64) -> &'static str {
+    if x.is_nan() {
+        "NaN"
+    } else if x < 0.0 {
+        "-Infinity"
+    } else {
+        "Infinity"
     }
 }
 

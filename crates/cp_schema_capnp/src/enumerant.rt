@@ -3,9 +3,10 @@
 ghost use Rattle.std.specs.Prelude.{◌≡◌, []};
 ghost use Rattle.cp_words.specs.declared.pointer.ElementSize.TheVariants as sizes;
 ghost use Rattle.cp_tree.specs.Seen.{pointee_of};
-ghost use Rattle.cp_fields.specs.Pointers.{text_field};
+ghost use Rattle.cp_fields.specs.Pointers.{list_field, text_field};
 
-use cp_fields::{Element, StructReader, TextReader, WrongKind};
+use crate::annotation::AnnotationReader;
+use cp_fields::{Element, List, StructReader, TextReader, WrongKind};
 
 /// Schema for member of an enum.
 #[derive(Drop)]
@@ -36,5 +37,12 @@ impl<'a> EnumerantReader<'a> {
         ensures { result ≡ text_field [] (pointee_of self.now.body 0) }
     {
         self.body.text(0)
+    }
+
+    /// `annotations @2`.
+    pub fn annotations(&self) -> Result<List<'a, AnnotationReader<'a>>, WrongKind>
+        ensures { result ≡ list_field sizes.Composite (pointee_of self.now.body 1) }
+    {
+        self.body.list(1)
     }
 }

@@ -4,12 +4,13 @@ ghost use Rattle.std.specs.Prelude.{◌≡◌, []};
 ghost use Rattle.cp_words.specs.declared.pointer.ElementSize.TheVariants as sizes;
 ghost use Rattle.cp_tree.specs.Seen.{pointee_of};
 ghost use Rattle.cp_fields.specs.Numbers.{flag, plain, uint};
-ghost use Rattle.cp_fields.specs.Pointers.{Reads, struct_field, text_field};
+ghost use Rattle.cp_fields.specs.Pointers.{Reads, list_field, struct_field, text_field};
 ghost use Rattle.cp_schema_capnp.specs.Field.{field_which_of, field_ordinal_which_of};
 
+use crate::annotation::AnnotationReader;
 use crate::type_::TypeReader;
 use crate::value::ValueReader;
-use cp_fields::{Element, StructReader, TextReader, UnknownEnumerant, WrongKind};
+use cp_fields::{Element, List, StructReader, TextReader, UnknownEnumerant, WrongKind};
 
 /// Schema for a field of a struct.
 #[derive(Drop)]
@@ -47,6 +48,13 @@ impl<'a> FieldReader<'a> {
         ensures { result ≡ text_field [] (pointee_of self.now.body 0) }
     {
         self.body.text(0)
+    }
+
+    /// `annotations @2`.
+    pub fn annotations(&self) -> Result<List<'a, AnnotationReader<'a>>, WrongKind>
+        ensures { result ≡ list_field sizes.Composite (pointee_of self.now.body 1) }
+    {
+        self.body.list(1)
     }
 
     /// If the field is in a union, this is the value which the union's discriminant should take when

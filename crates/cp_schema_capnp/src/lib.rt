@@ -1,6 +1,7 @@
 //! The types of schema.capnp, made by capnpc_rattle.
 #![tactic(auto)]
 
+mod annotation;
 mod code_generator_request;
 mod code_generator_request_requested_file;
 mod code_generator_request_requested_file_import;
@@ -14,6 +15,7 @@ mod superclass;
 mod type_;
 mod value;
 
+pub use annotation::AnnotationReader;
 pub use code_generator_request::CodeGeneratorRequestReader;
 pub use code_generator_request_requested_file::CodeGeneratorRequestRequestedFileReader;
 pub use code_generator_request_requested_file_import::CodeGeneratorRequestRequestedFileImportReader;

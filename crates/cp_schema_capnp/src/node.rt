@@ -7,6 +7,7 @@ ghost use Rattle.cp_fields.specs.Numbers.{flag, plain};
 ghost use Rattle.cp_fields.specs.Pointers.{Reads, list_field, struct_field, text_field};
 ghost use Rattle.cp_schema_capnp.specs.Node.{node_which_of};
 
+use crate::annotation::AnnotationReader;
 use crate::enumerant::EnumerantReader;
 use crate::field::FieldReader;
 use crate::method::MethodReader;
@@ -72,6 +73,13 @@ impl<'a> NodeReader<'a> {
         ensures { result ≡ plain self.now.body 64 2 }
     {
         self.body.u64(2)
+    }
+
+    /// Annotations applied to this node.
+    pub fn annotations(&self) -> Result<List<'a, AnnotationReader<'a>>, WrongKind>
+        ensures { result ≡ list_field sizes.Composite (pointee_of self.now.body 2) }
+    {
+        self.body.list(2)
     }
 
     /// Group `struct`.

@@ -8,7 +8,7 @@ use cp_methods::{
     type_named,
 };
 use cp_reading::View;
-use cp_schema::{Decoder, NodeKind, Schema, message_line};
+use cp_schema::{Decoder, NodeKind, Notation, Schema, push_message};
 use cp_tree::Object;
 use cp_words::{Limits, Segments};
 use cp_writing::write_root;
@@ -28,9 +28,12 @@ impl<'s> Said<'s> {
         if words == "--list" {
             return self.text(list_methods(self.alloc, self.schema));
         }
-        match words.strip_prefix("--describe ") {
-            Some(name) => self.text(self.described(name)),
-            None => self.calls(words),
+        if let Some(name) = words.strip_prefix("--describe ") {
+            return self.text(self.described(name));
+        }
+        match words.strip_prefix("--json ") {
+            Some(words) => self.calls(words, Notation::Json { is_pretty: false }),
+            None => self.calls(words, Notation::Text),
         }
     }
 
@@ -59,8 +62,8 @@ impl<'s> Said<'s> {
     }
 
     /// Adds a line for each call of these words: by numbers, and with params as they are shown, or what is wrong with it.
-    fn calls(&mut self, words: &str) -> Result<(), Fault> {
-        let mut reader = CallReader::new(self.alloc, self.schema);
+    fn calls(&mut self, words: &str, notation: Notation) -> Result<(), Fault> {
+        let mut reader = CallReader::new(self.alloc, self.schema, notation);
         let put = self.each_call(&mut reader, words);
         drop(reader);
         put
@@ -147,12 +150,17 @@ fn shown(alloc: Global, decoder: &Decoder<'_>, object: &Object) -> Result<String
         return Err(Fault::Refused);
     };
     let segments = Segments::one(words);
-    let line = match View::root(&segments, limits) {
-        Ok(view) => message_line(alloc, decoder, view).map_err(|_| Fault::Refused),
-        Err(_) => Err(Fault::Refused),
+    let mut line = String::new(alloc);
+    let is_shown = match View::root(&segments, limits) {
+        Ok(view) => push_message(alloc, &mut line, decoder, view).is_ok(),
+        Err(_) => false,
     };
     drop(segments);
-    line
+    if is_shown {
+        return Ok(line);
+    }
+    drop(line);
+    Err(Fault::Refused)
 }
 
 /// What is said of the words of a row by a schema.

@@ -16,6 +16,7 @@ mod stream;
 mod text;
 
 use crate::fault::Fault;
+use cp_schema::Notation;
 use std::alloc::Global;
 use std::process::ExitCode;
 use std::{env, fs};
@@ -28,10 +29,11 @@ const STREAMS: [(&str, &str); 3] = [
 ];
 
 /// The files of rows.
-const ROWS: [Rows; 6] = [
+const ROWS: [Rows; 7] = [
     Rows::Frames,
     Rows::Commands,
     Rows::Texts,
+    Rows::Json,
     Rows::Calls,
     Rows::Messages,
     Rows::Guards,
@@ -43,6 +45,7 @@ enum Rows {
     Frames,
     Commands,
     Texts,
+    Json,
     Calls,
     Messages,
     Guards,
@@ -54,6 +57,7 @@ impl Rows {
             Rows::Frames => "frames.txt",
             Rows::Commands => "commands.txt",
             Rows::Texts => "texts.txt",
+            Rows::Json => "json.txt",
             Rows::Calls => "calls.txt",
             Rows::Messages => "messages.txt",
             Rows::Guards => "guards.txt",
@@ -65,6 +69,7 @@ impl Rows {
         match self {
             Rows::Frames | Rows::Commands | Rows::Messages => "shown.request",
             Rows::Texts => "texts.request",
+            Rows::Json => "json.request",
             Rows::Calls => "calls.request",
             Rows::Guards => "guards.request",
         }
@@ -75,7 +80,10 @@ impl Rows {
         match self {
             Rows::Frames => row::try_line(alloc, line),
             Rows::Commands => command::try_line(alloc, request, line),
-            Rows::Texts => text::try_line(alloc, request, line),
+            Rows::Texts => text::try_line(alloc, request, Notation::Text, line),
+            Rows::Json => {
+                text::try_line(alloc, request, Notation::Json { is_pretty: false }, line)
+            }
             Rows::Calls => call::try_line(alloc, request, line),
             Rows::Messages => message::try_line(alloc, line),
             Rows::Guards => guard::try_line(alloc, request, line),

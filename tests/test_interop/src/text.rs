@@ -1,4 +1,4 @@
-//! A row of the file of texts.
+//! A row of the file of texts, or of that of JSON.
 
 use crate::command::{names_of, plan_of};
 use crate::fault::Fault;
@@ -6,6 +6,7 @@ use crate::row::{expect, parts_of};
 use cp_commands::{ACCEPTED, Encoding, Names, Plan, act, encode};
 use cp_encoder::Encoder;
 use cp_frame::Mode;
+use cp_schema::Notation;
 use std::alloc::Global;
 
 /// By what texts are made frames of, and these are shown.
@@ -15,13 +16,34 @@ struct TextPlan<'s> {
     plan: Plan<'s>,
 }
 
-/// The struct of this name.
-fn struct_of<'s>(alloc: Global, names: &'s Names, name: &str) -> Result<TextPlan<'s>, Fault> {
+/// The struct of this name in a notation.
+fn struct_of<'s>(
+    alloc: Global,
+    names: &'s Names,
+    name: &str,
+    notation: Notation,
+) -> Result<TextPlan<'s>, Fault> {
     let command = format!(in alloc; "decode packed {name}")?;
     let plan = plan_of(command.as_str(), names);
     drop(command);
     match (Encoder::by_name(&names.schema, name), plan) {
-        (Some(encoder), Some(plan)) => Ok(TextPlan { encoder, plan }),
+        (
+            Some(encoder),
+            Some(
+                Plan::Decode {
+                    mode,
+                    limits,
+                    decoder,
+                },
+            ),
+        ) => Ok(TextPlan {
+            encoder: encoder.written_as(notation),
+            plan: Plan::Decode {
+                mode,
+                limits,
+                decoder: decoder.written_as(notation),
+            },
+        }),
         _ => Err(Fault::Row),
     }
 }
@@ -53,28 +75,29 @@ fn is_shown(alloc: Global, plan: &Plan<'_>, mut frames: &[u8], said: &mut Vec<u8
 
 /// Makes frames of the texts of a line, shows them, and compares that, or what is said of a fault, with the rest of the line.
 /// What is shown is read again, and is the same.
-pub fn try_line(alloc: Global, request: &[u8], line: &str) -> Result<u64, Fault> {
+pub fn try_line(
+    alloc: Global,
+    request: &[u8],
+    notation: Notation,
+    line: &str,
+) -> Result<u64, Fault> {
     let (name, texts, wanted) = parts_of(line).ok_or(Fault::Row)?;
     let names = names_of(alloc, request, "", &[])?;
-    let tried = try_by(alloc, &names, name, texts, wanted);
+    let tried = match struct_of(alloc, &names, name, notation) {
+        Ok(of) => try_by(alloc, &of, texts, wanted),
+        Err(fault) => Err(fault),
+    };
     drop(names);
     tried
 }
 
-/// The same by these names.
-fn try_by(
-    alloc: Global,
-    names: &Names,
-    name: &str,
-    texts: &str,
-    wanted: &str,
-) -> Result<u64, Fault> {
-    let of = struct_of(alloc, names, name)?;
+/// The same by this struct.
+fn try_by(alloc: Global, of: &TextPlan<'_>, texts: &str, wanted: &str) -> Result<u64, Fault> {
     let texts = texts.replace(alloc, '|', "\n")?;
-    let lines = line_of(alloc, &of, texts.as_bytes());
+    let lines = line_of(alloc, of, texts.as_bytes());
     drop(texts);
     let lines = lines?;
-    let tried = try_lines(alloc, &of, lines.as_str(), wanted);
+    let tried = try_lines(alloc, of, lines.as_str(), wanted);
     drop(lines);
     tried
 }

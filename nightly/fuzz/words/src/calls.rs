@@ -6,7 +6,7 @@ use cp_methods::{
     CallReader, NamedCall, describe, is_named, nearest_names, plain_params, type_named,
 };
 use cp_reading::View;
-use cp_schema::{Decoder, NodeKind, Schema, message_line};
+use cp_schema::{Decoder, NodeKind, Notation, Schema, push_message};
 use cp_tree::Object;
 use cp_words::{Limits, Segments};
 use cp_writing::write_root;
@@ -25,7 +25,7 @@ pub extern "C" fn wp_calls(alloc: Global, request: &[u8], words: &[u8], said: &m
         schema: &schema,
         lines: String::new(alloc),
     };
-    let mut reader = CallReader::new(alloc, &schema);
+    let mut reader = CallReader::new(alloc, &schema, Notation::Text);
     let put = told.each(&mut reader, str::from_utf8(words).unwrap_or(""));
     drop(reader);
     let count = match put {
@@ -146,10 +146,15 @@ fn shown(alloc: Global, decoder: &Decoder<'_>, object: &Object) -> Option<String
         return None;
     };
     let segments = Segments::one(words);
-    let line = match View::root(&segments, limits) {
-        Ok(view) => message_line(alloc, decoder, view).ok(),
-        Err(_) => None,
+    let mut line = String::new(alloc);
+    let is_shown = match View::root(&segments, limits) {
+        Ok(view) => push_message(alloc, &mut line, decoder, view).is_ok(),
+        Err(_) => false,
     };
     drop(segments);
-    line
+    if is_shown {
+        return Some(line);
+    }
+    drop(line);
+    None
 }
