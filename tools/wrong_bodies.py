@@ -84,7 +84,10 @@ def is_in_body(text, at, name):
 
 
 def functions_of(folder):
-    """The paths of a crate's functions that have a proof of their own: those of modules and types, but for cycles of calls."""
+    """The paths of a crate's functions that have a proof of their own: those of modules and types, but for cycles of calls.
+
+    A function that calls itself is a cycle too. Its proof lies in a folder with + before its name."""
+    is_cycle = lambda path: folder.parent.joinpath("proofs", *path[:-1], f"+{path[-1]}").is_dir()
     module_of = lambda file: () if file.stem in ("lib", "main") else file.relative_to(folder).with_suffix("").parts
     texts = {module_of(it): it.read_text() for it in folder.rglob("*.rt")}
     types = {name: (*module, name) for module, text in texts.items() for name in TYPE.findall(text)}
@@ -93,7 +96,9 @@ def functions_of(folder):
         for line in text.split("\n"):
             head, methods = FUNCTION.match(line), METHODS.fullmatch(line)
             if head and not re.search(r"#\[(cycle|test|cfg)", marks) and (not head[1] or owner and len(head[1]) == 4):
-                yield (*(owner if head[1] else module), head[2])
+                path = (*(owner if head[1] else module), head[2])
+                if not is_cycle(path):
+                    yield path
             marks = marks + line if line.lstrip().startswith("#[") else ""
             # (of a trait's function there is a proof for each type that has it)
             owner = types.get(methods[1]) if methods else None if re.match(r"[a-z]", line) else owner
