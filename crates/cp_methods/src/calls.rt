@@ -2,7 +2,7 @@
 
 ghost use Rattle.std.specs.Prelude.{◌≡◌, ◌+◌, IfOk, length};
 
-use crate::fault::{behind, missed, missed_made};
+use crate::fault::{at_column, behind, missed, missed_made};
 use crate::finding::{interface_named, interface_of, lineage, method_at, method_named, own_method};
 use crate::given::GivenKind;
 use crate::mentions::Mentions;
@@ -247,7 +247,7 @@ impl<'s> CallReader<'s> {
         }
     }
 
-    /// Adds capabilities by the numbers of pointers.
+    /// Adds capabilities by the numbers of pointers. A fault is at the column of the struct: where a name stands in it isn't known.
     fn add_numbered(
         &self,
         names: &[String],
@@ -259,7 +259,10 @@ impl<'s> CallReader<'s> {
                 text: name.as_str(),
                 column,
             };
-            caps.push(self.target(part)?)?;
+            match self.target(part) {
+                Ok(target) => caps.push(target)?,
+                Err(fault) => return Err(at_column(column, fault)),
+            }
         }
         Ok(())
     }

@@ -54,3 +54,21 @@ pub(crate) fn behind(before: usize, fault: EncodeFault) -> EncodeFault {
         fault => fault,
     }
 }
+
+/// A fault of a part as one at this column.
+pub(crate) fn at_column(column: usize, fault: EncodeFault) -> EncodeFault {
+    match fault {
+        EncodeFault::Text(
+            NotationFault {
+                line,
+                column: _,
+                message,
+            },
+        ) => EncodeFault::Text(NotationFault {
+            line,
+            column,
+            message,
+        }),
+        fault => fault,
+    }
+}
