@@ -37,6 +37,25 @@ static int32_t reads_a_stream(void) {
     return 0;
 }
 
+static int32_t tells_the_canonical_form(void) {
+    // A struct of one word, 0, which is left out, and the form of that.
+    static const uint8_t blank[24] = {0, 0, 0, 0, 2, 0, 0, 0, 0, 0, 0, 0, 1}, form[16] = {0, 0, 0, 0, 1, 0, 0, 0, 252, 255, 255, 255};
+    struct jd_reader reader = {0};
+    struct jd_bytes lent;
+    struct jd_step step;
+    struct jd_spot spot;
+    CHECK(jd_reader_open(&reader, false, &limits) == JD_OK && jd_reader_check_canonical(&reader, &spot) == JD_NO_FRAME);
+    CHECK(jd_reader_next(&reader, number, sizeof number, &step) == JD_OK && jd_reader_check_canonical(&reader, &spot) == JD_OK);
+    CHECK(jd_reader_canonical(&reader, false, &lent, &spot) == JD_OK && is(&lent, number, sizeof number));
+    CHECK(jd_reader_next(&reader, blank, sizeof blank, &step) == JD_OK && jd_reader_canonical(&reader, false, &lent, &spot) == JD_OK && is(&lent, form, sizeof form));
+    CHECK(jd_reader_check_canonical(&reader, &spot) == JD_DIFFERENCE && spot.segment == 0 && spot.word == 0);
+    CHECK(jd_reader_next(&reader, with_cap, sizeof with_cap, &step) == JD_OK && jd_reader_check_canonical(&reader, &spot) == JD_CAPABILITY && spot.field == 0);
+    CHECK(jd_reader_canonical(&reader, false, &lent, &spot) == JD_CAPABILITY && lent.len == 0);
+    jd_reader_close(&reader);
+    CHECK(jd_reader_canonical(&reader, false, &lent, &spot) == JD_CLOSED && lent.len == 0 && jd_reader_check_canonical(&reader, &spot) == JD_CLOSED);
+    return 0;
+}
+
 static int32_t passes(struct jd_connection *from, struct jd_connection *to) {
     struct jd_bytes sent;
     CHECK(jd_connection_outgoing(from, &sent) == JD_OK && sent.len > 0);
@@ -72,6 +91,7 @@ static int32_t calls_its_peer(struct jd_connection *client, struct jd_connection
     CHECK(jd_connection_reason(client, &lent) == JD_OK && is(&lent, "no", 2) && jd_connection_content(client, &lent) == JD_NO_CONTENT);
     CHECK(jd_connection_finish(client, 2) == JD_OK && jd_connection_finish(client, 1) == JD_OK && jd_connection_finish(client, 0) == JD_OK);
     CHECK(jd_connection_uses(client, 5, &uses) == JD_OK && uses && jd_connection_release(client, 0) == JD_OK);
+    CHECK(jd_connection_release(client, 0) == JD_UNKNOWN_IMPORT);
     return 0;
 }
 
@@ -133,6 +153,7 @@ static int32_t packs(void) {
 
 int32_t first_wrong(void) {
     TRY(reads_a_stream());
+    TRY(tells_the_canonical_form());
     TRY(connects());
     TRY(relays());
     return packs();

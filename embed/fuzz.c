@@ -66,7 +66,15 @@ int LLVMFuzzerTestOneInput(const uint8_t *data, size_t count) {
         }
         case 4: told(jd_reader_end(reader), &nowhere); break;
         case 5: told(jd_reader_message(reader, &message, &spot), &spot); break;
-        case 6: told(jd_reader_check(reader, &spot), &spot); break;
+        case 6: {
+            told(jd_reader_check(reader, &spot), &spot);
+            told(jd_reader_check_canonical(reader, &spot), &spot);
+            uint32_t code = jd_reader_canonical(reader, what & 16, &bytes, &spot);
+            told(code, &spot);
+            expect(!code || !bytes.len);
+            look(&bytes);
+            break;
+        }
         case 7: {
             uint32_t code = jd_reader_write(reader, what & 16, &bytes);
             told(code, &nowhere);

@@ -86,12 +86,16 @@ enum {
     JD_FULL = 508,             /* V8: what the call opens doesn't fit. */
     JD_VAT_CLOSED = 509,       /* V9: the vat is closed. */
     JD_VAT_MEMORY = 510,       /* V10: memory ran out. */
-    JD_UNKNOWN_IMPORT = 511    /* V11: no import. */
+    JD_UNKNOWN_IMPORT = 511,   /* V11: no import. */
+    /* Of a message's canonical form. */
+    JD_CAPABILITY = 601, /* C1: the message holds a capability. */
+    JD_DIFFERENCE = 602  /* C2: the words aren't those of the canonical form. */
 };
 
 /*
- * What is to blame: of G1 to G9 a pointer word, by its segment and its number there, each from 0 on; of S1 and S2 the
- * number of a field, from 1 on, which `jd_text` names. All else is 0.
+ * What is to blame: of G1 to G9 a pointer word, and of C2 the first other word, by its segment and its number there, each from 0
+ * on; in `field` of S1 and S2 the number of a field, from 1 on, which `jd_text` names, and of C1 the capability's index. All else
+ * is 0.
  */
 struct jd_spot {
     size_t segment;
@@ -209,6 +213,19 @@ uint32_t jd_reader_write(struct jd_reader *reader, bool packed, struct jd_bytes 
  */
 uint32_t jd_reader_recut(struct jd_reader *reader, bool packed, uint32_t words, struct jd_bytes *bytes, struct jd_spot *spot);
 
+/*
+ * Lends the message that the frame holds in its canonical form, as a frame of one segment. The segment, which one signs and
+ * hashes, is all after the first 8 bytes of the plain form.
+ *   JD_NO_FRAME. G1 to G9 as by `jd_reader_check`, F1, F2, F6, B3, C1: nothing is lent.
+ */
+uint32_t jd_reader_canonical(struct jd_reader *reader, bool packed, struct jd_bytes *bytes, struct jd_spot *spot);
+
+/*
+ * Checks that the message which the frame holds is in its canonical form, in one segment.
+ *   JD_NO_FRAME. G1 to G9 as by `jd_reader_check`, B3, C1, C2, and `spot` is to blame.
+ */
+uint32_t jd_reader_check_canonical(struct jd_reader *reader, struct jd_spot *spot);
+
 /* Copies what is lent, from the byte `from` on, as much as fits, and gives how much. */
 size_t jd_reader_copy(struct jd_reader *reader, size_t from, uint8_t *out, size_t room);
 
@@ -301,7 +318,11 @@ uint32_t jd_connection_outgoing(struct jd_connection *connection, struct jd_byte
 /* Notes that the first `count` of them were written, or all where there are fewer. */
 uint32_t jd_connection_wrote(struct jd_connection *connection, size_t count);
 
-/* Takes what happened first of what wasn't taken; JD_NOTHING where there is none. What the event before had is let go. */
+/*
+ * Takes what happened first of what wasn't taken; JD_NOTHING where there is none. What the event before had is let go. Each entry of its
+ * table that is an import is one hold of it, which jd_connection_release gives back.
+ *   JD_OUT_OF_MEMORY: an entry couldn't be counted. The next call goes on with this event.
+ */
 uint32_t jd_connection_next(struct jd_connection *connection, struct jd_event *event);
 
 /* Lends the content of the event's params or results: a plain frame whose root it is. JD_NO_CONTENT; B1 to B4, F6: nothing is lent. */
@@ -333,7 +354,7 @@ uint32_t jd_connection_fail(struct jd_connection *connection, const struct jd_or
 /* Gives a question up. V1, V6. */
 uint32_t jd_connection_finish(struct jd_connection *connection, uint32_t question);
 
-/* Gives an import back, with its whole count. V6, V11. */
+/* Gives back one hold of an import. The last one has it released, with its whole count. V6, V11: of the last alone. */
 uint32_t jd_connection_release(struct jd_connection *connection, uint32_t import);
 
 /* Makes an open promise, and gives its number. V8. */

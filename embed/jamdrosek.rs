@@ -66,6 +66,8 @@ unsafe extern "C" {
     fn jd_reader_check(reader: &mut Handle, spot: &mut Spot) -> u32;
     fn jd_reader_write(reader: &mut Handle, packed: bool, bytes: &mut Bytes) -> u32;
     fn jd_reader_recut(reader: &mut Handle, packed: bool, words: u32, bytes: &mut Bytes, spot: &mut Spot) -> u32;
+    fn jd_reader_canonical(reader: &mut Handle, packed: bool, bytes: &mut Bytes, spot: &mut Spot) -> u32;
+    fn jd_reader_check_canonical(reader: &mut Handle, spot: &mut Spot) -> u32;
     fn jd_reader_close(reader: &mut Handle);
 }
 
@@ -149,6 +151,21 @@ impl Reader {
         done(unsafe { jd_reader_recut(&mut self.handle, packed, words, &mut bytes, &mut spot) }, spot)?;
         // SAFETY: as above.
         Ok(unsafe { std::slice::from_raw_parts(bytes.at, bytes.len) })
+    }
+
+    /// The bytes of the message in its canonical form, a frame of one segment.
+    pub fn canonical(&mut self, packed: bool) -> Result<&[u8], Fault> {
+        let (mut bytes, mut spot) = (Bytes { at: std::ptr::null(), len: 0 }, Spot::default());
+        done(unsafe { jd_reader_canonical(&mut self.handle, packed, &mut bytes, &mut spot) }, spot)?;
+        // SAFETY: as above.
+        Ok(unsafe { std::slice::from_raw_parts(bytes.at, bytes.len) })
+    }
+
+    /// Checks that the message is in its canonical form.
+    pub fn check_canonical(&mut self) -> Result<(), Fault> {
+        let mut spot = Spot::default();
+        let code = unsafe { jd_reader_check_canonical(&mut self.handle, &mut spot) };
+        done(code, spot)
     }
 }
 

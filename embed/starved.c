@@ -49,7 +49,9 @@ static uint32_t read_all(void) {
     for (size_t taken = 0; !fault && taken < len; taken += step.taken) {
         if ((fault = jd_reader_next(&reader, stream + taken, len - taken, &step)) || !step.has_frame) continue;
         if ((fault = jd_reader_write(&reader, true, &bytes))) break;
-        fault = jd_reader_recut(&reader, false, 2, &bytes, &spot);
+        if ((fault = jd_reader_recut(&reader, false, 2, &bytes, &spot))) break;
+        fault = jd_reader_canonical(&reader, false, &bytes, &spot);
+        if (fault == JD_CAPABILITY) fault = JD_OK;
     }
     jd_reader_close(&reader);
     return fault;

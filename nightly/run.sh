@@ -14,12 +14,16 @@
 #   relay     sessions of C++ clients and of peers at fault through a relay    a minute
 #   guard     11,000 random sessions of the C++ library through a guard        some minutes
 #   fields    texts of schemas, read by generated code and by the reference tool   half an hour
-#   schemas   random schemas, shown and read by generated code as by the reference tool   half an hour
+#   schemas   random schemas, shown and read by generated code as by the reference tool   half an hour, and the proofs of three crates of its own
 #   texts     texts by random schemas, made messages of as by the reference tool     five minutes
 #   json      JSON by random schemas, printed and read as by the reference tool      ten minutes
+#   canonical canonical forms of random messages, as by the reference tool     ten minutes
 #   host      many connections at once, and the sessions of peers with them    four minutes
 #   load      an hour of 1,000 connections that come and go                    an hour and two minutes, with a fifth of a processor
+#   operate   samples/operating, with HAProxy, openssl and systemd's tools, and peers that mean ill    the proof of a program of its own, and
+#             three minutes
 #   callees   calls of servers by the reference library, and of peers at fault two minutes
+#   large     calls of 1 and 16 MiB both ways at once, with both libraries     the proofs of two programs of its own, and a minute
 #   faults    sessions with faults of memory, system calls, peers and disk     five minutes
 #   readme    the story of the README, in a fresh clone, each line pasted      five minutes
 #   tails     tail calls with C++ and Rust peers, both ways, and by hand          the proof of a program of its own, and 30 seconds
@@ -28,6 +32,7 @@
 #   notebook  objects made in calls, and pushes, with the reference library    the proof of examples, and half a minute
 #   lives     an hour of 950 connections that watch, open pages and go       the proof of examples, and an hour, with a fifth of a processor
 #   chat      a chat room with 999 silent members of the reference library      the proof of a program of its own, and half a minute
+#   groups    groups that are members of unions, chosen by both libraries     the proof of a program of its own, and some seconds
 #   netns     servers and clients over a slow, lossy link, as root              the proof of examples, and three minutes
 #   sessions  15,000 random sessions with two servers                          ten minutes
 #   crowd     the same with servers that serve 16 of them at once              ten minutes
@@ -45,11 +50,12 @@
 #   planted   21 wrong lines of the product, which ./test must see             three compilings of the tests, 21 minutes of a processor
 #   plants    wrong bodies that rt makes up, in ten crates                     hours; wants a quiet machine, and its lines want reading
 #
-# Debian packages: g++ clang libclang-rt-14-dev make libcapnp-dev capnproto cargo librust-capnp-rpc-dev librust-async-io-dev. Rattle's rt is in PATH.
+# Debian packages: g++ clang libclang-rt-14-dev make libcapnp-dev capnproto cargo librust-capnp-rpc-dev librust-async-io-dev;
+# of operate haproxy openssl redis-server socat systemd. Rattle's rt is in PATH.
 set -u
 here=$(cd "$(dirname "${BASH_SOURCE[0]}")" && pwd)
 . "$here/../tools/crates.sh"
-all=(look proofs memory moves peers matrix relay guard fields schemas texts json host load callees faults readme interfaces services notebook lives chat netns sessions crowd served pieces starved embed fuzz words made edits planted plants)
+all=(look proofs memory moves peers matrix relay guard fields schemas texts json canonical host load operate callees large faults readme interfaces services notebook lives chat groups netns sessions crowd served pieces starved embed fuzz words made edits planted plants)
 alone=night # runs only where it is named: it takes as long as all others
 of_plants=(cp_words cp_tables cp_writing cp_packed cp_frame cp_messages cp_rpc cp_stream cp_refs cp_vat cp_serve)
 
@@ -108,6 +114,11 @@ moves() {
 
 peers() { built && "$here/peers/run.sh" "$server" "$folder"; }
 
+operate() {
+    built && more_examples && "$here/operate/operate.py" "$server" --examples "$folder/more/crates/more_examples/out/more_examples" &&
+        "$here/operate/limits.py" "$server"
+}
+
 matrix() {
     built && "$here/callees/answering/build.sh" "$folder" && "$here/services/serving/build.sh" "$folder" &&
         "$here/peers/matrix.sh" "$server" "$folder" "$folder/answering" "$folder/serving"
@@ -137,9 +148,17 @@ texts() { built && "$here/texts/run.sh" "$server" "$folder/texts"; }
 
 json() { built && "$here/json/run.sh" "$server" "$folder/json"; }
 
+canonical() { built && "$here/canonical/run.sh" "$server" "$folder/canonical"; }
+
 host() { built && "$here/host/run.sh" "$server" "$folder"; }
 
 load() { built && "$here/load/run.sh" "$server" "$folder/load" 3600; }
+
+large() {
+    local bench=$root/bench/rpc
+    make -s -C "$bench" BUILD="$folder/large" && "$bench/calling/build.sh" "$folder/large" && "$bench/giving/build.sh" "$folder/large" &&
+        "$here/large/run.sh" "$folder/large"
+}
 
 callees() { built && "$here/callees/run.sh" "$server" "$folder/callees"; }
 
@@ -158,9 +177,11 @@ notebook() { "$root/tools/build.sh" examples && "$here/notebook/run.sh" "$root/c
 
 lives() { "$root/tools/build.sh" examples && "$here/notebook/lives.sh" "$root/crates/examples/out/examples" "$folder/lives"; }
 
-more_examples() { lay_tests "$folder/more" store chat more_examples && (cd "$folder/more/crates/more_examples" && rt run); }
+more_examples() { lay_tests "$folder/more" store chat shapes more_examples && (cd "$folder/more/crates/more_examples" && rt run); }
 
 chat() { more_examples && "$here/chat/run.sh" "$folder/more/crates/more_examples/out/more_examples" "$folder/chat"; }
+
+groups() { more_examples && "$here/groups/run.sh" "$folder/more/crates/more_examples/out/more_examples" "$folder/groups"; }
 
 sessions() { built && "$here/fuzz/sessions.sh" "$server" "$folder" 15000 7; }
 

@@ -6,6 +6,7 @@
 //   large        one call of Cell.add after another, whose params hold 1 MiB that the Cell doesn't read
 //   large-N      the same with N MB
 //   large-results   one call of Blob.get after another, whose results hold 1 MiB that the client doesn't read; the server offers a Blob
+//   echo-N-W     W calls of Blob.echo under way at a time, whose params and results hold N MiB; the server offers a Blob
 //   raw-seq      as seq, by frames made beforehand over a bare socket, so that nearly all the time is the server's
 //   raw-window   as window, by such frames
 //   raw-full     as raw-seq, after 60,000 calls that were answered and not finished, so that the server's tables are nearly full
@@ -24,6 +25,7 @@
 #include <cstdio>
 #include <cstdlib>
 #include <cstring>
+#include <deque>
 #include <string>
 #include <vector>
 
@@ -124,6 +126,30 @@ static void large_results(unsigned port, uint64_t calls) {
   for (uint64_t i = 0; i < calls; i++) last = get();
   timer.report(calls);
   KJ_REQUIRE(last == 1 + calls, last);
+}
+
+// `size` is that of the bytes of a call, both ways.
+static void echo(unsigned port, size_t size, size_t window, uint64_t calls) {
+  Peer peer(port);
+  auto blob = peer.bootstrap<Blob>();
+  std::vector<kj::byte> bytes(size, 0x5a);
+  std::deque<capnp::RemotePromise<Blob::EchoResults>> under_way;
+  uint64_t answered = 0;
+  auto end_oldest = [&] {
+    auto response = under_way.front().wait(peer.wait);
+    under_way.pop_front();
+    KJ_REQUIRE(response.getNumber() == answered++ && response.getBytes().size() == size);
+  };
+  Timer timer;
+  for (uint64_t i = 0; i < calls; i++) {
+    if (under_way.size() == window) end_oldest();
+    auto request = blob.echoRequest(capnp::MessageSize{size / 8 + 8, 0});
+    request.setNumber(i);
+    request.setBytes(kj::arrayPtr(bytes.data(), size));
+    under_way.push_back(request.send());
+  }
+  while (!under_way.empty()) end_oldest();
+  timer.report(calls);
 }
 
 // A connection that frames of one segment come by.
@@ -278,7 +304,7 @@ static void by_frames(unsigned port, uint32_t window, uint32_t kept, uint64_t ca
 
 int main(int argc, char** argv) {
   if (argc != 4) {
-    fprintf(stderr, "usage: client PORT seq|window|pipeline|large|large-N|large-results|raw-seq|raw-window|raw-full CALLS\n");
+    fprintf(stderr, "usage: client PORT seq|window|pipeline|large|large-N|large-results|echo-N-W|raw-seq|raw-window|raw-full CALLS\n");
     return 2;
   }
   unsigned port = atoi(argv[1]);
@@ -288,6 +314,11 @@ int main(int argc, char** argv) {
   else if (mode == "raw-window") by_frames(port, 64, 0, calls);
   else if (mode == "raw-full") by_frames(port, 1, 60000, calls);
   else if (mode == "large-results") large_results(port, calls);
+  else if (mode.rfind("echo-", 0) == 0) {
+    size_t size = 0, window = 0;
+    KJ_REQUIRE(sscanf(mode.c_str(), "echo-%zu-%zu", &size, &window) == 2, "no such mode");
+    echo(port, size << 20, window, calls);
+  }
   else by_library(port, mode, is_large(mode) ? calls : (calls + 63) / 64 * 64);
   return 0;
 }

@@ -3,8 +3,9 @@
 
     clients.py --build FOLDER [--command FILE] [--runs 7] [--calls 30000] [--only WORD] [--cpus 1,2] [--enforce]
 
-`calling/build.sh FOLDER` builds our client, `make BUILD=FOLDER` the reference library's and its server. The clients run in turn on
-one processor, a server on another: the reference library's, and with --command also `capnp_cli serve`. A call's time is the
+`calling/build.sh FOLDER` builds our client, `giving/build.sh FOLDER` our server of `echo-..`, `make BUILD=FOLDER` the reference
+library's. The clients run in turn on one processor, a server on another: the reference library's, and ours, with --command also
+`capnp_cli serve`. A call's time is the
 client's by the clock. A ratio is ours over the reference's: below 1 we are faster. With --enforce the status is 1 where one
 passes its goal. `client.cpp` says what the modes are.
 """
@@ -19,19 +20,31 @@ sys.path.insert(0, str(pathlib.Path(__file__).resolve().parent.parent))
 from servers import expect_built, free_port, wait_for
 
 # The greatest ratio that is asked for.
-GOALS = {"seq": 0.9, "window": 0.9, "pipeline": 0.9}
+GOALS = {"seq": 0.9, "window": 0.9, "pipeline": 0.9, "echo-1-20": 1.0, "echo-16-20": 1.0}
+
+# Of calls that take longer there are fewer, by this factor.
+FEWER = {"echo-1-20": 100, "echo-16-20": 750}
 
 
 def run(client, server, mode, args):
-    """Microseconds a call, with a server of its own."""
+    """Microseconds a call, with a server of its own. `PORT` among its words is its port."""
     port = free_port()
     here, there = args.cpus.split(",")
-    process = subprocess.Popen(["taskset", "-c", there, *server, str(port), "1"])
+    process = subprocess.Popen(["taskset", "-c", there, *(str(port) if it == "PORT" else it for it in server)])
     wait_for(process, port)
-    words = ["taskset", "-c", here, str(args.build / client), str(port), mode, str(args.calls)]
+    words = ["taskset", "-c", here, str(args.build / client), str(port), mode, str(args.calls // FEWER.get(mode, 1))]
     took = float(subprocess.run(words, stdout=subprocess.PIPE, check=True, timeout=120).stdout) / 1e3
     process.wait(5)
     return took
+
+
+def servers(mode, args):
+    """The words of the servers of a mode by their names."""
+    theirs = [str(args.build / "server"), "PORT", "1"]
+    if mode.startswith("echo-"):
+        return {"reference": [*theirs, "blob"], "ours": [str(args.build / "giving"), "PORT", "1", "host"]}
+    ours = {"ours": [str(args.command), "serve", "PORT", "1"]} if args.command else {}
+    return {"reference": theirs, **ours}
 
 
 def compare(name, server, mode, args):
@@ -56,13 +69,12 @@ def main():
     words.add_argument("--cpus", default="1,2")
     words.add_argument("--enforce", action="store_true")
     args = words.parse_args()
-    servers = {"reference": [str(args.build / "server")]}
-    if args.command:
-        servers["ours"] = [str(args.command), "serve"]
-    expect_built(args.build / "calling", args.build / "client", *(it[0] for it in servers.values()))
+    modes = [mode for mode in GOALS if args.only in mode]
+    rows = [(name, server, mode) for mode in modes for name, server in servers(mode, args).items()]
+    expect_built(args.build / "calling", args.build / "client", *{server[0] for _, server, _ in rows})
     print(f"{args.runs} runs of each, in turn; load {os.getloadavg()[0]:.1f}")
     print(f"{'server':<11}{'mode':<10}{'our client':>11}{'reference':>12}{'ratio':>8}{'goal':>7}   spread")
-    met = [compare(name, server, mode, args) for name, server in servers.items() for mode in GOALS if args.only in mode]
+    met = [compare(*row, args) for row in rows]
     return 1 if args.enforce and not all(met) else 0
 
 

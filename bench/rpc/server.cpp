@@ -18,6 +18,14 @@ class BlobServer final : public Blob::Server {
     results.setBytes(kj::arrayPtr(bytes.data(), bytes.size()));
     return kj::READY_NOW;
   }
+
+  kj::Promise<void> echo(EchoContext context) override {
+    auto params = context.getParams();
+    auto results = context.getResults(capnp::MessageSize{params.getBytes().size() / 8 + 8, 0});
+    results.setNumber(params.getNumber());
+    results.setBytes(params.getBytes());
+    return kj::READY_NOW;
+  }
 };
 
 int main(int argc, char** argv) {

@@ -211,7 +211,7 @@ impl Connection {
         plain(unsafe { jd_connection_finish(&mut self.handle, question) })
     }
 
-    /// Gives an import back, with its whole count.
+    /// Gives back one hold of an import: each entry of an event's table that is this import is one. The last one has it released.
     pub fn release(&mut self, import: u32) -> Result<(), Fault> {
         plain(unsafe { jd_connection_release(&mut self.handle, import) })
     }

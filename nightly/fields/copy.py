@@ -5,8 +5,7 @@ import sys
 
 from print import FLOATS, INTEGERS, Printer, method, variant, words
 
-VECTORS = {1, 6, 7, 8, 9}  # lists that are set to a Vec
-SLICES = {2, 3, 4, 5, 10, 11, 15}  # lists that are set to a slice
+VECTORS = {1, 2, 3, 4, 5, 6, 7, 8, 9, 10, 11, 15}  # lists that are set to a Vec
 
 
 class Copier(Printer):
@@ -28,8 +27,6 @@ class Copier(Printer):
                       f"for item in {read} {{ items.push({self.struct(node)}(alloc, &item)?)?; }} {to}.{setter}(items){self.fails(kind)};")
         elif code == 14 and kind["elem"]["kind"] in VECTORS:
             copied = f"let mut items = Vec::new(alloc); for item in {read} {{ items.push(item)?; }} {to}.{setter}(items)?;"
-        elif code == 14 and kind["elem"]["kind"] in SLICES:
-            copied = f"let mut items = Vec::new(alloc); for item in {read} {{ items.push(item)?; }} {to}.{setter}(alloc, items.as_slice())?;"
         elif code == 14 and kind["elem"]["kind"] == 12:
             self.types.add(("cp_interfaces", "TextListBuilder"))
             copied = (f"let mut items = TextListBuilder::new(alloc); for item in {read} {{ items.push(item?.text(alloc)?.as_str())?; }} "

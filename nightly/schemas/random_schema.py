@@ -23,7 +23,8 @@ if impl loop macro mod move override priv pub return static trait try typeof uns
 become break continue extern final abbrev assumption axiom coe com data deriving elim ensures entry exit fcoe ghost ground hcom infix mutual
 now old open package record requires ruleset tcoe unfold held flag plain uint blank read kind at view draft set get from into index len push
 pop iter next drop copy text string bool u8 i64 f32 char str usize option vec pointee constant length not exists with then end prove body2
-callers request table place params content came caps target call reply answer object alloc2 rt std core lib main specs declared contracts""".split()
+callers request table place params content came caps target call reply answer object alloc2 rt std core lib main specs declared contracts
+on w32 textTree withUint bytesTree requestOf areOf naming noneNamed map binary64 toBits bitXor castUnsigned""".split()
 
 COMMENTS = ["Plain.", "With `code`, *stars* and \"quotes\".", "$0 $1 $$ {0} {{}} %s \\n \\", "```", "    indented", "ends with a backslash \\",
             "*/ /* // /// //! --", "{- -} -- | ensures { false }", "\u00e9 \u4e2d \U0001f600", "", "blanks at its end   ", "\tafter a tab",

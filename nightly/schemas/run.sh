@@ -1,8 +1,9 @@
 #!/usr/bin/env bash
-# run.sh PLUGIN FOLDER COMMAND [SEEDS [TRIED]]    random schemas (300), each in two editions, with random messages of both: by each edition `COMMAND show
+# run.sh PLUGIN FOLDER COMMAND [SEEDS [TRIED [PROVED]]]    random schemas (300), each in two editions, with random messages of both: by each edition `COMMAND show
 #                                   --schema` (capnp_cli, built) prints what `capnp decode --short` does. PLUGIN (capnpc_rattle, built) writes code of each
 #                                   that names nothing twice, or says in a line what it can't write; and it says which names get an underscore. Then the code of the first ones (12) reads
-#                                   messages, builds them again by its builders, and reads what was written, by `rt try`; FOLDER gets the crates.
+#                                   messages, builds them again by its builders, and reads what was written, by `rt try`; FOLDER gets the crates. And the
+#                                   code of small schemas with services (3) is proved, whose names are words of clauses.
 #
 # Schemas that the reference tool doesn't take, and messages that it refuses to show by another edition, are counted. What goes wrong is
 # printed with its seed; random_schema.py makes the same schema of it again.
@@ -10,7 +11,7 @@ set -eu
 plugin=$(realpath "$1")
 mkdir -p "$2" && room=$(cd "$2" && pwd)
 command=$(realpath "$3")
-seeds=${4-300} tried=${5-12}
+seeds=${4-300} tried=${5-12} proved=${6-3}
 here=$(cd "$(dirname "${BASH_SOURCE[0]}")" && pwd)
 root=$(dirname "$(dirname "$here")")
 . "$here/../fields/libraries.sh"
@@ -133,6 +134,21 @@ try_code() { # SEED..    what their code prints of messages, twice each: as they
     fi
 }
 
+prove_code() ( # SEED..    of small schemas with services
+    . "$root/tools/crates.sh"
+    lay_beside "$room/proved" cp_interfaces
+    cp "$root/HANDLES" "$room/proved/"
+    cd "$room/proved/crates"
+    for seed; do
+        "$here/random_services.py" "$seed" ..
+        (cd .. && capnp compile -o- "v$seed.capnp") >../request
+        "$plugin" <../request 2>"$room/said" >>../crates.txt || { wrong "v$seed: $(cat "$room/said")"; continue; }
+        (cd "v$seed" && rt fmt && rt check) >"$room/said" 2>&1 || wrong "v$seed isn't proved: $(tail -n 5 "$room/said")"
+    done
+    echo "the code of $# schemas with services is proved"
+    exit "$failed"
+)
+
 refuse
 tell
 for seed in $(seq "$seeds"); do
@@ -144,4 +160,5 @@ take_libraries
 chosen=()
 for seed in $(seq "$tried"); do ! tried_code "$seed" || chosen+=("$seed"); done
 [ ${#chosen[@]} -eq 0 ] || try_code "${chosen[@]}"
+[ "$proved" -eq 0 ] || prove_code $(seq "$proved") || failed=1
 exit "$failed"

@@ -4,7 +4,7 @@
 #                                nothing, its calls are answered in time, and it calls what it is given. Direct, through `CLI relay`, and
 #                                through a guard. Then random sessions compared with a plain model: 200 of 300 moves on each of these
 #                                ways, SESSIONS (10,000) of ten moves, ten at once, and clients that are killed; 50 with a server over the C++
-#                                library, too. One connection names 160,000 promises, half in calls that fail. SERVING is the program, if it
+#                                library, too. One connection names 160,000 promises, half in calls that fail, and one gives 200,000 calls up. SERVING is the program, if it
 #                                is built elsewhere
 set -eu
 cli=$1 sessions=${3:-10000} port=17661 relayed=17662 guarded=17663
@@ -99,6 +99,17 @@ named() { # more promises of one connection than a vat has, and memory is level
     echo "$name: $(cat "$build/said"), $before to $now kB"
 }
 
+dropped() { # more calls are given up than a vat has answers, and memory is level
+    local before now
+    plays "$build/services/dropped" "127.0.0.1:$port" 20000
+    before=$(memory "$server")
+    plays "$build/services/dropped" "127.0.0.1:$port" 200000
+    now=$(memory "$server")
+    [ "$now" -le "$((before + most_grown))" ] || fail "$name: from $before to $now kB"
+    expect_none
+    echo "$name: $(cat "$build/said"), $before to $now kB"
+}
+
 killed() {
     local turn
     for turn in $(seq 50); do
@@ -122,6 +133,7 @@ worlds 200 direct "$port"
 worlds 200 relayed "$relayed"
 worlds 200 guarded "$guarded"
 named
+dropped
 many
 killed
 end

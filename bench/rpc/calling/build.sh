@@ -3,4 +3,4 @@
 set -eu
 here=$(cd "$(dirname "${BASH_SOURCE[0]}")" && pwd)
 . "$here/../../../tools/crates.sh"
-build_beside "$1" "$here" calling "cp_words cp_frame cp_refs cp_client anyhow" 0 none 0
+build_beside "$1" "$here" calling "cp_words cp_frame cp_refs cp_servants cp_client net_client anyhow" 0 none 0

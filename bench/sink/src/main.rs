@@ -21,6 +21,10 @@ struct Sink {
 
 impl ServiceObject for Sink {
     type Makes = Served;
+
+    fn has_more(&self) -> bool {
+        false
+    }
 }
 
 impl SinkServer for Sink {

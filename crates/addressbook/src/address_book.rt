@@ -10,6 +10,7 @@ ghost use Rattle.cp_builder.specs.declared.fault.BuildError.TheVariants.{TooLong
 ghost use Rattle.cp_builder.specs.Copies.{Sets, placed};
 ghost use Rattle.cp_builder.specs.Drafts.{HoldsOneMore, blank, blank_list, with_last};
 ghost use Rattle.cp_interfaces.specs.Promises.{along};
+ghost use Rattle.cp_interfaces.specs.Tables.{none_named};
 ghost use Rattle.addressbook.specs.AddressBook.{address_book_owner_default, address_book_circles_default};
 
 use crate::person::{PersonPipeline, PersonReader};
@@ -167,13 +168,15 @@ impl AddressBookListBuilder {
     }
 }
 
-impl cp_interfaces::ListValue for AddressBookListBuilder {
-    ghost tree = { λ l. l.items };
+impl<'a> FieldValue<List<'a, AddressBookReader<'a>>> for AddressBookListBuilder {
+    ghost stands = { λ l t. t ≡ l.items };
 
-    ghost is_long = { λ l. ¬ (Unit {0}) };
+    ghost is_long = { λ l. ⊥ };
 
-    fn into_list(self, alloc: Global) -> Result<Whole, BuildError> {
-        let _ = alloc;
+    fn into_whole(self, _alloc: Global) -> Result<Whole, BuildError>
+        ensures value { IfOk result (λ whole. whole ≡ self.items) }
+        ensures long { result ≡ Err TooLong → ⊥ }
+    {
         Ok(self.items.into_whole())
     }
 }
@@ -201,23 +204,10 @@ impl<'a> FieldValue<AddressBookReader<'a>> for AddressBookBuilder {
     }
 }
 
-impl<'a> FieldValue<List<'a, AddressBookReader<'a>>> for AddressBookListBuilder {
-    ghost stands = { λ l t. t ≡ l.items };
-
-    ghost is_long = { λ l. ⊥ };
-
-    fn into_whole(self, _alloc: Global) -> Result<Whole, BuildError>
-        ensures value { IfOk result (λ whole. whole ≡ self.items) }
-        ensures long { result ≡ Err TooLong → ⊥ }
-    {
-        Ok(self.items.into_whole())
-    }
-}
-
 impl Results for AddressBookBuilder {
     ghost content = { λ d. d.body };
 
-    ghost names = { λ d. [] };
+    ghost names = { λ d. none_named };
 
     fn into_parts(self, alloc: Global) -> (Whole, CapTableBuilder) {
         (self.body.into_whole(), CapTableBuilder::new(alloc))

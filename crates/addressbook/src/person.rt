@@ -13,6 +13,7 @@ ghost use Rattle.cp_builder.specs.declared.fault.BuildError.TheVariants.{TooLong
 ghost use Rattle.cp_builder.specs.Copies.{Sets, placed};
 ghost use Rattle.cp_builder.specs.Drafts.{HoldsOneMore, blank, blank_list, with_last, with_uint};
 ghost use Rattle.cp_interfaces.specs.Promises.{along};
+ghost use Rattle.cp_interfaces.specs.Tables.{none_named};
 ghost use Rattle.addressbook.specs.Person.{person_employment_which_of, person_employment_member};
 
 use crate::person_phone_number::PersonPhoneNumberReader;
@@ -356,13 +357,15 @@ impl PersonListBuilder {
     }
 }
 
-impl cp_interfaces::ListValue for PersonListBuilder {
-    ghost tree = { λ l. l.items };
+impl<'a> FieldValue<List<'a, PersonReader<'a>>> for PersonListBuilder {
+    ghost stands = { λ l t. t ≡ l.items };
 
-    ghost is_long = { λ l. ¬ (Unit {0}) };
+    ghost is_long = { λ l. ⊥ };
 
-    fn into_list(self, alloc: Global) -> Result<Whole, BuildError> {
-        let _ = alloc;
+    fn into_whole(self, _alloc: Global) -> Result<Whole, BuildError>
+        ensures value { IfOk result (λ whole. whole ≡ self.items) }
+        ensures long { result ≡ Err TooLong → ⊥ }
+    {
         Ok(self.items.into_whole())
     }
 }
@@ -390,23 +393,10 @@ impl<'a> FieldValue<PersonReader<'a>> for PersonBuilder {
     }
 }
 
-impl<'a> FieldValue<List<'a, PersonReader<'a>>> for PersonListBuilder {
-    ghost stands = { λ l t. t ≡ l.items };
-
-    ghost is_long = { λ l. ⊥ };
-
-    fn into_whole(self, _alloc: Global) -> Result<Whole, BuildError>
-        ensures value { IfOk result (λ whole. whole ≡ self.items) }
-        ensures long { result ≡ Err TooLong → ⊥ }
-    {
-        Ok(self.items.into_whole())
-    }
-}
-
 impl Results for PersonBuilder {
     ghost content = { λ d. d.body };
 
-    ghost names = { λ d. [] };
+    ghost names = { λ d. none_named };
 
     fn into_parts(self, alloc: Global) -> (Whole, CapTableBuilder) {
         (self.body.into_whole(), CapTableBuilder::new(alloc))

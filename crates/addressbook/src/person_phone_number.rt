@@ -9,6 +9,7 @@ ghost use Rattle.cp_fields.specs.Pointers.{Reads, struct_field, text_field};
 ghost use Rattle.cp_builder.specs.declared.fault.BuildError.TheVariants.{TooLong};
 ghost use Rattle.cp_builder.specs.Copies.{Sets, placed};
 ghost use Rattle.cp_builder.specs.Drafts.{HoldsOneMore, blank, blank_list, with_last, with_uint};
+ghost use Rattle.cp_interfaces.specs.Tables.{none_named};
 ghost use Rattle.addressbook.specs.PersonPhoneNumberType.{person_phone_number_type_number};
 ghost use Rattle.addressbook.specs.PersonPhoneNumberType.{person_phone_number_type_of};
 
@@ -133,13 +134,15 @@ impl PersonPhoneNumberListBuilder {
     }
 }
 
-impl cp_interfaces::ListValue for PersonPhoneNumberListBuilder {
-    ghost tree = { λ l. l.items };
+impl<'a> FieldValue<List<'a, PersonPhoneNumberReader<'a>>> for PersonPhoneNumberListBuilder {
+    ghost stands = { λ l t. t ≡ l.items };
 
-    ghost is_long = { λ l. ¬ (Unit {0}) };
+    ghost is_long = { λ l. ⊥ };
 
-    fn into_list(self, alloc: Global) -> Result<Whole, BuildError> {
-        let _ = alloc;
+    fn into_whole(self, _alloc: Global) -> Result<Whole, BuildError>
+        ensures value { IfOk result (λ whole. whole ≡ self.items) }
+        ensures long { result ≡ Err TooLong → ⊥ }
+    {
         Ok(self.items.into_whole())
     }
 }
@@ -167,23 +170,10 @@ impl<'a> FieldValue<PersonPhoneNumberReader<'a>> for PersonPhoneNumberBuilder {
     }
 }
 
-impl<'a> FieldValue<List<'a, PersonPhoneNumberReader<'a>>> for PersonPhoneNumberListBuilder {
-    ghost stands = { λ l t. t ≡ l.items };
-
-    ghost is_long = { λ l. ⊥ };
-
-    fn into_whole(self, _alloc: Global) -> Result<Whole, BuildError>
-        ensures value { IfOk result (λ whole. whole ≡ self.items) }
-        ensures long { result ≡ Err TooLong → ⊥ }
-    {
-        Ok(self.items.into_whole())
-    }
-}
-
 impl Results for PersonPhoneNumberBuilder {
     ghost content = { λ d. d.body };
 
-    ghost names = { λ d. [] };
+    ghost names = { λ d. none_named };
 
     fn into_parts(self, alloc: Global) -> (Whole, CapTableBuilder) {
         (self.body.into_whole(), CapTableBuilder::new(alloc))

@@ -60,7 +60,7 @@ impl<'a> Element<'a> for PersonPhoneNumberType {
     }
 }
 
-impl cp_interfaces::Enumerant for PersonPhoneNumberType {
+impl cp_builder::Enumerant for PersonPhoneNumberType {
     ghost number = { person_phone_number_type_number };
 
     fn as_number(&self) -> u16 {

@@ -13,6 +13,8 @@ use Rattle.cp_tree.specs.declared.fault.WriteFault.{WriteFault}
 use Rattle.cp_tree.specs.declared.fault.WriteFault.TheVariants as writes
 use Rattle.cp_stream.specs.declared.fault.Refusal.{Refusal}
 use Rattle.cp_stream.specs.declared.fault.Refusal.TheVariants as refusals
+use Rattle.cp_canonical.specs.declared.fault.CanonicalFault.{CanonicalFault}
+use Rattle.cp_canonical.specs.declared.fault.CanonicalFault.TheVariants as forms
 use Rattle.cp_vat_machine.specs.declared.fault.VatFault.{VatFault}
 use Rattle.cp_vat_machine.specs.declared.fault.VatFault.TheVariants as vats
 use Rattle.c_handles.specs.declared.code.CallFault.{CallFault}
@@ -74,6 +76,13 @@ refusal_code (refusals.Tree fault) = tree_code fault
 refusal_code (refusals.Schema fault) = schema_code fault
 refusal_code (refusals.Write fault) = write_code fault
 
+-- C1 and C2, or the fault of the tree, or of what is written
+abbrev pub canonical_code : CanonicalFault → ℕ
+canonical_code (forms.Tree fault) = tree_code fault
+canonical_code (forms.Write fault) = write_code fault
+canonical_code (forms.Capability index) = 601
+canonical_code (forms.Difference place) = 602
+
 -- the number of a fault; 0 is none
 abbrev pub code_of : CallFault → ℕ
 code_of faults.Closed = 1
@@ -85,6 +94,7 @@ code_of faults.Ended = 6
 code_of faults.Forbidden = 7
 code_of (faults.Refused refusal) = refusal_code refusal
 code_of (faults.Vat fault) = vat_code fault
+code_of (faults.NotCanonical fault) = canonical_code fault
 
 -- no word and no field
 abbrev pub nowhere : Spot
@@ -139,8 +149,16 @@ schema_spot (schemas.Kind field) = in_field field
 schema_spot (schemas.Text field) = in_field field
 schema_spot schemas.OutOfMemory = nowhere
 
+-- the word or the capability that is to blame
+abbrev pub canonical_spot : CanonicalFault → Spot
+canonical_spot (forms.Tree fault) = tree_spot fault
+canonical_spot (forms.Write fault) = nowhere
+canonical_spot (forms.Capability index) = record { segment = 0; word = 0; field = index }
+canonical_spot (forms.Difference place) = at_place place
+
 -- what of a frame, or of a message, is to blame
 abbrev pub spot_of : CallFault → Spot
 spot_of (faults.Refused (refusals.Tree fault)) = tree_spot fault
 spot_of (faults.Refused (refusals.Schema fault)) = schema_spot fault
+spot_of (faults.NotCanonical fault) = canonical_spot fault
 spot_of other = nowhere

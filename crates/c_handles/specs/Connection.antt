@@ -16,7 +16,9 @@ use Rattle.cp_vat_machine.specs.declared.event.Value.{Value}
 use Rattle.cp_vat_machine.specs.declared.event.Value.TheVariants as values
 use Rattle.cp_connection.specs.declared.fault.ConnectionFault.{ConnectionFault}
 use Rattle.cp_connection.specs.Doing.{Acts, answered}
-use Rattle.cp_connection.specs.Receiving.{Receives, IsUnreceived, EndsWell, EndsBadly}
+use Rattle.cp_connection.specs.declared.event.ConnectionEvent.{ConnectionEvent}
+use Rattle.cp_connection.specs.Link.{Link}
+use Rattle.cp_connection.specs.Receiving.{HandsOut, Receives, IsUnreceived, EndsWell, EndsBadly}
 use Rattle.c_handles.specs.declared.code.CallFault.{CallFault}
 use Rattle.c_handles.specs.declared.code.CallFault.TheVariants as faults
 use Rattle.c_handles.specs.declared.caps.CapNumbers.{CapNumbers}
@@ -24,7 +26,10 @@ use Rattle.c_handles.specs.declared.connection.ConnectionState.{ConnectionState}
 use Rattle.c_handles.specs.Fault.{fault_of, told, no_memory}
 use Rattle.c_handles.specs.Caps.{numbers_of, Names, IsNotNamed, AreNotNamed}
 use Rattle.c_handles.specs.Content.{HoldsContent, HoldsNoContent, IsContentFrame, HasNoFrame}
+use Rattle.c_handles.specs.declared.event.EventNumbers.{EventNumbers}
+use Rattle.c_handles.specs.Event as happened
 use Rattle.c_handles.specs.Event.{content_of, table_of, reason_of}
+use Rattle.c_handles.specs.Holds.{counted_from, held, held_less}
 
 -- only the connection changes, and not what was handed out and lent
 abbrev pub ChangesOnly : ConnectionState → ConnectionState → Type 0
@@ -103,11 +108,43 @@ Fails old origin kind reason result new =
     ((e : Exception) × IsFailure kind reason e × ActsAs (λ _. values.Nothing) old (events.Answer origin (outcomes.Failed e)) result new)
     ⊎ NotDone (IsNoFailure reason) old result new
 
+-- The program gives an import back: where it holds it more than once it holds it once less, and else the connection is to release it. Only if that does, the
+-- program holds it no more.
+pub data GivesBack (old : ConnectionState) (import : ℕ) (result : Result (Unit {0}) CallFault) (new : ConnectionState) : Type 0 where
+  holds_more : (done : Unit {0}) → 1 < held old.holds.counts import → result ≡ Ok done → new ≡ record old { holds = record { counts = held_less old.holds.counts import } }
+      → GivesBack old import result new
+  is_last : (done : Unit {0}) (between : ConnectionState) → held old.holds.counts import ≤ 1 → ActsAs {A = Unit {0}} (λ _. values.Nothing) old (events.Release import) (Ok done) between
+      → result ≡ Ok done → new ≡ record between { holds = record { counts = held_less old.holds.counts import } } → GivesBack old import result new
+  is_refused : (fault : CallFault) → held old.holds.counts import ≤ 1 → ActsAs {A = Unit {0}} (λ _. values.Nothing) old (events.Release import) (Err fault) new
+      → result ≡ Err fault → GivesBack old import result new
+
+-- what happened first is handed out, and none of its table is counted; but an event whose table isn't wholly counted stays
+pub data Turns (old : ConnectionState) (event : Option ConnectionEvent) (link : Link) (counted : ℕ) : Type 0 where
+  goes_on : length (table_of old.event) ≤ old.counted → HandsOut old.connection event link → counted ≡ 0 → Turns old event link counted
+  stays : old.counted < length (table_of old.event) → event ≡ old.event → link ≡ old.connection → counted ≡ old.counted → Turns old event link counted
+
+-- An event is told: the program is given each entry of its table that wasn't counted.
+pub record Tells (old new : ConnectionState) (numbers : EventNumbers) : Type 0 where
+  pub place : ℕ
+  pub turns : Turns old new.event new.connection place
+  pub given : new.holds.counts ≡ counted_from place (table_of new.event) old.holds.counts
+  pub counted : length (table_of new.event) ≤ new.counted
+  pub numbers_are : numbers ≡ happened.numbers_of new.event
+
+-- Memory ran out at an entry of its table: once those that are left are counted, all are.
+pub record Waits (old new : ConnectionState) : Type 0 where
+  pub place : ℕ
+  pub turns : Turns old new.event new.connection place
+  pub left : counted_from new.counted (table_of new.event) new.holds.counts ≡ counted_from place (table_of new.event) old.holds.counts
+  pub uncounted : new.counted < length (table_of new.event)
+
 -- only what is lent changes
 pub record Keeps (old new : ConnectionState) : Type 0 where
   pub limits : new.limits ≡ old.limits
   pub connection : new.connection ≡ old.connection
   pub event : new.event ≡ old.event
+  pub counted : new.counted ≡ old.counted
+  pub holds : new.holds ≡ old.holds
 
 -- the content of the event is lent
 abbrev pub LendsContent : ConnectionState → List ℕ → Type 0

@@ -11,5 +11,6 @@ pub mod Rules
 pub mod Caps
 pub mod Content
 pub mod Event
+pub mod Holds
 pub mod Connection
 pub mod Lent

@@ -1,11 +1,12 @@
 -- What the calls of a reader do.
-use Rattle.std.specs.Prelude.{◌≡◌, ℕ, ◌+◌, List, [], length, Option, None, Some, Result, Ok, Err}
+use Rattle.std.specs.Prelude.{◌≡◌, ℕ, ◌+◌, List, [], ◌∷◌, length, Option, None, Some, Result, Ok, Err}
 use Rattle.cp_words.specs.Limits.{Bounds}
 use Rattle.cp_tree.specs.Node.{Node}
 use Rattle.cp_reading.specs.Denotes.{Root}
 use Rattle.cp_reading.specs.Answers.{IsRefusalOf}
 use Rattle.cp_writing.specs.Layout.{Layout, Capacity}
 use Rattle.cp_writing.specs.Writes.{IsWriteFaultOf}
+use Rattle.cp_canonical.specs.Canonical.{IsCanonicalMessage, IsFormOf, IsMessageRefusal, IsNotCanonical}
 use Rattle.cp_frame.specs.declared.mode.Mode.{Mode}
 use Rattle.cp_frame.specs.declared.fault.FrameFault.{FrameFault}
 use Rattle.cp_frame.specs.Frame.{Written, IsRefusedFor}
@@ -102,3 +103,34 @@ abbrev pub IsUncut : ℕ → Bounds → Option (List (List ℕ)) → CallFault �
 IsUncut words limits None fault = fault ≡ faults.NoFrame
 IsUncut words limits (Some S) (faults.Refused (refusals.Frame fault)) = (L : List (List ℕ)) × IsCutOf limits S words L × IsRefusedFor limits L fault
 IsUncut words limits (Some S) fault = HasNoCut limits S words fault
+
+-- the segments are the one of the canonical form of a frame's message
+abbrev pub IsForm : Bounds → List (List ℕ) → List (List ℕ) → Type 0
+IsForm limits S F = (ws : List ℕ) × (F ≡ ws ∷ []) × IsFormOf S limits ws
+
+-- why it has none
+abbrev pub IsFormless : Bounds → List (List ℕ) → CallFault → Type 0
+IsFormless limits S (faults.NotCanonical fault) = IsMessageRefusal S limits fault
+IsFormless limits S other = ⊥
+
+-- the bytes are what is written of the canonical form
+abbrev pub WritesForm : Mode → Bounds → Option (List (List ℕ)) → List ℕ → Type 0
+WritesForm mode limits None b = ⊥
+WritesForm mode limits (Some S) b = (F : List (List ℕ)) × IsForm limits S F × Written mode limits F b
+
+-- why no canonical form is written: there is no frame, or it has none, or memory ran out
+abbrev pub IsFormUnwritten : Bounds → Option (List (List ℕ)) → CallFault → Type 0
+IsFormUnwritten limits None fault = fault ≡ faults.NoFrame
+IsFormUnwritten limits (Some S) (faults.Refused (refusals.Frame fault)) = (F : List (List ℕ)) × IsForm limits S F × IsRefusedFor limits F fault
+IsFormUnwritten limits (Some S) fault = IsFormless limits S fault
+
+-- the frame's message is canonical
+abbrev pub IsCanonicalFrame : Bounds → Option (List (List ℕ)) → Type 0
+IsCanonicalFrame limits None = ⊥
+IsCanonicalFrame limits (Some S) = IsCanonicalMessage S limits
+
+-- why it isn't
+abbrev pub IsNoCanonicalFrame : Bounds → Option (List (List ℕ)) → CallFault → Type 0
+IsNoCanonicalFrame limits None fault = fault ≡ faults.NoFrame
+IsNoCanonicalFrame limits (Some S) (faults.NotCanonical fault) = IsNotCanonical S limits fault
+IsNoCanonicalFrame limits (Some S) other = ⊥

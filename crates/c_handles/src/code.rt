@@ -3,9 +3,11 @@
 ghost use Rattle.std.specs.Prelude.{◌≡◌};
 ghost use Rattle.cp_frame.specs.declared.fault.FrameFault.TheVariants as frames;
 ghost use Rattle.cp_stream.specs.declared.fault.Refusal.TheVariants as refusals;
-ghost use Rattle.c_handles.specs.declared.code.CallFault.TheVariants.{Refused};
-ghost use Rattle.c_handles.specs.Code.{code_of, frame_code, tree_code, schema_code, write_code, vat_code, refusal_code, spot_of, tree_spot, schema_spot, nowhere, at_place, in_field, field_number};
+ghost use Rattle.c_handles.specs.declared.code.CallFault.TheVariants.{NotCanonical, Refused};
+ghost use Rattle.c_handles.specs.Code.{code_of, frame_code, tree_code, schema_code, write_code, vat_code, refusal_code, canonical_code};
+ghost use Rattle.c_handles.specs.Code.{spot_of, tree_spot, schema_spot, canonical_spot, nowhere, at_place, in_field, field_number};
 
+use cp_canonical::CanonicalFault;
 use cp_frame::FrameFault;
 use cp_reading::TreeFault;
 use cp_rpc::{Field, SchemaFault};
@@ -38,9 +40,12 @@ pub enum CallFault {
     Refused(Refusal),
     /// V1 to V11.
     Vat(VatFault),
+    /// C1, C2, or why else a message has no canonical form.
+    NotCanonical(CanonicalFault),
 }
 
-/// Which pointer word of a frame is to blame (G1 to G9), or which field of rpc.capnp (S1, S2), from 1 on. Else all are 0.
+/// Which word of a frame is to blame (G1 to G9, C2), or in `field` which field of rpc.capnp (S1, S2), from 1 on, or which capability
+/// (C1). Else all are 0.
 #[repr(C)]
 #[derive(Clone, Copy, PartialEq, Eq, Debug)]
 pub struct Spot {
@@ -57,7 +62,8 @@ pub const NOWHERE: Spot = Spot {
 };
 
 impl CallFault {
-    /// Its number for C, from 1 on: 100 and n for Fn, 200 and n for Gn, 300 and n for Sn, 400 and n for Bn, 500 and n for Vn.
+    /// Its number for C, from 1 on: 100 and n for Fn, 200 and n for Gn, 300 and n for Sn, 400 and n for Bn, 500 and n for Vn,
+    /// 600 and n for Cn.
     pub fn code(self) -> u32
         ensures { result ≡ code_of self }
     {
@@ -71,6 +77,7 @@ impl CallFault {
             CallFault::Forbidden => 7,
             CallFault::Refused(refusal) => refusal_code(refusal),
             CallFault::Vat(fault) => vat_code(fault),
+            CallFault::NotCanonical(fault) => canonical_code(fault),
         }
     }
 
@@ -81,6 +88,7 @@ impl CallFault {
         match self {
             CallFault::Refused(Refusal::Tree(fault)) => tree_spot(fault),
             CallFault::Refused(Refusal::Schema(fault)) => schema_spot(fault),
+            CallFault::NotCanonical(fault) => canonical_spot(fault),
             _ => NOWHERE,
         }
     }
@@ -99,6 +107,7 @@ impl fmt::Display for CallFault {
             CallFault::Forbidden => f.write_str("a rule forbids the message"),
             CallFault::Refused(refusal) => refusal.fmt(f),
             CallFault::Vat(fault) => fault.fmt(f),
+            CallFault::NotCanonical(fault) => fault.fmt(f),
         }
     }
 }
@@ -134,6 +143,14 @@ impl From<WriteFault> for CallFault {
 
     fn from(fault: WriteFault) -> CallFault {
         CallFault::Refused(Refusal::Write(fault))
+    }
+}
+
+impl From<CanonicalFault> for CallFault {
+    ghost from_gives = { λ fault f. f ≡ NotCanonical fault };
+
+    fn from(fault: CanonicalFault) -> CallFault {
+        CallFault::NotCanonical(fault)
     }
 }
 
@@ -231,6 +248,18 @@ fn vat_code(fault: VatFault) -> u32
     }
 }
 
+/// C1 and C2, or the fault of the tree, or of what is written.
+fn canonical_code(fault: CanonicalFault) -> u32
+    ensures { result ≡ canonical_code fault }
+{
+    match fault {
+        CanonicalFault::Tree(fault) => tree_code(fault),
+        CanonicalFault::Write(fault) => write_code(fault),
+        CanonicalFault::Capability(_) => 601,
+        CanonicalFault::Difference(_) => 602,
+    }
+}
+
 /// The word that is to blame.
 fn tree_spot(fault: TreeFault) -> Spot
     ensures { result ≡ tree_spot fault }
@@ -257,6 +286,22 @@ fn schema_spot(fault: SchemaFault) -> Spot
         SchemaFault::Kind(field) => in_field(field),
         SchemaFault::Text(field) => in_field(field),
         SchemaFault::OutOfMemory => NOWHERE,
+    }
+}
+
+/// The word or the capability that is to blame.
+fn canonical_spot(fault: CanonicalFault) -> Spot
+    ensures { result ≡ canonical_spot fault }
+{
+    match fault {
+        CanonicalFault::Tree(fault) => tree_spot(fault),
+        CanonicalFault::Write(_) => NOWHERE,
+        CanonicalFault::Capability(index) => Spot {
+            segment: 0,
+            word: 0,
+            field: index,
+        },
+        CanonicalFault::Difference(place) => at_place(place),
     }
 }
 

@@ -1,19 +1,21 @@
 //! A connection that C drives, and the event that it handed out last.
 
 ghost use Rattle.std.specs.Prelude.{◌≡◌, [], None, Some, IfOk, IfErr, OnOk, OnErr, MatchOption};
+ghost use Rattle.std.specs.FinMap as map;
 ghost use Rattle.cp_messages.specs.Written.{kind_number};
 ghost use Rattle.cp_vat_machine.specs.declared.event.Event.TheVariants as events;
 ghost use Rattle.cp_vat_machine.specs.declared.event.Value.TheVariants as values;
 ghost use Rattle.cp_connection.specs.Link.{new_link_with_tails};
-ghost use Rattle.cp_connection.specs.Receiving.{HandsOut};
 ghost use Rattle.c_handles.specs.Event as happened;
-ghost use Rattle.c_handles.specs.Connection.{ActsAs, TakesAs, EndsAs, Resolves, Calls, Answers, Fails, Keeps, LendsContent, LendsNone, HasCap, HasNoCap, LendsReason, LendsNoReason, IsRequest, IsNoRequest, IsNoPayload, IsPayload, IsFailure, IsNoFailure};
+ghost use Rattle.c_handles.specs.Fault.{no_memory};
+ghost use Rattle.c_handles.specs.Connection.{ActsAs, TakesAs, EndsAs, Resolves, Calls, Answers, Fails, GivesBack, Keeps, Tells, Waits, LendsContent, LendsNone, HasCap, HasNoCap, LendsReason, LendsNoReason, IsRequest, IsNoRequest, IsNoPayload, IsPayload, IsFailure, IsNoFailure};
 
 use crate::caps::{CapNumbers, caps_of};
 use crate::code::CallFault;
 use crate::content::{content_of, put_content};
 use crate::event::EventNumbers;
 use crate::fault::{fault_of, told};
+use crate::holds::ImportHolds;
 use cp_connection::{Connection, ConnectionEvent};
 use cp_frame::Mode;
 use cp_refs::{Cap, Caps, Origin, Outcome, Request};
@@ -27,12 +29,15 @@ use std::mem;
 /// The most capacity for lent bytes that is left for later ones.
 const SPARE: usize = 65_536;
 
-/// A connection without its devices, the event that was taken last, and the bytes that were lent.
+/// A connection without its devices, the event that was taken last, how many entries of its table were counted as held, and the bytes that
+/// were lent.
 pub struct ConnectionState {
     pub alloc: Global,
     pub limits: Limits,
     pub connection: Connection,
     pub event: Option<ConnectionEvent>,
+    pub counted: usize,
+    pub holds: ImportHolds,
     pub lent: Vec<u8>,
 }
 
@@ -44,6 +49,8 @@ impl Drop for ConnectionState {
             limits: _,
             connection: _,
             event: _,
+            counted: _,
+            holds: _,
             lent: _,
         } = self;
     }
@@ -55,6 +62,8 @@ impl ConnectionState {
         ensures connection { result.connection ≡ new_link_with_tails mode limits bootstrap }
         ensures limits { result.limits ≡ limits }
         ensures none { result.event ≡ None }
+        ensures counted { result.counted ≡ 0 }
+        ensures holds { result.holds.counts ≡ map.empty }
         ensures nothing { result.lent.items ≡ [] }
     {
         ConnectionState {
@@ -62,6 +71,8 @@ impl ConnectionState {
             limits,
             connection: Connection::with_tail_calls(alloc, mode, limits, bootstrap),
             event: None,
+            counted: 0,
+            holds: ImportHolds::new(alloc),
             lent: Vec::new(alloc),
         }
     }
@@ -100,11 +111,22 @@ impl ConnectionState {
         told(self.connection.finish(question))
     }
 
-    /// As `Connection::release`.
+    /// Gives back one hold of an import: the program has one for each entry of an event's table that is this import. The last one has it
+    /// released, as `Connection::release` does, whose faults leave all as it was.
     pub fn release(&mut self, import: u32) -> Result<(), CallFault>
-        ensures { ActsAs (λ _. values.Nothing) self.old (events.Release import) result self.new }
+        ensures { GivesBack self.old import result self.new }
     {
-        told(self.connection.release(import))
+        if self.holds.of(import) > 1 {
+            self.holds.lower(import);
+            return Ok(());
+        }
+        match self.connection.release(import) {
+            Ok(()) => {
+                self.holds.lower(import);
+                Ok(())
+            }
+            Err(fault) => Err(fault_of(fault)),
+        }
     }
 
     /// As `Connection::promise`.
@@ -193,16 +215,26 @@ impl ConnectionState {
         }
     }
 
-    /// Takes what happened first of what wasn't taken, in place of what was taken before, and gives its numbers.
-    pub fn next(&mut self) -> EventNumbers
-        ensures taken { HandsOut self.old.connection self.new.event self.new.connection }
-        ensures numbers { result ≡ happened.numbers_of self.new.event }
+    /// Takes what happened first of what wasn't taken, in place of what was taken before, and gives its numbers. The program holds each
+    /// import of its table then, once for each entry.
+    ///
+    /// # Errors
+    ///
+    /// F6: there was no memory to count an entry. The next call goes on with this event.
+    pub fn next(&mut self) -> Result<EventNumbers, CallFault>
+        ensures told { IfOk result (λ n. Tells self.old self.new n) }
+        ensures waits { IfErr result (λ fault. Waits self.old self.new × (fault ≡ no_memory)) }
         ensures nothing { self.new.lent.items ≡ [] }
         ensures limits { self.new.limits ≡ self.old.limits }
     {
         self.let_go();
-        drop(mem::replace(&mut self.event, self.connection.next()));
-        EventNumbers::of(&self.event)
+        if table_in(&self.event).len() <= self.counted {
+            drop(mem::replace(&mut self.event, self.connection.next()));
+            self.counted = 0;
+        }
+        self.holds
+            .give_from(&mut self.counted, table_in(&self.event))?;
+        Ok(EventNumbers::of(&self.event))
     }
 
     /// Lends the content of the event's params or results, as the root of a plain frame.
@@ -264,8 +296,7 @@ impl ConnectionState {
     /// Lets go of what was lent, and of a large buffer.
     fn let_go(&mut self)
         ensures nothing { self.new.lent.items ≡ [] }
-        ensures connection { self.new.connection ≡ self.old.connection }
-        ensures limits { self.new.limits ≡ self.old.limits }
+        ensures keeps { Keeps self.old self.new }
     {
         if SPARE < self.lent.capacity() {
             drop(mem::replace(&mut self.lent, Vec::new(self.alloc)));

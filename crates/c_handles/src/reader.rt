@@ -4,11 +4,13 @@ ghost use Rattle.std.specs.Prelude.{◌≡◌, [], None, Some, OnOk, OnErr, IfOk
 ghost use Rattle.cp_frame.specs.Reader.{IsAsBefore, EndsWell, ReportsAtEnd, Needs, new_reader};
 ghost use Rattle.c_handles.specs.Given.{Copies};
 ghost use Rattle.c_handles.specs.Reader.{Keeps, Takes, IsMessage, IsNoMessage, IsStruct, IsNoStruct, Writes, IsUnwritten, Recuts, IsUncut, IsCutOf, HasNoCut};
+ghost use Rattle.c_handles.specs.Reader.{IsForm, IsFormless, IsCanonicalFrame, IsNoCanonicalFrame, WritesForm, IsFormUnwritten};
 
 use crate::buffer::fill;
 use crate::check::check_struct;
 use crate::code::CallFault;
 use crate::message::{MessageNumbers, message_numbers};
+use cp_canonical::{canonical_message, is_canonical};
 use cp_frame::{FrameFault, FrameReader, Mode, write_over};
 use cp_reading::read_root;
 use cp_words::{Limits, Segments};
@@ -173,6 +175,41 @@ impl ReaderState {
         Ok(())
     }
 
+    /// Lends the canonical form of the frame's message: a frame of one segment, in this form.
+    ///
+    /// # Errors
+    ///
+    /// `NoFrame`, or those of `canonical_message`, or F6. Then nothing is lent.
+    pub fn canonical(&mut self, mode: Mode) -> Result<(), CallFault>
+        ensures written { OnOk result (WritesForm mode self.old.limits self.old.came self.new.lent.items) }
+        ensures refused { IfErr result (IsFormUnwritten self.old.limits self.old.came) }
+        ensures nothing { OnErr result (self.new.lent.items ≡ []) }
+        ensures keeps { Keeps self.old self.new }
+    {
+        self.lent.clear();
+        let Some(segments) = &self.came else {
+            return Err(CallFault::NoFrame);
+        };
+        let form = form_of(self.alloc, segments, self.limits)?;
+        write_over(self.alloc, &mut self.lent, &form, mode, self.limits)?;
+        Ok(())
+    }
+
+    /// Checks that the frame's message is canonical.
+    ///
+    /// # Errors
+    ///
+    /// `NoFrame`, or those of `is_canonical`.
+    pub fn check_canonical(&self) -> Result<(), CallFault>
+        ensures canonical { OnOk result (IsCanonicalFrame self.now.limits self.now.came) }
+        ensures refused { IfErr result (IsNoCanonicalFrame self.now.limits self.now.came) }
+    {
+        match &self.came {
+            Some(segments) => Ok(is_canonical(self.alloc, segments, self.limits)?),
+            None => Err(CallFault::NoFrame),
+        }
+    }
+
     /// Copies what is lent, from this byte on, as much as fits, and says how much.
     pub fn copy(&self, from: usize, out: &mut [u8]) -> usize
         ensures { Copies self.now.lent.items from out.old out.new result }
@@ -224,4 +261,13 @@ fn cut_of(
     let laid = write_segments(alloc, &tree, words, limits);
     drop(tree);
     Ok(laid?)
+}
+
+/// The one segment of the canonical form of a frame's message.
+fn form_of(alloc: Global, segments: &Segments, limits: Limits) -> Result<Segments, CallFault>
+    ensures form { IfOk result (IsForm limits segments.now) }
+    ensures refused { IfErr result (IsFormless limits segments.now) }
+{
+    let words = canonical_message(alloc, segments, limits)?;
+    Ok(Segments::one(words))
 }

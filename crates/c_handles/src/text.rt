@@ -1,6 +1,7 @@
 //! The text of a fault that C has as a number.
 
 use crate::code::{CallFault, Spot};
+use cp_canonical::CanonicalFault;
 use cp_frame::FrameFault;
 use cp_reading::TreeFault;
 use cp_rpc::{Field, SchemaFault};
@@ -25,6 +26,11 @@ impl CallFault {
             301..=303 => CallFault::Refused(Refusal::Schema(schema_fault(code, spot)?)),
             401..=404 => CallFault::Refused(Refusal::Write(write_fault(code)?)),
             501..=511 => CallFault::Vat(vat_fault(code)?),
+            601 => CallFault::NotCanonical(CanonicalFault::Capability(spot.field)),
+            602 => CallFault::NotCanonical(CanonicalFault::Difference(Place {
+                segment: spot.segment,
+                word: spot.word,
+            })),
             _ => return None,
         })
     }

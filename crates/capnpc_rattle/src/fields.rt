@@ -1,6 +1,7 @@
 //! The fields of structs, as templates have them.
 
 use crate::book::{Book, Named, has_name};
+use crate::groups::cells;
 use crate::model::Model;
 use crate::out::Out;
 use crate::reach::Naming;
@@ -62,6 +63,8 @@ pub struct Part<'m> {
     pub of: &'m Structure,
     /// Its word in definitions.
     pub word: &'m str,
+    /// That of the nearest group around its fields that is a member of a union. Empty if there is none.
+    pub chosen: &'m str,
 }
 
 /// Adds what is said of a field of any kind.
@@ -188,27 +191,42 @@ fn setting(model: &mut Model<'_>, slot: &Slot, is_member: bool) {
     ]);
 }
 
-/// Adds the fields of a struct with those of its groups, as they are set and promised, and says whether one is promised.
+/// Adds the fields of a struct with those of its groups, as they are set and promised, and says whether one is promised. Their names begin
+/// with `prefix`; `chosen` is how the nearest group around them that is a member of a union is chosen.
 #[cycle(parts)]
 pub fn parts<'m>(
     model: &mut Model<'m>,
     book: &'m Book<'_>,
     part: &Part<'m>,
     prefix: &str,
+    chosen: &str,
     depth: u32,
 ) -> bool {
     let mut is_piped = false;
     for (i, of) in part.of.fields.iter().enumerate() {
         let name = Out::spelled(model.alloc, of.name.as_str(), "snake");
+        let joined = Out::of(model.alloc, &[prefix, name.as_str()]);
         model.record("");
-        model.own("joined", &[prefix, name.as_str()]);
+        model.own("joined", &[joined.as_str()]);
+        model.own("chosen", &[chosen]);
+        model.text("chosen_word", part.chosen);
         field(model, book, part, i, of);
         is_piped = setter(model, book, part, of) || is_piped;
         model.close();
         if let FieldKind::Group(id) = &of.kind {
-            is_piped = group(model, book, (*id, name.as_str()), prefix, depth) || is_piped;
+            let nearest = if of.is_member() {
+                joined.as_str()
+            } else {
+                chosen
+            };
+            let word = match book.find(*id) {
+                Some(with) if of.is_member() => with.word.as_str(),
+                _ => part.chosen,
+            };
+            is_piped = group(model, book, (*id, word), joined.as_str(), nearest, depth) || is_piped;
         }
         drop(name);
+        drop(joined);
     }
     is_piped
 }
@@ -218,8 +236,9 @@ pub fn parts<'m>(
 fn group<'m>(
     model: &mut Model<'m>,
     book: &'m Book<'_>,
-    (id, name): (u64, &str),
-    prefix: &str,
+    (id, word): (u64, &'m str),
+    name: &str,
+    chosen: &str,
     depth: u32,
 ) -> bool {
     let Some(node) = book.schema.find(id) else {
@@ -233,11 +252,15 @@ fn group<'m>(
         model.refuse(node.name(), "", "its groups are too deep");
         return false;
     }
-    let mut inner = Out::new(model.alloc);
-    inner.all(&[prefix, name, "_"]);
-    let part = Part { node, of, word: "" };
-    let is_piped = parts(model, book, &part, inner.as_str(), depth - 1);
-    drop(inner);
+    let prefix = Out::of(model.alloc, &[name, "_"]);
+    let part = Part {
+        node,
+        of,
+        word: "",
+        chosen: word,
+    };
+    let is_piped = parts(model, book, &part, prefix.as_str(), chosen, depth - 1);
+    drop(prefix);
     is_piped
 }
 
@@ -257,9 +280,14 @@ fn setter<'m>(
             type_of(model, book, part, of, at);
             return promised(model, book, at);
         }
-        FieldKind::Slot(_) | FieldKind::Group(_) if of.is_member() => model.text(
-            "setter", "member",
-        ),
+        FieldKind::Slot(_) if of.is_member() => model.text("setter", "member"),
+        FieldKind::Group(id) if of.is_member() => {
+            model.text("setter", "group");
+            if let Some(with) = book.find(*id) {
+                named(model, book, "of", with);
+            }
+            cells(model, book, *id);
+        }
         _ => model.text("setter", ""),
     }
     false
@@ -291,12 +319,8 @@ fn taking(model: &mut Model<'_>, book: &Book<'_>, slot: &Slot) {
     } else {
         base_of(slot.of.of).0
     };
-    // Vectors of other numbers, enumerants and lists aren't taken so.
-    let converts = match setting_of(slot).form {
-        "text" | "data" | "struct" | "structs" | "numbers" => !can_name(book, slot),
-        "built" => slot.of.lists == 1 && !can_name(book, slot),
-        _ => false,
-    };
+    let of = setting_of(slot);
+    let converts = of.points && of.form != "whole" && !can_name(book, slot);
     model.text("shape", shape);
     model.numbers(&[
         ("inner", slot.of.lists.saturating_sub(1) as u64),
@@ -328,17 +352,44 @@ pub fn plain<'m>(model: &mut Model<'m>, book: &'m Book<'_>, id: u64) {
     };
     match &node.kind {
         NodeKind::Struct(of) if is_plain(book, node, of) => {
-            let part = Part { node, of, word: "" };
+            let part = Part {
+                node,
+                of,
+                word: "",
+                chosen: "",
+            };
             model.record("plain");
             model.numbers(&[("words", of.words as u64), ("pointers", of.pointers as u64)]);
             wraps(model, of);
             model.text("alloc", "self.target.alloc()");
             arguments(model, book, &part);
             clients(model, book, &part, ("clients", of.fields.len()));
+            longs(model, of);
             model.close();
         }
         _ => {}
     }
+}
+
+/// Adds the arguments that may be too long for a message, and whether they are several.
+fn longs<'m>(model: &mut Model<'m>, of: &'m Structure) {
+    model.list("longs");
+    let mut count = 0_u64;
+    for field in &of.fields {
+        if let FieldKind::Slot(slot) = &field.kind {
+            let set = setting_of(slot);
+            if set.fails {
+                model.record("");
+                model.number("more", (count > 0) as u64);
+                model.text("kind", set.kind);
+                value(model, field.name.as_str());
+                model.close();
+                count = count.saturating_add(1);
+            }
+        }
+    }
+    model.close();
+    model.number("several", (count > 1) as u64);
 }
 
 /// Adds for each field whether it is a pointer, the last one first.

@@ -12,6 +12,7 @@
 mod book;
 mod fields;
 mod filler;
+mod groups;
 mod interfaces;
 mod keep;
 mod model;

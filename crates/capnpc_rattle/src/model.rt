@@ -178,6 +178,11 @@ impl<'m> Model<'m> {
         }
     }
 
+    /// Says that memory ran out.
+    pub fn fill_up(&mut self) {
+        self.is_full = true;
+    }
+
     /// Whether memory ran out.
     pub fn is_full(&self) -> bool {
         self.is_full || self.own.is_full

@@ -5,13 +5,13 @@ const AMBIGUOUS: &str = "Data Struct Structs Text";
 
 /// Types that generated code or definitions have from elsewhere.
 const TYPES: &str = "\
-    AllocError Anything OutgoingCall Bool Box CallTarget Caller Cap CapFault Caps Constant \
+    AllocError Anything Bool Box CallTarget Caller CapFault CapTable Constant \
     ConstantBody DataReader Dispatch BuildError Drop Err Finds Global Context HoldsOneMore \
-    IsElsewhere Element Lends List ListRef Makes MakesOf Method MethodCall MethodFault \
-    MethodResult NamedResults None Ok Option Passes UnknownEnumerant PointerReader TypedPipeline Pipeline Reads \
+    IsCall IsCallIf IsElsewhere IsFull Element Lends List ListRef Makes MakesOf Method MethodCall MethodFault \
+    MethodRequest MethodResult NamedResults NamingError None Ok Option Passes UnknownEnumerant PointerReader TypedPipeline Pipeline Reads \
     Refuses Reply Request Result ResultPayload Results Self ObjectDispatch ServiceCall \
-    ServiceObject Some String StructBuilder StructReader StructListBuilder CapTableBuilder TextReader TooLong \
-    Tree Type TypedClient TypedResolver Unit Vec Whole WrongKind";
+    ServiceObject SessionCall SessionCap Some String StructBuilder StructReader StructListBuilder CapTableBuilder TextReader TooLong \
+    Tree Type TypedClient TypedResolver Unbuilt Unit Unnamed Vec Whole WrongKind";
 
 /// Words of Rattle.
 const OF_RATTLE: &str = "\
@@ -33,8 +33,8 @@ const OF_CRATES: &str = "\
 
 /// Words that clauses of calls have, and variables of the code around their arguments: an argument that is called so would hide them.
 pub const OF_CALLS: &str = "\
-    alloc binary32 binary64 bit_xor bits_tree blank bytes_tree call call_id caller cap_tree \
-    cast_unsigned false flag_bit halves_tree length map not on outgoing_call_of params \
+    alloc are_of binary32 binary64 bit_xor bits_tree blank bytes_tree caller cap_tree \
+    cast_unsigned errors false flag_bit halves_tree length map may_name_all naming none_named not on params \
     pointer_naming pointers_tree quads_tree r request request_of table text_tree to_bits true \
     w16 w32 w64 w8 with_named with_pointer with_uint words_tree";
 

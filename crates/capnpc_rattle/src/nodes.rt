@@ -23,6 +23,7 @@ pub fn node<'m>(model: &mut Model<'m>, book: &'m Book<'_>, of: &'m Node, with: &
                 node: of,
                 of: it,
                 word: with.word.as_str(),
+                chosen: "",
             },
             with,
         ),
@@ -92,7 +93,7 @@ fn structure<'m>(model: &mut Model<'m>, book: &'m Book<'_>, part: &Part<'m>, wit
     }
     if builds {
         model.list("parts");
-        let is_piped = parts(model, book, part, "", DEEPEST);
+        let is_piped = parts(model, book, part, "", "", DEEPEST);
         model.close();
         model.number("piped", is_piped as u64);
     }

@@ -31,6 +31,13 @@ impl Out {
         }
     }
 
+    /// A text of these parts.
+    pub fn of<'t>(alloc: Global, parts: &[&'t str]) -> Out {
+        let mut out = Out::new(alloc);
+        out.all(parts);
+        out
+    }
+
     /// A text in a spelling.
     pub fn spelled(alloc: Global, text: &str, spelling: &str) -> Out {
         let mut out = Out::new(alloc);
@@ -101,7 +108,7 @@ impl Out {
             // In snake case, and none of the words that have another meaning.
             "method" => self.method(text, ""),
             "promised" => self.method(text, PROMISED),
-            "argument" => self.method(text, OF_CALLS),
+            "argument" => self.argument(text),
             "snake" => self.snake(text),
             "upper" => self.upper(text),
             "camel" => self.camel(text),
@@ -132,6 +139,15 @@ impl Out {
         word.snake(name);
         self.put(word.as_str());
         if is_reserved(word.as_str()) || has_word(words, word.as_str()) {
+            self.push('_');
+        }
+    }
+
+    /// Adds a name as an argument of a call is called, which would hide a word of the call's clauses.
+    fn argument(&mut self, name: &str) {
+        self.method(name, OF_CALLS);
+        // So definitions call the number of an enum's value.
+        if name.ends_with("Number") {
             self.push('_');
         }
     }

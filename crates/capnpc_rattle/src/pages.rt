@@ -168,8 +168,6 @@ fn model_of<'b>(
     model.text("schema", target.schema);
     model.text("krate", target.krate);
     model.text("module", module);
-    let ending = "Reader";
-    model.text("Reader", ending);
     model.texts(&[
         ("body", "self.now.body"),
         ("value", "value"),

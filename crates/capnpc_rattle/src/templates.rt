@@ -32,7 +32,7 @@ $block definitions head$
 ";
 
 /// All templates.
-pub const TEMPLATES: [&str; 11] = [
+pub const TEMPLATES: [&str; 12] = [
     PAGES,
     readers::READERS,
     readers::FIELDS,
@@ -40,6 +40,7 @@ pub const TEMPLATES: [&str; 11] = [
     enums::CONSTANTS,
     enums::TREES,
     builders::BUILDERS,
+    builders::GROUPS,
     builders::SETTERS,
     clients::CLIENTS,
     clients::KINDS,

@@ -16,9 +16,12 @@ cp_builder.specs.Numbers flag_bit
 cp_builder.specs.declared.fault.BuildError.TheVariants TooLong
 cp_builder.specs.Copies Sets placed
 cp_builder.specs.Drafts HoldsOneMore bits_tree blank blank_list bytes_tree cap_tree halves_tree quads_tree text_tree with_last with_pointer with_uint words_tree
-cp_servants.specs.Naming pointer_naming with_named
-cp_interfaces.specs.Calls outgoing_call_of request_of
+cp_servants.specs.Naming pointer_naming
+cp_interfaces.specs.Calls IsCall IsCallIf MakesOf request_naming request_of
+cp_interfaces.specs.Faults Unbuilt Unnamed
 cp_interfaces.specs.Promises Finds along promised_cap
+cp_interfaces.specs.ServiceCalls Answers
+cp_interfaces.specs.Tables IsFull are_of may_name may_name_all naming none_named
 ";
 
 /// Where definitions have the kinds that a pointer may be of from.
@@ -60,11 +63,11 @@ const CONSTANTS: [&str; 3] = [
 ];
 
 /// The words of the prelude, each with parts of a text that has it.
-const PRELUDE: [(&str, &[&str]); 26] = [
+const PRELUDE: [(&str, &[&str]); 27] = [
     ("ℕ", &["ℕ"]),
     ("◌≡◌", &[" ≡ "]),
     ("◌==◌", &[" == "]),
-    ("if◌then◌else◌", &["if n"]),
+    ("if◌then◌else◌", &["if n", "if plain"]),
     ("Result", &["Result "]),
     ("Ok", &["= Ok"]),
     ("not", &["not ("]),
@@ -79,16 +82,17 @@ const PRELUDE: [(&str, &[&str]); 26] = [
     ("◌↔◌", &[" ↔ "]),
     ("◌≤◌", &[" ≤ "]),
     ("◌^◌", &["2 ^ "]),
-    ("length", &["length value", "length table", "length self"]),
+    ("length", &["length "]),
     (
         "◌+◌",
         &["now + 1", "old + 1", "table + 1", "HoldsOneMore self"],
     ),
     ("◌++◌", &[" ++ "]),
     ("◌∷◌", &[" ∷ "]),
+    ("◌⊎◌", &[" ⊎ "]),
     ("[]", &["[]"]),
-    ("true", &["true ∷ "]),
-    ("false", &["false ∷ "]),
+    ("true", &["true ∷ ", "≡ true"]),
+    ("false", &["false ∷ ", "≡ false"]),
     ("map", &["(map "]),
 ];
 

@@ -5,11 +5,8 @@ use crate::fault::CommandFault;
 use crate::words::calls_of;
 use cp_commands::{ACCEPTED, CallPlan, REFUSED, schema_at, tell_hint};
 use cp_schema::Schema;
-use mio::net as ready;
-use net_sockets::NonblockingStream;
-use std::io::{self, ErrorKind};
-use std::net::{Net, TcpListener, TcpStream, ToSocketAddrs};
-use std::os::unix::net::UnixStream;
+use net_client::{Address, ConnectOptions, DuplexStream};
+use std::io;
 use std::time::Duration;
 
 /// Makes the calls of a plan in one go, by the names of its schema if it has one. What each came to goes to standard output as a
@@ -54,7 +51,7 @@ fn call_all<'p>(
 ) -> Result<bool, CommandFault<'p>> {
     let calls = calls_of(rt, schema, plan.notation, plan.calls)?;
     match connect(rt, plan.address, plan.timeout) {
-        Ok(stream) => converse(rt, stream, plan, schema, calls, &mut io::writer(rt)),
+        Ok(stream) => converse(rt.alloc(), stream, plan, schema, calls, &mut io::writer(rt)),
         Err(fault) => {
             drop(calls);
             Err(fault)
@@ -63,74 +60,29 @@ fn call_all<'p>(
 }
 
 /// A connection to an address.
-fn connect<'p, N>(
-    rt: &N,
+fn connect<'r, 'p>(
+    rt: &'r HostRuntime,
     address: &'p str,
     timeout: Option<u32>,
-) -> Result<NonblockingStream, CommandFault<'p>>
-where
-    N: Net<Listener = TcpListener, Stream = TcpStream>,
-{
-    let connected = match path_of(address) {
-        Some(path) => connect_unix(rt, path),
-        None if has_port(address) => connect_tcp(rt, address, timeout),
-        None => return Err(CommandFault::Address(address)),
-    };
-    match connected {
+) -> Result<DuplexStream<'r, HostRuntime>, CommandFault<'p>> {
+    if Address::of(address).is_none() {
+        return Err(CommandFault::Address(address));
+    }
+    match DuplexStream::connect(rt, address, &options(timeout)) {
         Ok(stream) => Ok(stream),
         Err(error) => Err(CommandFault::Device { address, error }),
     }
 }
 
-/// A connection to HOST:PORT.
-fn connect_tcp<N>(rt: &N, address: &str, timeout: Option<u32>) -> io::Result<NonblockingStream>
-where
-    N: Net<Listener = TcpListener, Stream = TcpStream>,
-{
-    let stream = match timeout {
-        Some(seconds) => connect_within(rt, address, Duration::from_secs(seconds as u64))?,
-        None => TcpStream::connect(rt, address)?,
-    };
-    stream.set_nodelay(true)?;
-    stream.set_nonblocking(true)?;
-    Ok(NonblockingStream::of_tcp(ready::TcpStream::from_std(stream)))
-}
-
-/// A connection to HOST:PORT, whose addresses are each tried for so long.
-fn connect_within<N>(rt: &N, address: &str, time: Duration) -> io::Result<TcpStream>
-where
-    N: Net<Listener = TcpListener, Stream = TcpStream>,
-{
-    let mut last = io::Error::from(ErrorKind::NotFound);
-    for address in address.to_socket_addrs(rt)? {
-        match TcpStream::connect_timeout(rt, &address, time) {
-            Ok(stream) => return Ok(stream),
-            Err(error) => last = error,
-        }
-    }
-    Err(last)
-}
-
-/// A connection to the Unix socket at a path.
-fn connect_unix<N: Net>(rt: &N, path: &str) -> io::Result<NonblockingStream> {
-    let stream = UnixStream::connect(rt, path)?;
-    stream.set_nonblocking(true)?;
-    Ok(NonblockingStream::of_unix(ready::UnixStream::from_std(stream)))
-}
-
-/// Whether an address ends in a port.
-fn has_port(address: &str) -> bool {
-    match address.rsplit_once(':') {
-        Some((host, port)) => !host.is_empty() && port.parse::<u16>().is_ok(),
-        None => false,
-    }
-}
-
-/// The path of a Unix socket, if an address is one: after `unix:`, as the tools of the reference library have it, or with a slash.
-fn path_of(address: &str) -> Option<&str> {
-    match address.strip_prefix("unix:") {
-        Some(path) => Some(path),
-        None if address.contains('/') => Some(address),
+/// Each address, and each wait, gets so many seconds, if they are named.
+fn options(timeout: Option<u32>) -> ConnectOptions {
+    let time = match timeout {
+        Some(seconds) => Some(Duration::from_secs(seconds as u64)),
         None => None,
+    };
+    ConnectOptions {
+        connecting: time,
+        silence: time,
+        ..ConnectOptions::standard()
     }
 }

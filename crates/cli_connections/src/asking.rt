@@ -1,7 +1,8 @@
 //! Calls and their outcomes, over a connection.
 
-use crate::duplex::{DuplexStream, Half};
 use crate::fault::CommandFault;
+use crate::log::Log;
+use crate::logged::Logged;
 use cp_client::{Client, ClientFault, Question};
 use cp_commands::{CallPlan, peer_hint};
 use cp_connection::ConnectionFault;
@@ -10,44 +11,38 @@ use cp_methods::{ResultsForm, results_line};
 use cp_refs::{Cap, Outcome, Request};
 use cp_schema::{MethodNumber, Schema, json_string};
 use cp_stream::DeviceError;
-use net_sockets::NonblockingStream;
+use net_client::DuplexStream;
 use std::alloc::Global;
 use std::cell::RefCell;
 use std::io::{ErrorKind, Write};
-use std::net::Net;
+use std::time::Duration;
 
 /// Makes calls on the objects of the peer behind a stream, in one go, and prints what each came to.
 /// Says whether each has results.
-pub(crate) fn converse<'p, N: Net + AllocGlobal, O: Write>(
-    rt: &N,
-    stream: NonblockingStream,
+pub(crate) fn converse<'p, O: Write>(
+    alloc: Global,
+    stream: DuplexStream<'_, HostRuntime>,
     plan: &CallPlan<'p, '_>,
     schema: Option<&Schema>,
     calls: Vec<(Cap, Request)>,
     out: &mut O,
 ) -> Result<bool, CommandFault<'p>> {
-    let alloc = rt.alloc();
-    let stream = match DuplexStream::new(rt, alloc, stream, plan) {
-        Ok(stream) => RefCell::new(stream),
-        Err(error) => {
-            drop(calls);
-            let address = plan.address;
-            return Err(CommandFault::Device { address, error });
-        }
-    };
+    let log = RefCell::new(Log::new(alloc, plan));
     let peer = Peer {
         alloc,
         stream: &stream,
+        log: &log,
         plan,
         schema,
     };
-    let (from, to) = (Half::new(&stream), Half::new(&stream));
+    let (from, to) = (Logged::new(&stream, &log), Logged::new(&stream, &log));
     let mut client = Client::new(alloc, from, to, plan.mode, plan.limits);
     let ended = ask(&mut client, &peer, calls, out);
     // Only now is the stream closed: some peers take the end of what they read as that of the connection.
     drop(client.into_devices());
     let printed = peer.print_rest(out);
     drop(stream);
+    drop(log);
     match printed {
         Ok(()) => ended,
         Err(fault) => {
@@ -57,15 +52,19 @@ pub(crate) fn converse<'p, N: Net + AllocGlobal, O: Write>(
     }
 }
 
-/// A client over both halves of a stream.
-type PeerClient<'a> = Client<Half<'a>, Half<'a>>;
+/// One way of a stream, of which messages are noted.
+type LoggedStream<'a, 'r> = Logged<'a, &'a DuplexStream<'r, HostRuntime>>;
+
+/// A client over a stream.
+type PeerClient<'a, 'r> = Client<LoggedStream<'a, 'r>, LoggedStream<'a, 'r>>;
 
 /// The peer of a client: by what its answers are printed, and what is told where it fails.
 /// It is apart from the client, which would cost each function here a proof of what it is made of.
 #[derive(Clone, Copy)]
-struct Peer<'a, 'p> {
+struct Peer<'a, 'r, 'p> {
     alloc: Global,
-    stream: &'a RefCell<DuplexStream>,
+    stream: &'a DuplexStream<'r, HostRuntime>,
+    log: &'a RefCell<Log>,
     plan: &'a CallPlan<'p, 'a>,
     schema: Option<&'a Schema>,
 }
@@ -79,8 +78,8 @@ struct Asked {
 
 /// Makes calls, and prints what each came to. Says whether each has results.
 fn ask<'p, O: Write>(
-    client: &mut PeerClient<'_>,
-    peer: &Peer<'_, 'p>,
+    client: &mut PeerClient<'_, '_>,
+    peer: &Peer<'_, '_, 'p>,
     calls: Vec<(Cap, Request)>,
     out: &mut O,
 ) -> Result<bool, CommandFault<'p>> {
@@ -95,7 +94,7 @@ fn ask<'p, O: Write>(
 
 /// Asks for the bootstrap, question 0, and makes calls. They are sent when an outcome is waited for.
 fn call_all(
-    client: &mut PeerClient<'_>,
+    client: &mut PeerClient<'_, '_>,
     calls: Vec<(Cap, Request)>,
     asked: &mut Vec<Asked>,
 ) -> Result<(), CommandFault<'static>> {
@@ -111,7 +110,7 @@ fn call_all(
 
 /// Makes a call, and adds its question.
 fn call_one(
-    client: &mut PeerClient<'_>,
+    client: &mut PeerClient<'_, '_>,
     cap: Cap,
     request: Request,
     asked: &mut Vec<Asked>,
@@ -129,8 +128,8 @@ fn call_one(
 
 /// Waits for what each call came to, and prints it. Says whether each has results. After a fault what had come before it is printed, too.
 fn tell_all<'p, O: Write>(
-    client: &mut PeerClient<'_>,
-    peer: &Peer<'_, 'p>,
+    client: &mut PeerClient<'_, '_>,
+    peer: &Peer<'_, '_, 'p>,
     asked: &[Asked],
     out: &mut O,
 ) -> Result<bool, CommandFault<'p>> {
@@ -139,7 +138,11 @@ fn tell_all<'p, O: Write>(
     for asked in asked {
         match client.wait(asked.question) {
             Ok(outcome) => all &= peer.tell(*asked, outcome, out)?,
-            Err(fault) => first = first.or(Some(fault)),
+            Err(fault) => {
+                first = first.or(Some(fault));
+                // What came before is there already, so nothing is waited for any more.
+                let _ = peer.stream.set_silence(Some(Duration::ZERO));
+            }
         }
     }
     match first {
@@ -148,7 +151,7 @@ fn tell_all<'p, O: Write>(
     }
 }
 
-impl<'a, 'p> Peer<'a, 'p> {
+impl<'a, 'r, 'p> Peer<'a, 'r, 'p> {
     /// Prints what a call came to. Says whether it has results.
     fn tell<O: Write>(
         &self,
@@ -213,7 +216,7 @@ impl<'a, 'p> Peer<'a, 'p> {
     }
 
     /// Why the calls of this client come to nothing.
-    fn fault(&self, client: &PeerClient<'_>, fault: ClientFault) -> CommandFault<'p> {
+    fn fault(&self, client: &PeerClient<'_, '_>, fault: ClientFault) -> CommandFault<'p> {
         match fault {
             ClientFault::Device(error) => self.device(error),
             fault => self.refusal(client, fault),
@@ -221,7 +224,7 @@ impl<'a, 'p> Peer<'a, 'p> {
     }
 
     /// The same, where no device failed.
-    fn refusal(&self, client: &PeerClient<'_>, fault: ClientFault) -> CommandFault<'p> {
+    fn refusal(&self, client: &PeerClient<'_, '_>, fault: ClientFault) -> CommandFault<'p> {
         if let Some(reason) = client.closed() {
             match format!(in self.alloc; "{reason}") {
                 Ok(reason) => return CommandFault::Closed(reason),
@@ -238,11 +241,11 @@ impl<'a, 'p> Peer<'a, 'p> {
 
     /// Why the peer's first bytes can't be read.
     fn first_fault(&self, fault: ClientFault) -> CommandFault<'p> {
-        let Ok(stream) = self.stream.try_borrow_mut() else {
+        let Ok(log) = self.log.try_borrow_mut() else {
             return CommandFault::Refused(fault);
         };
-        let hint = peer_hint(self.plan.mode, &stream.first);
-        drop(stream);
+        let hint = peer_hint(self.plan.mode, &log.first);
+        drop(log);
         match hint {
             Some(hint) => CommandFault::Foreign { fault, hint },
             None => CommandFault::Refused(fault),
@@ -277,11 +280,11 @@ impl<'a, 'p> Peer<'a, 'p> {
 
     /// Prints the messages that weren't.
     fn print_messages<O: Write>(&self, out: &mut O) -> Result<(), CommandFault<'p>> {
-        let Ok(mut stream) = self.stream.try_borrow_mut() else {
+        let Ok(mut log) = self.log.try_borrow_mut() else {
             return Ok(());
         };
-        let printed = stream.log.print(out);
-        drop(stream);
+        let printed = log.print(out);
+        drop(log);
         Ok(printed?)
     }
 }

@@ -4,10 +4,10 @@
 
 mod address;
 mod asking;
-mod duplex;
 mod fault;
 mod hosted;
 mod log;
+mod logged;
 mod loops;
 mod objects;
 mod serving;

@@ -8,6 +8,9 @@ use cp_words::{Limits, Segments};
 use std::alloc::Global;
 use std::io::{self, Write};
 
+/// How many of the first bytes are kept.
+const FIRST: usize = 8;
+
 /// The messages that went over a connection, as lines that weren't printed. A message that can't be read, or for whose line
 /// there is no memory, is left out.
 #[derive(Drop)]
@@ -19,6 +22,8 @@ pub(crate) struct Log {
     sent: FrameReader,
     received: FrameReader,
     lines: String,
+    /// The first bytes that came.
+    pub(crate) first: Vec<u8>,
 }
 
 /// Which way messages go.
@@ -39,6 +44,7 @@ impl Log {
             sent: FrameReader::new(alloc, plan.mode, Limits::standard()),
             received: FrameReader::new(alloc, plan.mode, plan.limits),
             lines: String::new(alloc),
+            first: Vec::new(alloc),
         }
     }
 
@@ -50,7 +56,18 @@ impl Log {
     }
 
     /// Notes bytes that went this way.
-    pub(crate) fn note(&mut self, direction: MessageDirection, bytes: &[u8]) {
+    pub(crate) fn note(&mut self, direction: MessageDirection, bytes: &[u8]) -> io::Result<()> {
+        let is_first = matches!(direction, MessageDirection::Received) && self.first.is_empty();
+        if is_first {
+            self.first
+                .extend_from_slice(&bytes[..bytes.len().min(FIRST)])?;
+        }
+        self.note_messages(direction, bytes);
+        Ok(())
+    }
+
+    /// Notes the messages among bytes that went this way.
+    fn note_messages(&mut self, direction: MessageDirection, bytes: &[u8]) {
         if !self.notes {
             return;
         }

@@ -5,6 +5,7 @@ use crate::arguments::{
     Words, limits_of, mode_of, printed_notation_of,
 };
 use crate::serving::{LISTEN, address};
+use crate::sessions::{RECORD, RECORD_MOST, record_of};
 use clap::ArgMatches;
 use cp_commands::{CallPlan, Guarding, RelayForm, RelayRoute, RelayTask, Task, TypesPlan};
 use cp_frame::Mode;
@@ -220,11 +221,12 @@ pub(crate) const RELAY: Words = Words {
          \n\
          Examples:\n\
          \x20 capnp_cli relay --show 7001 127.0.0.1:7000 1\n\
+         \x20 capnp_cli relay --record seen 7001 127.0.0.1:7000 1\n\
          \x20 capnp_cli relay --schema store.request --allow Store.get --allow Store.list 7001 127.0.0.1:7000 1",
 };
 
 /// The arguments of `relay`.
-pub(crate) static RELAY_ARGUMENTS: [Argument; 20] = [
+pub(crate) static RELAY_ARGUMENTS: [Argument; 22] = [
     PACKED,
     OTHER,
     ANEW,
@@ -241,6 +243,8 @@ pub(crate) static RELAY_ARGUMENTS: [Argument; 20] = [
     CALLS_UNDER_WAY,
     CALLS_A_SECOND,
     BYTES_A_SECOND,
+    RECORD,
+    RECORD_MOST,
     LISTEN,
     PORT,
     TARGET,
@@ -322,6 +326,7 @@ pub(crate) fn relay_of<'a, 'b>(matches: &'b ArgMatches<'a>) -> Option<Task<'a, '
         route,
         form,
         guarding: guarding_of(matches),
+        record: record_of(matches),
     }))
 }
 

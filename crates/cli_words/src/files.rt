@@ -4,6 +4,7 @@ use crate::arguments::{
     Argument, ArgumentForm, FILE, MOST_WORDS, NESTING, PACKED, PRETTY, TRAVERSAL, Words, limits_of,
     mode_of, notation_of, printed_notation_of,
 };
+use crate::sessions::{PICTURE, SESSION, SLOW, TIMES, session_of};
 use clap::ArgMatches;
 use cp_commands::{EncodePlan, FileTask, Plan, STDIN, ShowPlan, Task};
 
@@ -78,6 +79,20 @@ const WORDS: Argument = Argument {
     help: "A segment has at most N words, or one body",
 };
 
+/// Only canonical messages.
+const ONLY_CANONICAL: Argument = Argument {
+    name: "canonical",
+    form: ArgumentForm::Flag,
+    help: "Refuse a message that isn't canonical",
+};
+
+/// Words without a frame.
+const FLAT: Argument = Argument {
+    name: "flat",
+    form: ArgumentForm::Flag,
+    help: "Write the words alone, without a segment table and never packed, as one signs and hashes them",
+};
+
 /// The words of `show`.
 pub(crate) const SHOW: Words = Words {
     name: "show",
@@ -93,12 +108,14 @@ pub(crate) const SHOW: Words = Words {
          \x20 capnp_cli show calls.bin\n\
          \x20 capnp_cli show --schema addressbook.request --type AddressBook book.bin\n\
          \x20 capnp_cli show --schema addressbook.request --type AddressBook --json book.bin | jq .people\n\
-         \x20 capnp_cli show --schema store.request --calls client.bin server.bin",
+         \x20 capnp_cli show --schema store.request --calls client.bin server.bin\n\
+         \x20 capnp_cli show --schema store.request --session seen/1 --times",
 };
 
 /// The arguments of `show`.
-pub(crate) static SHOW_ARGUMENTS: [Argument; 9] = [
-    SCHEMA, TYPE, CALLS, SHOWN_JSON, PRETTY, PACKED, NESTING, TRAVERSAL, FILE,
+pub(crate) static SHOW_ARGUMENTS: [Argument; 13] = [
+    SCHEMA, TYPE, CALLS, SHOWN_JSON, PRETTY, SESSION, TIMES, PICTURE, SLOW, PACKED, NESTING,
+    TRAVERSAL, FILE,
 ];
 
 /// The words of `encode`.
@@ -140,8 +157,30 @@ pub(crate) const CHECK: Words = Words {
          \x20 capnp_cli check --nesting 32 calls.bin",
 };
 
+/// The words of `canonical`.
+pub(crate) const CANONICAL: Words = Words {
+    name: "canonical",
+    about: "Write each message of FILE in its canonical form",
+    after_help: "Exit status:\n\
+         \x20 0  every message was accepted\n\
+         \x20 1  a message was refused; standard error says at which byte, and why\n\
+         \x20 2  the command line is wrong, or a file failed\n\
+         \n\
+         Example:\n\
+         \x20 capnp_cli canonical --flat person.bin | sha256sum",
+};
+
+/// The arguments of `canonical`.
+pub(crate) static CANONICAL_ARGUMENTS: [Argument; 5] = [PACKED, FLAT, NESTING, TRAVERSAL, FILE];
+
 /// The arguments of `check`.
-pub(crate) static CHECK_ARGUMENTS: [Argument; 4] = [PACKED, NESTING, TRAVERSAL, FILE];
+pub(crate) static CHECK_ARGUMENTS: [Argument; 5] = [
+    ONLY_CANONICAL,
+    PACKED,
+    NESTING,
+    TRAVERSAL,
+    FILE,
+];
 
 /// The words of `pack`.
 pub(crate) const PACK: Words = Words {
@@ -193,6 +232,9 @@ pub(crate) static RECUT_ARGUMENTS: [Argument; 3] = [PACKED, WORDS, FILE];
 
 /// What the words of `show` ask for.
 pub(crate) fn show_of<'a, 'b>(matches: &'b ArgMatches<'a>) -> Option<Task<'a, 'b>> {
+    if let Some(task) = session_of(matches) {
+        return Some(task);
+    }
     let (path, mode) = (matches.get_str("FILE")?, mode_of(matches));
     let limits = limits_of(matches)?;
     let Some(request) = matches.get_str("schema") else {
@@ -227,9 +269,23 @@ pub(crate) fn encode_of<'a, 'b>(matches: &'b ArgMatches<'a>) -> Option<Task<'a, 
 pub(crate) fn check_of<'a, 'b>(matches: &'b ArgMatches<'a>) -> Option<Task<'a, 'b>> {
     let (path, mode) = (matches.get_str("FILE")?, mode_of(matches));
     let limits = limits_of(matches)?;
+    let plan = if matches.get_flag("canonical") {
+        Plan::CheckCanonical { mode, limits }
+    } else {
+        Plan::Check { mode, limits }
+    };
+    Some(Task::OnFile(FileTask::Frames { plan, path }))
+}
+
+/// What the words of `canonical` ask for.
+pub(crate) fn canonical_of<'a, 'b>(matches: &'b ArgMatches<'a>) -> Option<Task<'a, 'b>> {
     Some(Task::OnFile(FileTask::Frames {
-        plan: Plan::Check { mode, limits },
-        path,
+        plan: Plan::Canonical {
+            mode: mode_of(matches),
+            limits: limits_of(matches)?,
+            is_flat: matches.get_flag("flat"),
+        },
+        path: matches.get_str("FILE")?,
     }))
 }
 

@@ -5,6 +5,7 @@ mod arguments;
 mod connections;
 mod files;
 mod serving;
+mod sessions;
 mod words;
 
 pub use words::{Acts, run};

@@ -3,6 +3,7 @@
 use crate::arguments::{Argument, Words, command_of};
 use crate::connections::asks_types;
 use crate::serving::{self, is_open};
+use crate::sessions::{SESSION_ARGUMENTS, shows_session};
 use crate::{connections, files};
 use clap::{ArgMatches, Command, Error};
 use cp_commands::{BROKEN, Task};
@@ -13,13 +14,14 @@ use std::{env, io};
 const VERSION: &str = "0.2.0";
 
 /// The commands, in the order of the help.
-const ALL: [Name; 10] = [
+const ALL: [Name; 11] = [
     Name::Show,
     Name::Encode,
     Name::Check,
     Name::Pack,
     Name::Unpack,
     Name::Recut,
+    Name::Canonical,
     Name::Loop,
     Name::Serve,
     Name::Relay,
@@ -41,6 +43,7 @@ enum Name {
     Pack,
     Unpack,
     Recut,
+    Canonical,
     Loop,
     Serve,
     Relay,
@@ -57,7 +60,10 @@ pub fn run<A: Acts>(rt: &HostRuntime) -> io::Result<u8> {
 
 /// Has the program do what these words ask for.
 fn act_on<A: Acts>(rt: &HostRuntime, words: &[String]) -> io::Result<u8> {
-    let command = root(rt.alloc(), is_open(words) || asks_types(words))?;
+    let command = root(
+        rt.alloc(),
+        is_open(words) || asks_types(words) || shows_session(words),
+    )?;
     match command.try_get_matches_from(words) {
         Ok(matches) => {
             let status = act_by::<A>(rt, &matches);
@@ -152,6 +158,7 @@ impl Name {
             Name::Pack => files::PACK,
             Name::Unpack => files::UNPACK,
             Name::Recut => files::RECUT,
+            Name::Canonical => files::CANONICAL,
             Name::Loop => connections::LOOP,
             Name::Serve => serving::SERVE,
             Name::Relay => connections::RELAY,
@@ -162,12 +169,14 @@ impl Name {
     /// What it takes.
     fn arguments(self, is_open: bool) -> &'static [Argument] {
         match self {
+            Name::Show if is_open => &SESSION_ARGUMENTS,
             Name::Show => &files::SHOW_ARGUMENTS,
             Name::Encode => &files::ENCODE_ARGUMENTS,
             Name::Check => &files::CHECK_ARGUMENTS,
             Name::Pack => &files::PACK_ARGUMENTS,
             Name::Unpack => &files::UNPACK_ARGUMENTS,
             Name::Recut => &files::RECUT_ARGUMENTS,
+            Name::Canonical => &files::CANONICAL_ARGUMENTS,
             Name::Loop => &connections::LOOP_ARGUMENTS,
             Name::Serve if is_open => &serving::OPEN_ARGUMENTS,
             Name::Serve => &serving::SERVE_ARGUMENTS,
@@ -186,6 +195,7 @@ impl Name {
             Name::Pack => files::pack_of(matches),
             Name::Unpack => files::unpack_of(matches),
             Name::Recut => files::recut_of(matches),
+            Name::Canonical => files::canonical_of(matches),
             Name::Loop => connections::loop_of(matches),
             Name::Serve => serving::serve_of(matches),
             Name::Relay => connections::relay_of(matches),

@@ -78,11 +78,11 @@ pub fn text_copy(alloc: Global, text: &TextReader<'_>) -> Result<Whole, BuildErr
 }
 
 /// A copy of data.
-pub fn data_copy(alloc: Global, data: &DataReader<'_>) -> Result<Whole, BuildError>
-    ensures data { IfOk result (λ whole. whole ≡ bytes_tree data.now) }
-    ensures long { result ≡ Err TooLong → 2 ^ 29 ≤ length data.now }
+pub fn data_copy(alloc: Global, bytes: &DataReader<'_>) -> Result<Whole, BuildError>
+    ensures data { IfOk result (λ whole. whole ≡ bytes_tree bytes.now) }
+    ensures long { result ≡ Err TooLong → 2 ^ 29 ≤ length bytes.now }
 {
-    bytes_of(data.to_vec(alloc)?)
+    bytes_of(bytes.to_vec(alloc)?)
 }
 
 /// A tree whose capabilities get their places. `TooLong` says that no message can hold it.

@@ -6,6 +6,7 @@ mod copies;
 mod fault;
 mod laws;
 mod lists;
+mod number_lists;
 mod numbers;
 mod parts;
 mod structure;
@@ -20,6 +21,10 @@ pub use laws::{
     sections_stay, texts_come_back,
 };
 pub use lists::StructListBuilder;
+pub use number_lists::{
+    Enumerant, enumerants_of, float32_of, float64_of, signed8_of, signed16_of, signed32_of,
+    signed64_of,
+};
 pub use parts::{
     bits_of, bytes_of, cap_of, four_bytes_of, pointers_of, text_of, two_bytes_of, voids_of,
     words_of,

@@ -4,9 +4,11 @@ ghost use Rattle.std.specs.Prelude.{◌≡◌, ◌<◌, ◌≤◌, ◌+◌, ◌^
 ghost use Rattle.cp_builder.specs.Numbers.{put};
 
 use crate::structure::StructBuilder;
+use cp_fields::u16_at;
 
 impl<const W: usize, const P: usize> StructBuilder<W, P> {
     ghost use Rattle.std.specs.Prelude.{◌≡◌, ◌<◌, ◌≤◌, ◌+◌, ◌*◌, ◌/◌, ◌%◌, ◌^◌};
+    ghost use Rattle.cp_fields.specs.Numbers.{plain};
     ghost use Rattle.cp_builder.specs.Numbers.{flag_bit};
     ghost use Rattle.cp_builder.specs.Drafts.{with_uint};
 
@@ -35,6 +37,13 @@ impl<const W: usize, const P: usize> StructBuilder<W, P> {
         ensures { self.new ≡ with_uint self.old 16 i number }
     {
         self.set_number(16, i, number as u64);
+    }
+
+    /// Number `i` of 16 bits, such as that of a union's member.
+    pub fn u16(&self, i: u32) -> u16
+        ensures { result ≡ plain self.now 16 i }
+    {
+        u16_at(&self.words, i)
     }
 
     /// Sets number `i` of 32 bits.

@@ -4,7 +4,9 @@ use crate::guarding::{is_guarded, rules_of};
 use cp_commands::{BROKEN, BUFFER, Guarding, RelayTask, failed};
 use cp_relay::Rules;
 use net_proxy::{GuardPlan, RelayPlan, relay_port};
+use std::fs::DirBuilder;
 use std::io::{self, BufWriter};
+use std::os::unix::fs::DirBuilderExt;
 
 /// Relays connections, guarded by rules if the words say so.
 pub(crate) fn relay(rt: &HostRuntime, task: &RelayTask) -> u8 {
@@ -34,9 +36,16 @@ fn relay_guarded(rt: &HostRuntime, task: &RelayTask) -> io::Result<u8> {
 
 /// Relays connections, guarded so if they are.
 fn relay_by(rt: &HostRuntime, task: &RelayTask, guard: Option<GuardPlan<'_>>) -> io::Result<u8> {
+    if let Some(record) = task.record {
+        // Its owner alone may read what went through.
+        if let Err(error) = DirBuilder::new().mode(0o700).create(rt, record.path) {
+            return Ok(failed(rt, record.path, error));
+        }
+    }
     let plan = RelayPlan {
         form: task.form,
         guard,
+        record: task.record,
     };
     let mut out = BufWriter::with_capacity(rt.alloc(), BUFFER, io::writer(rt))?;
     let mut err = rt.stderr();

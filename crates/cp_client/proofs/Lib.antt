@@ -6,3 +6,4 @@ pub mod Writing
 pub mod Reading
 pub mod Trees
 pub mod Streaming
+pub mod Calling

@@ -1,7 +1,6 @@
 -- How calls go of which several are under way.
-use Rattle.std.specs.Prelude.{◌≡◌, ℕ, nat_lt, if◌then◌else◌, List, [], ◌∷◌, ◌++◌, Option, Some, None, Ok, Err, length, drop, refl}
+use Rattle.std.specs.Prelude.{◌≡◌, ℕ, true, false, nat_lt, if◌then◌else◌, List, [], ◌∷◌, ◌++◌, Option, Some, None, Ok, Err, length, drop, refl}
 use Rattle.std.specs.Coded.{Coded, code_by, coded×, coded_ℕ, coded_list}
-use Rattle.cp_refs.specs.declared.cap.Cap.{Cap}
 use Rattle.cp_refs.specs.declared.call.Request.{Request}
 use Rattle.cp_refs.specs.declared.outcome.Outcome.{Outcome}
 use Rattle.cp_vat_machine.specs.declared.event.Event.TheVariants as events
@@ -15,6 +14,8 @@ use Rattle.cp_client.specs.declared.fault.CallError.{CallError}
 use Rattle.cp_client.specs.declared.fault.CallError.TheVariants as faults
 use Rattle.cp_client.specs.Conversation.{Conversation}
 use Rattle.cp_objects.specs.ObjectTable.{ObjectTableKind}
+use Rattle.cp_objects.specs.SessionCap.{is_of}
+use Rattle.cp_objects.specs.declared.session_cap.SessionCap.{SessionCap}
 use Rattle.cp_client.specs.Calls.{Asks, AsksOrNot, Finishes, IsUndone}
 use Rattle.cp_client.specs.Waits.{Stops, Waits}
 
@@ -38,8 +39,8 @@ due flow = if nat_lt (length flow.under_way) flow.window then None else oldest f
 
 -- an outcome is results; or it is none, for this reason
 abbrev pub ComesTo : Outcome → Option NoResults → Type 0
-ComesTo outcome None = (results : ResultPayload) × Comes outcome (Ok results)
-ComesTo outcome (Some reason) = Comes outcome (Err reason)
+ComesTo outcome None = (results : ResultPayload) × Comes 0 outcome (Ok results)
+ComesTo outcome (Some reason) = Comes 0 outcome (Err reason)
 
 -- Of objects of one table.
 module _ {H : Type 0} (table : ObjectTableKind H) where
@@ -74,22 +75,27 @@ module _ {H : Type 0} (table : ObjectTableKind H) where
   abbrev pub IsFull : Flow → Conversation H → CallError → List ℕ → Conversation H → Type 0
   IsFull flow old fault left new = (q : ℕ) × (due flow ≡ Some q) × IsUnended flow.under_way old q fault left new
 
-  -- A capability was called, once there was room. The call is under way.
-  pub record Sends (flow : Flow) (old : Conversation H) (cap : Cap) (request : Request) (sent : Flow) (new : Conversation H) : Type 0 where
+  -- A capability of the client's session was called, once there was room. The call is under way.
+  pub record Sends (flow : Flow) (old : Conversation H) (target : SessionCap) (request : Request) (sent : Flow) (new : Conversation H) : Type 0 where
     pub left : List ℕ
     pub mid : Conversation H
     pub room : MakesRoom flow.under_way old (due flow) left mid
+    pub own : is_of mid.number target ≡ true
     pub question : ℕ
-    pub asks : Asks mid (events.Call cap request) question new
+    pub asks : Asks mid (events.Call target.cap request) question new
     pub noted : sent ≡ record flow { under_way = left ++ question ∷ [] }
 
-  -- Why no call is under way that wasn't: there is no room; or it isn't made; or it is, and memory ran out for its question.
-  pub data IsUnsent (flow : Flow) (old : Conversation H) (cap : Cap) (request : Request) (fault : CallError) (left : List ℕ) (new : Conversation H) : Type 0 where
-    full : IsFull flow old fault left new → IsUnsent flow old cap request fault left new
-    uncalled : (f : ClientFault) (mid : Conversation H) → fault ≡ faults.Client f → MakesRoom flow.under_way old (due flow) left mid → AsksOrNot mid cap request (Err f) new
-        → IsUnsent flow old cap request fault left new
+  -- Why no call is under way that wasn't: there is no room; or the capability is another session's; or its call isn't made; or it is, and memory ran out for its
+  -- question.
+  pub data IsUnsent (flow : Flow) (old : Conversation H) (target : SessionCap) (request : Request) (fault : CallError) (left : List ℕ) (new : Conversation H) : Type 0 where
+    full : IsFull flow old fault left new → IsUnsent flow old target request fault left new
+    foreign : fault ≡ faults.Client client_faults.OtherSession → MakesRoom flow.under_way old (due flow) left new → is_of new.number target ≡ false
+        → IsUnsent flow old target request fault left new
+    uncalled : (f : ClientFault) (mid : Conversation H) → fault ≡ faults.Client f → MakesRoom flow.under_way old (due flow) left mid → is_of mid.number target ≡ true
+        → AsksOrNot mid target.cap request (Err f) new → IsUnsent flow old target request fault left new
     forgotten : (q : ℕ) (mid : Conversation H) → fault ≡ faults.Client (client_faults.Connection connection_faults.OutOfMemory)
-        → MakesRoom flow.under_way old (due flow) left mid → Asks mid (events.Call cap request) q new → IsUnsent flow old cap request fault left new
+        → MakesRoom flow.under_way old (due flow) left mid → is_of mid.number target ≡ true → Asks mid (events.Call target.cap request) q new
+        → IsUnsent flow old target request fault left new
 
   -- Some of the questions under way ended, one after another, and the next one didn't.
   pub record Breaks (asked : List ℕ) (old : Conversation H) (fault : CallError) (left : List ℕ) (new : Conversation H) : Type 0 where

@@ -15,9 +15,10 @@ use Rattle.cp_client.specs.Devices.{Device}
 abbrev pub Asked : Type 0
 Asked = Table (Option Outcome)
 
--- Its session, the bytes that were read and weren't taken, its questions, why its vat closed, its reader and its writer.
+-- Its session and the number of that, the bytes that were read and weren't taken, its questions, why its vat closed, its reader and its writer.
 pub record Conversation (H : Type 0) : Type 0 where
   pub session : State H
+  pub number : ℕ
   pub left : List ℕ
   pub asked : Asked
   pub closed : Option Reason
@@ -28,10 +29,10 @@ pub record Conversation (H : Type 0) : Type 0 where
 abbrev pub options_of : Mode → Bounds → Option ℕ → SessionOptions
 options_of mode limits bootstrap = record { mode = mode; messages = limits; bootstrap = bootstrap; may_call = true; releases_idle = false; limits = unlimited }
 
--- a client that asked nothing, of which nothing was read
-abbrev pub beginning : {H : Type 0} → State H → Device → Device → Conversation H
-beginning session from to = record { session = session; left = []; asked = empty; closed = None; from = from; to = to }
+-- a client that asked nothing, of which nothing was read, whose session has this number
+abbrev pub beginning : {H : Type 0} → State H → ℕ → Device → Device → Conversation H
+beginning session number from to = record { session = session; number = number; left = []; asked = empty; closed = None; from = from; to = to }
 
--- a client with these objects that asked nothing
-abbrev pub new_conversation : {H : Type 0} → Mode → Bounds → Option ℕ → H → Device → Device → Conversation H
-new_conversation mode limits bootstrap objects from to = beginning (new_state (options_of mode limits bootstrap) objects 0) from to
+-- a client with these objects that asked nothing, whose session has this number
+abbrev pub new_conversation : {H : Type 0} → Mode → Bounds → Option ℕ → H → ℕ → Device → Device → Conversation H
+new_conversation mode limits bootstrap objects number from to = beginning (new_state (options_of mode limits bootstrap) objects 0) number from to

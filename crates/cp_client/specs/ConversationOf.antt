@@ -9,6 +9,7 @@ use Rattle.cp_client.specs.Conversation.{Conversation}
 abbrev pub seen : {S H R W : Type 0} → (S → State H) → (R → Option (List ℕ)) → (W → Option (List ℕ)) → SessionClient R W S → Conversation H
 seen state remaining contents client = record {
   session = state client.session;
+  number = client.number;
   left = client.piece;
   asked = client.questions.asked;
   closed = client.closed;

@@ -11,4 +11,5 @@ kind_of (faults.Device error) = kinds.Disconnected
 kind_of faults.Ended = kinds.Disconnected
 kind_of faults.NotAsked = kinds.Failed
 kind_of faults.TooLong = kinds.Failed
+kind_of faults.OtherSession = kinds.Failed
 kind_of (faults.Connection fault) = connections.kind_of fault

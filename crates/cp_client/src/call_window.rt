@@ -50,8 +50,8 @@ impl CallWindow {
         }
     }
 
-    /// Calls a capability. Where as many calls are under way as the window has, the oldest is waited for before. Where memory
-    /// runs out the call may have been made, and isn't under way.
+    /// Calls a capability of the client's session. Where as many calls are under way as the window has, the oldest is waited for before.
+    /// Where memory runs out the call may have been made, and isn't under way.
     pub fn send<R: Read + Drop, W: Write + Drop, S: CallingSession>(
         &mut self,
         client: &mut SessionClient<R, W, S>,
@@ -143,7 +143,7 @@ impl CallWindow {
 fn failure_of(outcome: Outcome) -> Option<NoResults>
     ensures { ComesTo outcome result }
 {
-    match payload_of(outcome) {
+    match payload_of(0, outcome) {
         Ok(_) => None,
         Err(reason) => Some(reason),
     }

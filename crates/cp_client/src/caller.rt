@@ -15,7 +15,13 @@ use std::io::{Read, Write};
 impl<R: Read + Drop, W: Write + Drop, S: CallingSession> Caller for SessionClient<R, W, S> {
     type Fault = ClientFault;
 
+    ghost number = { λ client. client.number };
+
     ghost sends = { λ old cap request result new. AsksOrNot (seen S.state R.remaining W.contents old) cap request result (seen S.state R.remaining W.contents new) };
+
+    fn session(&self) -> u64 {
+        self.number
+    }
 
     fn send(&mut self, alloc: Global, cap: &Cap, request: Request) -> Result<u32, ClientFault> {
         let cap = cap.copy(alloc)?;

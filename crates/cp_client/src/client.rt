@@ -22,7 +22,7 @@ use crate::question::Question;
 use crate::questions::Questions;
 use cp_connection::{ConnectionFault, ConnectionStats};
 use cp_frame::Mode;
-use cp_objects::{Objects, ServedObject, Waker};
+use cp_objects::{Objects, ServedObject, SessionCap, Waker};
 use cp_refs::{Cap, Outcome, Request};
 use cp_session::{
     CallingSession, DrivenSession, Session, SessionEvent, SessionLimits, SessionOptions,
@@ -82,6 +82,8 @@ pub struct SessionClient<R, W, S> {
     from: Tap<R>,
     to: Tap<W>,
     session: S,
+    /// The number of the session.
+    pub(crate) number: u64,
     /// The bytes that were read and weren't taken.
     piece: Piece,
     questions: Questions,
@@ -96,6 +98,7 @@ impl<R: Drop, W: Drop, S: Drop> Drop for SessionClient<R, W, S> {
             from: _,
             to: _,
             session: _,
+            number: _,
             piece: _,
             questions: _,
             closed: _,
@@ -106,7 +109,7 @@ impl<R: Drop, W: Drop, S: Drop> Drop for SessionClient<R, W, S> {
 impl<R: Read + Drop, W: Write + Drop> SessionClient<R, W, Session<Nobody>> {
     /// A client without objects, that asked nothing. What comes is read within these limits; what goes out keeps to the standard ones.
     pub fn new(alloc: Global, from: R, to: W, mode: Mode, limits: Limits) -> Client<R, W>
-        ensures begun { let at = seen (λ (it : _). state_of it) R.remaining W.contents in at result ≡ new_conversation mode limits None (at result).session.objects (fresh (R.remaining from)) (fresh (W.contents to)) }
+        ensures begun { let at = seen (λ (it : _). state_of it) R.remaining W.contents in at result ≡ new_conversation mode limits None (at result).session.objects 0 (fresh (R.remaining from)) (fresh (W.contents to)) }
         ensures nobody { objects_of (seen (λ (it : _). state_of it) R.remaining W.contents result).session.objects ≡ alone }
     {
         SessionClient::exporting(alloc, from, to, mode, limits)
@@ -116,15 +119,16 @@ impl<R: Read + Drop, W: Write + Drop> SessionClient<R, W, Session<Nobody>> {
 impl<R: Read + Drop, W: Write + Drop, O: ServedObject<Makes = O>> SessionClient<R, W, Session<O>> {
     /// The same, to which `export` may add objects. The peer gets none for its Bootstrap.
     pub fn exporting(alloc: Global, from: R, to: W, mode: Mode, limits: Limits) -> Client<R, W, O>
-        ensures begun { let at = seen (λ (it : _). state_of it) R.remaining W.contents in at result ≡ new_conversation mode limits None (at result).session.objects (fresh (R.remaining from)) (fresh (W.contents to)) }
+        ensures begun { let at = seen (λ (it : _). state_of it) R.remaining W.contents in at result ≡ new_conversation mode limits None (at result).session.objects 0 (fresh (R.remaining from)) (fresh (W.contents to)) }
         ensures nobody { objects_of (seen (λ (it : _). state_of it) R.remaining W.contents result).session.objects ≡ alone }
     {
         let options = options(mode, limits, None);
         let session = Session::new(alloc, &options, Objects::new(alloc), NOW);
-        SessionClient::begin(alloc, from, to, session)
+        SessionClient::begin(alloc, from, to, session, 0)
     }
 
-    /// A client with these objects, of which the peer gets the first for its Bootstrap.
+    /// A client with these objects, of which the peer gets the first for its Bootstrap. Its session has their number: a program with several
+    /// clients gives each one of its own (`Objects::set_session`), so that none takes another's capabilities.
     pub fn with_objects(
         alloc: Global,
         from: R,
@@ -133,15 +137,16 @@ impl<R: Read + Drop, W: Write + Drop, O: ServedObject<Makes = O>> SessionClient<
         limits: Limits,
         objects: Objects<O>,
     ) -> Client<R, W, O>
-        ensures { seen (λ (it : _). state_of it) R.remaining W.contents result ≡ new_conversation mode limits (Some 0) objects (fresh (R.remaining from)) (fresh (W.contents to)) }
+        ensures { seen (λ (it : _). state_of it) R.remaining W.contents result ≡ new_conversation mode limits (Some 0) objects (objects_of objects).context.this.session (fresh (R.remaining from)) (fresh (W.contents to)) }
     {
         let options = options(mode, limits, Some(0));
+        let number = objects.session();
         let session = Session::new(alloc, &options, objects, NOW);
-        SessionClient::begin(alloc, from, to, session)
+        SessionClient::begin(alloc, from, to, session, number)
     }
 
     /// Adds an object, and gives the capability of it, as `Objects::add`. At an `Err` memory ran out.
-    pub fn export(&mut self, object: O) -> Result<Cap, AllocError>
+    pub fn export(&mut self, object: O) -> Result<SessionCap, AllocError>
         ensures cap { IfOk result (λ cap. cap ≡ next_cap (seen (λ (it : _). state_of it) R.remaining W.contents self.old).session) }
         ensures exports { let at = seen (λ (it : _). state_of it) R.remaining W.contents in OnOk result (Exports object (at self.old) (at self.new)) }
         ensures unexported { let at = seen (λ (it : _). state_of it) R.remaining W.contents in OnErr result (KeepsRest (at self.old) (at self.new)) }
@@ -158,6 +163,13 @@ impl<R: Read + Drop, W: Write + Drop, O: ServedObject<Makes = O>> SessionClient<
 }
 
 impl<R: Read + Drop, W: Write + Drop, S: CallingSession> SessionClient<R, W, S> {
+    /// A capability of its session, as typed clients have it.
+    pub fn own(&self, cap: Cap) -> SessionCap
+        ensures { result ≡ record { session = (seen S.state R.remaining W.contents self.now).number; cap = cap } }
+    {
+        SessionCap::new(self.number, cap)
+    }
+
     /// Asks for the peer's bootstrap capability. Refused as `Vat::bootstrap`.
     pub fn bootstrap(&mut self) -> Result<Question, ClientFault>
         ensures asks { let at = seen S.state R.remaining W.contents in IfOk result (λ q. Asks (at self.old) events.Bootstrap q.number (at self.new)) }
@@ -302,6 +314,7 @@ impl<R: Read + Drop, W: Write + Drop, S: CallingSession> SessionClient<R, W, S> 
             from,
             to,
             mut session,
+            number: _,
             piece,
             questions,
             closed,
@@ -315,13 +328,14 @@ impl<R: Read + Drop, W: Write + Drop, S: CallingSession> SessionClient<R, W, S> 
     }
 
     /// A client that does nothing yet, over a session that does nothing yet.
-    fn begin(alloc: Global, from: R, to: W, session: S) -> SessionClient<R, W, S>
-        ensures { seen S.state R.remaining W.contents result ≡ beginning (S.state session) (fresh (R.remaining from)) (fresh (W.contents to)) }
+    fn begin(alloc: Global, from: R, to: W, session: S, number: u64) -> SessionClient<R, W, S>
+        ensures { seen S.state R.remaining W.contents result ≡ beginning (S.state session) number (fresh (R.remaining from)) (fresh (W.contents to)) }
     {
         SessionClient {
             from: Tap::new(from),
             to: Tap::new(to),
             session,
+            number,
             piece: Piece::new(alloc),
             questions: Questions::new(alloc),
             closed: None,

@@ -4,11 +4,11 @@ ghost use Rattle.std.specs.Prelude.{◌≡◌};
 ghost use Rattle.cp_client.specs.declared.fault.ClientFault.TheVariants.{Connection, Device};
 ghost use Rattle.cp_connection.specs.declared.fault.ConnectionFault.TheVariants.{OutOfMemory};
 ghost use Rattle.cp_stream.specs.Device.{of_error};
-ghost use Rattle.cp_client.specs.Faults.{of_draft};
+ghost use Rattle.cp_client.specs.Faults.{of_draft, of_naming};
 
 use cp_builder::BuildError;
 use cp_connection::ConnectionFault;
-use cp_interfaces::NoResults;
+use cp_interfaces::{NamingError, NoResults};
 use cp_messages::ExceptionKind;
 use cp_stream::DeviceError;
 use std::alloc::{AllocError, AllocFailed};
@@ -28,6 +28,8 @@ pub enum ClientFault {
     NotAsked,
     /// A struct, a list, a text or data of a call, or its table of capabilities, is longer than a message's can be.
     TooLong,
+    /// A capability of another session is called, or named in params.
+    OtherSession,
     /// The connection ended, or memory ran out, or the vat refuses the call.
     Connection(ConnectionFault),
 }
@@ -42,7 +44,9 @@ impl ClientFault {
     {
         match self {
             ClientFault::Device(_) | ClientFault::Ended => ExceptionKind::Disconnected,
-            ClientFault::NotAsked | ClientFault::TooLong => ExceptionKind::Failed,
+            ClientFault::NotAsked | ClientFault::TooLong | ClientFault::OtherSession => {
+                ExceptionKind::Failed
+            }
             ClientFault::Connection(fault) => fault.kind(),
         }
     }
@@ -55,6 +59,7 @@ impl fmt::Display for ClientFault {
             ClientFault::Ended => f.write_str("the peer's messages ended"),
             ClientFault::NotAsked => f.write_str("V1 UnknownQuestion"),
             ClientFault::TooLong => BuildError::TooLong.fmt(f),
+            ClientFault::OtherSession => NamingError::OtherSession.fmt(f),
             ClientFault::Connection(fault) => fault.fmt(f),
         }
     }
@@ -85,6 +90,18 @@ impl From<BuildError> for ClientFault {
         match fault {
             BuildError::TooLong => ClientFault::TooLong,
             BuildError::OutOfMemory => ClientFault::Connection(ConnectionFault::OutOfMemory),
+        }
+    }
+}
+
+impl From<NamingError> for ClientFault {
+    ghost from_gives = { λ fault r. r ≡ of_naming fault };
+
+    fn from(fault: NamingError) -> ClientFault {
+        match fault {
+            NamingError::TooLong => ClientFault::TooLong,
+            NamingError::OtherSession => ClientFault::OtherSession,
+            NamingError::OutOfMemory => ClientFault::Connection(ConnectionFault::OutOfMemory),
         }
     }
 }

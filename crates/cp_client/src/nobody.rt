@@ -45,4 +45,12 @@ impl ServedObject for Nobody {
         drop(outcome);
         Ok(())
     }
+
+    fn on_cancel(
+        &mut self,
+        _ticket: u64,
+        _context: &mut Context<Nobody>,
+    ) -> Result<(), AllocError> {
+        Ok(())
+    }
 }

@@ -1,10 +1,8 @@
 //! The results of typed calls.
 
 ghost use Rattle.std.specs.Prelude.{IfOk, IfErr};
-ghost use Rattle.cp_refs.specs.declared.outcome.Outcome.TheVariants.{Results};
 ghost use Rattle.cp_client.specs.ConversationOf.{seen};
-ghost use Rattle.cp_client.specs.Results.{GivesNone};
-ghost use Rattle.cp_client.specs.Waits.{Waits};
+ghost use Rattle.cp_client.specs.Results.{GivesNone, GivesResults};
 
 use crate::client::SessionClient;
 use crate::fault::CallError;
@@ -16,11 +14,11 @@ use std::io::{Read, Write};
 impl<R: Read + Drop, W: Write + Drop, S: CallingSession> SessionClient<R, W, S> {
     /// Waits for the results of a question, by the number that a typed call's promise has. As `wait`, and a call that failed is an error.
     pub fn results(&mut self, question: u32) -> Result<ResultPayload, CallError>
-        ensures came { let at = seen S.state R.remaining W.contents in IfOk result (λ r. Waits S.table (at self.old) question (Results r.content r.caps) (at self.new)) }
+        ensures came { let at = seen S.state R.remaining W.contents in IfOk result (λ r. GivesResults S.table (at self.old) question r (at self.new)) }
         ensures none { let at = seen S.state R.remaining W.contents in IfErr result (λ f. GivesNone S.table (at self.old) question f (at self.new)) }
     {
         let outcome = self.wait(Question { number: question })?;
-        match payload_of(outcome) {
+        match payload_of(self.number, outcome) {
             Ok(results) => Ok(results),
             Err(reason) => Err(CallError::NoResults(reason)),
         }

@@ -2,6 +2,7 @@
 
 use crate::fault::Stop;
 use cp_frame::{Mode, send_frame, write_after};
+use cp_packed::push_plain;
 use cp_words::{Limits, Segments};
 use std::alloc::Global;
 use std::io::{self, Write};
@@ -44,6 +45,15 @@ impl Batch {
             return Ok(send_frame(self.alloc, out, &mut self.block, segments, mode, limits)??);
         }
         write_after(self.alloc, &mut self.frames, segments, mode, limits)?;
+        if MOST <= self.frames.len() {
+            self.flush(out)?;
+        }
+        Ok(())
+    }
+
+    /// Adds words as they are, without a frame.
+    pub(crate) fn put_words<W: Write>(&mut self, words: &[u64], out: &mut W) -> Result<(), Stop> {
+        push_plain(&mut self.frames, words)?;
         if MOST <= self.frames.len() {
             self.flush(out)?;
         }

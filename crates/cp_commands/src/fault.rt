@@ -1,5 +1,6 @@
 //! What stops a command.
 
+use cp_canonical::CanonicalFault;
 use cp_frame::{FrameFault, Mode};
 use cp_reading::TreeFault;
 use cp_rpc::SchemaFault;
@@ -20,6 +21,8 @@ pub enum Stop {
     OtherStruct(SchemaFault),
     /// A message isn't as its schema says.
     Wrong(DecodeFault),
+    /// A message isn't canonical, or holds a capability.
+    NotCanonical(CanonicalFault),
     /// The reader failed.
     Reading(io::Error),
     /// The writer failed.
@@ -65,6 +68,16 @@ impl From<TreeFault> for Stop {
 impl From<WriteFault> for Stop {
     fn from(fault: WriteFault) -> Stop {
         Stop::Refused(Refusal::from(fault))
+    }
+}
+
+impl From<CanonicalFault> for Stop {
+    fn from(fault: CanonicalFault) -> Stop {
+        match fault {
+            CanonicalFault::Tree(fault) => Stop::from(fault),
+            CanonicalFault::Write(fault) => Stop::from(fault),
+            fault => Stop::NotCanonical(fault),
+        }
     }
 }
 

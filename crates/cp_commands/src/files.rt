@@ -2,6 +2,7 @@
 
 use crate::by_schema::{encode_by, show_by};
 use crate::plan::{Plan, act_to_end};
+use crate::recordings::show_session;
 use crate::status::{BROKEN, CLOSED};
 use crate::task::FileTask;
 use crate::texts::{Encoding, encode};
@@ -27,6 +28,7 @@ pub fn act_on_file(rt: &HostRuntime, task: &FileTask) -> u8 {
     let (done, path) = match task {
         FileTask::Frames { plan, path } => (on_file(rt, Work::Frames(plan), path), *path),
         FileTask::Show(plan) => (show_by(rt, plan), plan.path),
+        FileTask::Session(plan) => (show_session(rt, plan), plan.path),
         FileTask::Encode(plan) => (encode_by(rt, plan), plan.path),
     };
     done.unwrap_or_else(|error| failed(rt, path, error))

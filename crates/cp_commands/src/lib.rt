@@ -9,6 +9,7 @@ mod files;
 mod foreign;
 mod names;
 mod plan;
+mod recordings;
 mod status;
 mod stop;
 mod task;
@@ -19,10 +20,11 @@ pub use files::{BUFFER, STDIN, act_on_file, failed, schema_at, tell_hint};
 pub use foreign::peer_hint;
 pub use names::Names;
 pub use plan::{Plan, act, act_to_end};
+pub use recordings::RecordedFiles;
 pub use status::{ACCEPTED, BROKEN, CLOSED, REFUSED};
 pub use stop::{Ended, limit_hint};
 pub use task::{
-    CallPlan, EncodePlan, FileTask, Guarding, ListenAddress, RelayForm, RelayRoute, RelayTask,
-    ServePlan, Service, ShowPlan, Task, TypesPlan,
+    CallPlan, EncodePlan, FileTask, Guarding, ListenAddress, RecordPlan, RelayForm, RelayRoute,
+    RelayTask, ServePlan, Service, SessionPlan, ShowPlan, Task, TypesPlan,
 };
 pub use texts::{Encoding, encode};

@@ -7,6 +7,7 @@ use crate::foreign::is_other_form;
 use crate::names::Names;
 use crate::status::ACCEPTED;
 use crate::stop::{Ended, stopped};
+use cp_canonical::{canonical_message, is_canonical};
 use cp_frame::{FrameReader, Mode};
 use cp_lines::push_line;
 use cp_reading::{View, read_root};
@@ -43,6 +44,17 @@ pub enum Plan<'s> {
     Check {
         mode: Mode,
         limits: Limits,
+    },
+    /// The number of messages, if all are canonical.
+    CheckCanonical {
+        mode: Mode,
+        limits: Limits,
+    },
+    /// Each message in its canonical form: in a frame, or without a segment table.
+    Canonical {
+        mode: Mode,
+        limits: Limits,
+        is_flat: bool,
     },
     /// Plain frames in the packed form. Segments stay as they are, and no root is read.
     Pack,
@@ -87,6 +99,8 @@ impl Plan<'_> {
         match self {
             Plan::Show { mode, limits }
             | Plan::Check { mode, limits }
+            | Plan::CheckCanonical { mode, limits }
+            | Plan::Canonical { mode, limits, .. }
             | Plan::Decode { mode, limits, .. }
             | Plan::Name { mode, limits, .. } => (*mode, *limits),
             Plan::Pack => (Mode::Plain, Limits::standard()),
@@ -131,6 +145,15 @@ impl Plan<'_> {
             } => decode(segments, *limits, decoder, last, out),
             Plan::Name { limits, names, .. } => name(segments, *limits, names, last, out),
             Plan::Check { limits, .. } => Ok(check_in(segments, *limits)?),
+            Plan::CheckCanonical { limits, .. } => Ok(is_canonical(alloc, segments, *limits)?),
+            Plan::Canonical {
+                mode,
+                limits,
+                is_flat,
+            } => {
+                let words = canonical_message(alloc, segments, *limits)?;
+                put_canonical(words, *mode, *is_flat, &mut last.batch, out)
+            }
             Plan::Pack => last.batch.put(segments, Mode::Packed, out),
             Plan::Unpack => last.batch.put(segments, Mode::Plain, out),
             Plan::Recut { mode, words } => {
@@ -217,7 +240,7 @@ impl Plan<'_> {
 
     /// Ends a command that accepted all frames.
     fn end<W: Write>(&self, out: &mut W, progress: &Progress) -> Result<(), Stop> {
-        if let Plan::Check { .. } = self {
+        if let Plan::Check { .. } | Plan::CheckCanonical { .. } = self {
             writeln!(out, "messages {}", progress.frames)?;
         }
         Ok(out.flush()?)
@@ -332,6 +355,25 @@ fn decode<W: Write>(
     last.line.clear();
     push_message(last.alloc, &mut last.line, decoder, view)?;
     Ok(out.write_all(last.line.as_bytes())?)
+}
+
+/// Writes the words of a canonical form: in a frame of one segment, or as they are.
+fn put_canonical<W: Write>(
+    words: Vec<u64>,
+    mode: Mode,
+    is_flat: bool,
+    batch: &mut Batch,
+    out: &mut W,
+) -> Result<(), Stop> {
+    if is_flat {
+        let put = batch.put_words(&words, out);
+        drop(words);
+        return put;
+    }
+    let segments = Segments::one(words);
+    let put = batch.put(&segments, mode, out);
+    drop(segments);
+    put
 }
 
 /// Writes the frame's tree again, in segments of at most this many words.

@@ -50,6 +50,7 @@ pub(crate) fn stopped<E: Write>(stop: Stop, bytes: u64, err: &mut E) -> u8 {
         Stop::Refused(fault) | Stop::OtherForm(fault, _) => refused(err, bytes, &fault),
         Stop::OtherStruct(fault) => refused(err, bytes, &fault),
         Stop::Wrong(fault) => refused(err, bytes, &fault),
+        Stop::NotCanonical(fault) => refused(err, bytes, &fault),
         Stop::Reading(error) => broken(err, "read", error),
         Stop::Writing(error) if error.kind() == ErrorKind::BrokenPipe => CLOSED,
         Stop::Writing(error) => broken(err, "write", error),

@@ -26,6 +26,7 @@ pub enum FileTask<'a> {
     /// A command on frames, without a schema.
     Frames { plan: Plan<'a>, path: &'a str },
     Show(ShowPlan<'a>),
+    Session(SessionPlan<'a>),
     Encode(EncodePlan<'a>),
 }
 
@@ -42,6 +43,20 @@ pub struct ShowPlan<'a> {
     pub calls: Option<&'a str>,
     /// How structs are written.
     pub notation: Notation,
+    pub path: &'a str,
+}
+
+/// The recording of a connection, shown.
+#[derive(Clone, Copy)]
+pub struct SessionPlan<'a> {
+    pub limits: Limits,
+    /// The path of the file that has the schema, if messages are shown by its names.
+    pub request: Option<&'a str>,
+    /// Whether times are printed.
+    pub has_times: bool,
+    /// Where a picture is drawn in place of lines, from how many milliseconds on answers are marked as slow.
+    pub picture: Option<u32>,
+    /// The path of the recording, a folder.
     pub path: &'a str,
 }
 
@@ -121,6 +136,17 @@ pub struct RelayTask<'a, 'b> {
     pub route: RelayRoute<'a>,
     pub form: RelayForm,
     pub guarding: Guarding<'a, 'b>,
+    /// Where connections are recorded, if they are.
+    pub record: Option<RecordPlan<'a>>,
+}
+
+/// How connections are recorded.
+#[derive(Clone, Copy)]
+pub struct RecordPlan<'a> {
+    /// The path of a folder that is made for them.
+    pub path: &'a str,
+    /// The most bytes that are written.
+    pub most: u32,
 }
 
 /// From where to where connections are relayed.

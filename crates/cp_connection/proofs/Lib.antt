@@ -13,5 +13,6 @@ pub mod Moving
 pub mod Living
 pub mod Aborting
 pub mod Courses
+pub mod Finishing
 pub mod Lending
 pub mod Contents

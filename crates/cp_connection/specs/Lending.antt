@@ -8,7 +8,8 @@ use Rattle.cp_connection.specs.declared.event.ConnectionEvent.{ConnectionEvent}
 use Rattle.cp_connection.specs.declared.event.ConnectionEvent.TheVariants as happenings
 use Rattle.cp_connection.specs.Link.{Link}
 use Rattle.cp_connection.specs.Doing.{Does}
-use Rattle.cp_connection.specs.Receiving.{HandsOut, Receives}
+use Rattle.cp_connection.specs.Finishing.{ReceivesNaming}
+use Rattle.cp_connection.specs.Receiving.{HandsOut}
 
 -- a call that is lent is delivered
 abbrev pub delivered : BorrowedCall → ConnectionEvent
@@ -20,8 +21,8 @@ HandsLent old (Some lent) new = HandsOut old (Some (delivered lent)) new
 HandsLent old None new = new ≡ old
 
 -- bytes were taken, as they are where nothing is lent, and then the call that is lent is handed out, if there is one
-abbrev pub ReceivesLending : Link → List ℕ → ℕ → Option BorrowedCall → Link → Type 0
-ReceivesLending old piece count lent new = (mid : Link) × Receives old piece count mid × HandsLent mid lent new
+abbrev pub ReceivesLending : Link → List ℕ → ℕ → Option BorrowedCall → Option ℕ → Link → Type 0
+ReceivesLending old piece count lent finished new = (mid : Link) × ReceivesNaming old piece count finished mid × HandsLent mid lent new
 
 -- The vat did an event, and then the call that is lent is handed out, if there is one. No public clause names this.
 abbrev pub DoesLending : Link → Event → Option BorrowedCall → Link → Type 0

@@ -8,6 +8,7 @@ pub mod Noting
 pub mod Link
 pub mod Doing
 pub mod Receiving
+pub mod Finishing
 pub mod Lending
 pub mod Turns
 pub mod Moves

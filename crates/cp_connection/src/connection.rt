@@ -125,12 +125,14 @@ impl Connection {
         ensures goes_on { IfOk result (λ count. 0 < length piece.now → 0 < count) }
         ensures unreceived { IfErr result (λ fault. (taken : List ℕ) × IsUnreceived self.old piece.now taken fault self.new) }
     {
-        self.parts.receive(piece)
+        let (count, _) = self.parts.receive(piece)?;
+        Ok(count)
     }
 
     /// As `receive`, but a call that the message leads to at once, of an object of this end, is lent out of its frame, which is put
     /// into `frame`: no tree of its params is made. It is handed out by that, and comes before what `next` gives. Give the frame
-    /// back by `reuse` once nothing of it is lent. Nothing is lent while something that happened wasn't taken.
+    /// back by `reuse` once nothing of it is lent. Nothing is lent while something that happened wasn't taken. Says which answer the
+    /// message finishes, if it is a Finish: where that answer isn't given yet, the peer gave its call up.
     ///
     /// # Errors
     ///
@@ -139,8 +141,8 @@ impl Connection {
         &mut self,
         piece: &[u8],
         frame: &'f mut Segments,
-    ) -> Result<(usize, Option<BorrowedCall<'f>>), ConnectionFault>
-        ensures received { IfOk result (λ r. ReceivesLending self.old piece.now r.0 r.1 self.new) }
+    ) -> Result<(usize, Option<BorrowedCall<'f>>, Option<u32>), ConnectionFault>
+        ensures received { IfOk result (λ r. ReceivesLending self.old piece.now r.0 r.1 r.2 self.new) }
         ensures goes_on { IfOk result (λ r. 0 < length piece.now → 0 < r.0) }
         ensures unreceived { IfErr result (λ fault. (taken : List ℕ) × IsUnreceived self.old piece.now taken fault self.new) }
     {

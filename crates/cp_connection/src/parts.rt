@@ -12,11 +12,12 @@ ghost use Rattle.cp_connection.specs.Refusing.{refusal_of};
 ghost use Rattle.cp_connection.specs.Link.{new_link, HasCome};
 ghost use Rattle.cp_connection.specs.Contents.{kept_contents, tails_memory};
 ghost use Rattle.cp_connection.specs.Doing.{Aborts, Acts, Refuses, answered};
-ghost use Rattle.cp_connection.specs.Receiving.{Receives, ReadsOn, IsUnreceived, EndsWell, EndsBadly};
+ghost use Rattle.cp_connection.specs.Receiving.{ReadsOn, IsUnreceived, EndsWell, EndsBadly};
 ghost use Rattle.cp_connection.specs.LinkOf.{link_of, KeepsUp, LetsGo, CountsOne, GivesFrame, RefusesFrame, unread_at, refused_by};
 ghost use Rattle.cp_connection.specs.Noting.{GoesBack};
 ghost use Rattle.cp_connection.specs.Owing.{IsSendable, OwesSendable};
 ghost use Rattle.cp_connection.specs.Settling.{Concludes, Follows, GetsFor, GivesVat, GoesOnIf, Loses, MayNote, NotesAll, NotesEvent, Passes, PassesIf, Settled};
+ghost use Rattle.cp_connection.specs.Finishing.{ReceivesNaming, finished_by};
 ghost use Rattle.cp_connection.specs.Lending.{DoesLending, ReceivesLending};
 ghost use Rattle.cp_connection.specs.declared.fault.ConnectionFault.TheVariants.{OutOfMemory, Unreadable};
 
@@ -25,7 +26,7 @@ use crate::behind::Behind;
 use crate::excess::Excess;
 use crate::fault::ConnectionFault;
 use cp_frame::{FrameFault, FrameReader, Mode};
-use cp_rpc::{Message, MessageView};
+use cp_rpc::{Message, MessageIn, MessageView};
 use cp_stream::{Refusal, view_in};
 use cp_tail_calls::{ForwardedMessage, TailCalls, Trigger};
 use cp_vat::{BorrowedCall, Vat};
@@ -95,21 +96,23 @@ impl Parts {
         }
     }
 
-    /// Reads a piece up to the end of a frame, and takes its message in. Says how many bytes were taken.
-    pub fn receive(&mut self, piece: &[u8]) -> Result<usize, ConnectionFault>
+    /// Reads a piece up to the end of a frame, and takes its message in. Says how many bytes were taken, and which answer the message
+    /// finishes.
+    pub fn receive(&mut self, piece: &[u8]) -> Result<(usize, Option<u32>), ConnectionFault>
         requires keeps { KeepsUp self.old }
         ensures keeps { KeepsUp self.new }
-        ensures received { IfOk result (λ count. Receives (link_of self.old) piece.now count (link_of self.new)) }
-        ensures goes_on { IfOk result (λ count. 0 < length piece.now → 0 < count) }
+        ensures received { IfOk result (λ r. ReceivesNaming (link_of self.old) piece.now r.0 r.1 (link_of self.new)) }
+        ensures goes_on { IfOk result (λ r. 0 < length piece.now → 0 < r.0) }
         ensures unreceived { IfErr result (λ fault. (taken : List ℕ) × IsUnreceived (link_of self.old) piece.now taken fault (link_of self.new)) }
     {
         let Some((taken, segments, back)) = self.next_frame(piece)? else {
-            return Ok(piece.len());
+            return Ok((piece.len(), None));
         };
         let message = self.read(taken, &segments)?;
+        let finished = finished_by(&message);
         self.take_in(message)?;
         self.frames.reuse(segments);
-        Ok(piece.len() - back.len())
+        Ok((piece.len() - back.len(), finished))
     }
 
     /// The same, where a call that goes to an object is lent to it out of the frame. Nothing is lent while something that happened
@@ -118,25 +121,26 @@ impl Parts {
         &mut self,
         piece: &[u8],
         frame: &'f mut Segments,
-    ) -> Result<(usize, Option<BorrowedCall<'f>>), ConnectionFault>
+    ) -> Result<(usize, Option<BorrowedCall<'f>>, Option<u32>), ConnectionFault>
         requires keeps { KeepsUp self.old }
         ensures keeps { KeepsUp self.new }
-        ensures received { IfOk result (λ r. ReceivesLending (link_of self.old) piece.now r.0 r.1 (link_of self.new)) }
+        ensures received { IfOk result (λ r. ReceivesLending (link_of self.old) piece.now r.0 r.1 r.2 (link_of self.new)) }
         ensures goes_on { IfOk result (λ r. 0 < length piece.now → 0 < r.0) }
         ensures unreceived { IfErr result (λ fault. (taken : List ℕ) × IsUnreceived (link_of self.old) piece.now taken fault (link_of self.new)) }
     {
         // A lent call comes before what `next` gives, so nothing may be left there.
         if !self.agenda.happened.is_empty() {
-            let count = self.receive(piece)?;
-            return Ok((count, None));
+            let (count, finished) = self.receive(piece)?;
+            return Ok((count, None, finished));
         }
         let Some((taken, segments, back)) = self.next_frame(piece)? else {
-            return Ok((piece.len(), None));
+            return Ok((piece.len(), None, None));
         };
         *frame = segments;
         let message = self.read(taken, frame)?;
+        let finished = finished_by(&message);
         let lent = self.take_in_lending(message)?;
-        Ok((piece.len() - back.len(), lent))
+        Ok((piece.len() - back.len(), lent, finished))
     }
 
     /// Ends the bytes of the peer.
@@ -493,5 +497,23 @@ impl Parts {
             at: self.bytes,
             refusal,
         }
+    }
+}
+
+/// The answer that a message finishes, if it is a Finish.
+fn finished_by(message: &MessageView) -> Option<u32>
+    ensures { result ≡ finished_by (viewed message.now) }
+{
+    match message {
+        MessageIn::Finish(finish) => Some(finish.question_id),
+        MessageIn::Unimplemented(_) => None,
+        MessageIn::Abort(_) => None,
+        MessageIn::Call(_) => None,
+        MessageIn::Return(_) => None,
+        MessageIn::Resolve(_) => None,
+        MessageIn::Release(_) => None,
+        MessageIn::Bootstrap(_) => None,
+        MessageIn::Disembargo(_) => None,
+        MessageIn::Other { .. } => None,
     }
 }

@@ -2,5 +2,6 @@ pub mod Counting
 pub mod Holding
 pub mod Living
 pub mod Working
+pub mod Awaiting
 pub mod Lending
 pub mod Dropping

@@ -15,7 +15,7 @@ use Rattle.cp_connection.specs.Link.{Link}
 use Rattle.cp_connection.specs.Doing.{Acts, answered}
 use Rattle.cp_connection.specs.Receiving.{HandsOut}
 use Rattle.cp_connection.specs.Lives.{IsCall, acts, hands, Life, begins, goes_on}
-use Rattle.cp_dispatch.specs.Work.{Work, GivesBack, holds_more, leaves_it, is_last, is_unreleased, Leaves, leaves, is_anothers, Lives}
+use Rattle.cp_dispatch.specs.Work.{Work, GivesBack, holds_more, leaves_it, is_last, is_unreleased, leaves, is_anothers, Lives}
 
 -- a list that has grown, and then grows
 then_more : {X : Type 0} (a b c all more : List X) → all ≡ b ++ c → more ≡ a ++ all → more ≡ (a ++ b) ++ c

@@ -12,7 +12,7 @@ use Rattle.cp_connection.specs.Link.{Link}
 use Rattle.cp_servants.specs.declared.servant.Settled.{Settled}
 use Rattle.cp_objects.specs.ObjectTable.{ObjectTableKind}
 use Rattle.cp_dispatch.specs.declared.question_owner.QuestionOwner.{QuestionOwner}
-use Rattle.cp_dispatch.specs.Work.{Work, Answers, GivesUp, IsDone, LetsGo, TriesEach, TriesUnheld}
+use Rattle.cp_dispatch.specs.Work.{Work, Answers, GivesUp, IsDone, LetsGo, TakesAwaited, TriesEach, TriesUnheld}
 use Rattle.cp_dispatch.specs.Calling.{HandsBack, to_user, to_object, Hears, MakesCalls, NotesOutcome, Settles, is_stranger, is_awaited}
 use Rattle.cp_dispatch.specs.Rounds.{PollsFrom, WorksOff, none_left}
 
@@ -39,15 +39,13 @@ not_some (Some x) b h e = absurd (false≢true (sym e ∙ h.1 refl))
 pub lacks : {P : Type 0} (b : Bool) → (IsTrue b ↔ P) → b ≡ false → P → ⊥
 lacks b test unmet h = false≢true (sym unmet ∙ test.1 h)
 
-pub settles_stranger : (means : Outcome → Outcome) (old : Work) (w : Option Settled) (settled : Settled) (a : Table Origin) → w ≡ Some settled → get old.awaited settled.ticket ≡ None
-    → a ≡ remove old.awaited settled.ticket → Settles means old w false (record old { awaited = a })
-settles_stranger means old w settled a e none r =
-    rw (e, r, ← is_remove old.awaited old.awaited settled.ticket none (λ q h. refl)) (is_stranger settled none)
+pub settles_stranger : (means : Outcome → Outcome) (old new : Work) (w : Option Settled) (settled : Settled) → w ≡ Some settled → TakesAwaited settled.ticket old None new → Settles means old w false new
+settles_stranger means old new w settled e takes = rw (e, takes.1) (is_stranger settled takes.0)
 
-pub settles_awaited : (means : Outcome → Outcome) (old : Work) (w : Option Settled) (settled : Settled) (origin : Origin) (link : Link) (a : Table Origin) (mid : Work) {new : Work} → w ≡ Some settled
-    → get old.awaited settled.ticket ≡ Some origin → a ≡ remove old.awaited settled.ticket → GivesUp settled.gives_up (record old { awaited = a }) mid
+pub settles_awaited : (means : Outcome → Outcome) (old taken : Work) (w : Option Settled) (settled : Settled) (origin : Origin) (link : Link) (mid : Work) {new : Work} → w ≡ Some settled
+    → TakesAwaited settled.ticket old (Some origin) taken → GivesUp settled.gives_up taken mid
     → Answers mid.link origin (means settled.outcome) link → new ≡ record mid { link = link } → Settles means old w true new
-settles_awaited means old w settled origin link a mid e got r gives answers same = rw e (is_awaited settled origin link {mid = mid} got (rw r at gives) answers same)
+settles_awaited means old taken w settled origin link mid e takes gives answers same = rw e (is_awaited settled origin link {mid = mid} takes.0 (rw takes.1 at gives) answers same)
 
 -- one is given up, and then the others
 pub gives_next : (items : List ℕ) (i d : ℕ) {old mid : Work} (last : Work) → i < length items → LetsGo (get_or items i d) old mid → GivesUp (drop (i + 1) items) mid last

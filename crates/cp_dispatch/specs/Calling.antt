@@ -17,7 +17,7 @@ use Rattle.cp_dispatch.specs.declared.event.DispatchEvent.TheVariants as notices
 use Rattle.cp_servants.specs.declared.servant.OutgoingCall.{OutgoingCall}
 use Rattle.cp_servants.specs.declared.servant.Settled.{Settled}
 use Rattle.cp_servants.specs.Outcomes.{refused_call}
-use Rattle.cp_dispatch.specs.Work.{Work, Answers, GivesUp, Holds, IsDone, IsEnd, IsGiven, Notes}
+use Rattle.cp_dispatch.specs.Work.{Work, Answers, GivesUp, Holds, IsDone, IsEnd, IsGiven, Notes, awaiting_no_more}
 use Rattle.cp_dispatch.specs.PromiseRequests.{KeepsPromiseRequests}
 
 -- What an object gave settles a call that is awaited, once the object gave imports up, with what its outcome means to the vat. A ticket that isn't awaited is
@@ -26,7 +26,7 @@ pub data Settles (means : Outcome → Outcome) (old : Work) : Option Settled →
   gives_none : Settles means old None false old
   is_stranger : (settled : Settled) → get old.awaited settled.ticket ≡ None → Settles means old (Some settled) false old
   is_awaited : (settled : Settled) (origin : Origin) (link : Link) {mid new : Work} → get old.awaited settled.ticket ≡ Some origin
-      → GivesUp settled.gives_up (record old { awaited = remove old.awaited settled.ticket }) mid → Answers mid.link origin (means settled.outcome) link
+      → GivesUp settled.gives_up (awaiting_no_more origin settled.ticket old) mid → Answers mid.link origin (means settled.outcome) link
       → new ≡ record mid { link = link } → Settles means old (Some settled) true new
 
 -- An outcome is noted for the program, which is given what it names.

@@ -59,8 +59,8 @@ module _ {H : Type 0} (table : ObjectTableKind H) where
   ForgetsEach [] old new objects others = (new ≡ old) × (others ≡ objects)
   ForgetsEach (id ∷ more) old new objects others = (mid : Link) × (between : H) × Forgets id old mid objects between × ForgetsEach more mid new between others
 
-  -- Where all that happened was worked off, the promises are looked at that go unless the vat uses them, in order, and then the objects that go unless the
-  -- connection refers to them. Then the imports that were given up are tried.
+  -- Where all that happened was worked off, the loose promises go that the vat doesn't use, in order. Then the idle objects go to which the connection doesn't
+  -- refer. Last the imports that were given up are tried.
   pub data DropsIdle (old new : Work) (objects others : H) : Type 0 where
     looks_at_none : old.link.happened ≢ [] → new ≡ old → others ≡ objects → DropsIdle old new objects others
     looks_at_each : (link : Link) (left : Work) (between : H) → old.link.happened ≡ [] → ForgetsEach (table.loose objects) old.link link objects between

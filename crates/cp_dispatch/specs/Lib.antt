@@ -4,6 +4,7 @@ pub mod PromiseRequests
 pub mod Calling
 pub mod Rounds
 pub mod Idle
+pub mod Canceling
 pub mod Receiving
 pub mod WorkOf
 pub mod Noticed

@@ -6,6 +6,7 @@ use Rattle.cp_connection.specs.declared.fault.ConnectionFault.{ConnectionFault}
 use Rattle.cp_connection.specs.declared.fault.ConnectionFault.TheVariants as faults
 use Rattle.cp_connection.specs.declared.event.ConnectionEvent.{ConnectionEvent}
 use Rattle.cp_connection.specs.declared.event.ConnectionEvent.TheVariants as happenings
+use Rattle.cp_connection.specs.Finishing.{ReceivesNaming}
 use Rattle.cp_connection.specs.Lending.{delivered}
 use Rattle.cp_connection.specs.Link.{Link}
 use Rattle.cp_connection.specs.Receiving as connection
@@ -13,6 +14,7 @@ use Rattle.cp_objects.specs.ObjectTable.{ObjectTableKind}
 use Rattle.cp_servants.specs.Requests.{request_of}
 use Rattle.cp_dispatch.specs.declared.incoming.IncomingCall.{IncomingCall}
 use Rattle.cp_dispatch.specs.Rounds.{Handles, WorksOff}
+use Rattle.cp_dispatch.specs.Canceling.{Cancels}
 use Rattle.cp_dispatch.specs.Work.{Work, Lives}
 
 -- a call that comes, as one that was delivered
@@ -20,12 +22,13 @@ abbrev pub delivered_by : IncomingCall → ConnectionEvent
 delivered_by call = happenings.Delivered call.object call.origin call.ticket (request_of call.request)
 
 module _ {H : Type 0} (table : ObjectTableKind H) where
-  -- The connection took the first bytes of a piece, and it is said whether a frame ended with them. What then happened was worked off, and nothing else was
-  -- done with the connection.
+  -- The connection took the first bytes of a piece, and it is said whether a frame ended with them. What then happened was worked off. Where the message was a
+  -- Finish of an answer that is owed, its object was told. Nothing else was done with the connection.
   abbrev pub Receives : Work → List ℕ → ℕ → Bool → Work → H → H → Type 0
   Receives old piece count has_ended new objects others =
-      (link : Link) × connection.Receives old.link piece count link × ((has_ended ≡ true) ↔ (taken_of link.reading ≡ 0))
-      × WorksOff table (record old { link = link }) new objects others × Lives link new.link
+      (link : Link) × (finished : Option ℕ) × (mid : Work) × (between : H) × ReceivesNaming old.link piece count finished link
+      × ((has_ended ≡ true) ↔ (taken_of link.reading ≡ 0)) × WorksOff table (record old { link = link }) mid objects between
+      × Cancels table finished mid new between others × Lives link new.link
 
   -- a call that is lent is done as one that was delivered, if there is one
   abbrev pub HandlesLent : Option BorrowedCall → Work → Work → H → H → Type 0

@@ -57,8 +57,8 @@ module _ {H : Type 0} (table : ObjectTableKind H) where
   abbrev pub GivesUpBeside : Work → Work → H → H → Type 0
   GivesUpBeside old new objects others = (imports : List ℕ) × table.hands_given_up imports objects others × GivesUp imports old new
 
-  -- A round: each object is polled once that is to be, in order; then the imports that were given up are tried, with those that objects gave up beside what they
-  -- answered, and what that leads to is worked off.
+  -- A round polls each object once that is to be polled, in order. Then it tries the imports that were given up, with those that objects gave up beside what
+  -- they answered, and works off what that leads to.
   pub data Rounds (old : Work) (gave : Bool) (new : Work) (objects others : H) : Type 0 where
     has_ended : PollsFrom 0 old gave new objects others → IsSome new.link.fault → Rounds old gave new objects others
     releases : (mid given released : Work) (between left : H) → PollsFrom 0 old gave mid objects between → mid.link.fault ≡ None

@@ -1,8 +1,9 @@
 -- A connection, with what is still to be done for its objects.
-use Rattle.std.specs.Prelude.{◌≡◌, ◌≢◌, ℕ, ◌<◌, ◌≤◌, ◌-◌, Bool, if◌then◌else◌, List, [], ◌∷◌, ◌++◌, Result, Ok, Err}
-use Rattle.std.specs.FinMap.{insert, remove, empty}
+use Rattle.std.specs.Prelude.{◌≡◌, ◌≢◌, ℕ, ◌<◌, ◌≤◌, ◌-◌, Bool, if◌then◌else◌, List, [], ◌∷◌, ◌++◌, Option, Some, None, Result, Ok, Err}
+use Rattle.std.specs.FinMap.{get, insert, remove, empty}
 use Rattle.cp_tables.specs.Table.{Table}
 use Rattle.cp_refs.specs.declared.call.Origin.{Origin}
+use Rattle.cp_refs.specs.declared.call.Origin.TheVariants as origins
 use Rattle.cp_refs.specs.declared.cap.Cap.{Cap}
 use Rattle.cp_refs.specs.declared.outcome.Outcome.{Outcome}
 use Rattle.cp_vat_machine.specs.declared.event.Event.{Event}
@@ -24,13 +25,15 @@ use Rattle.cp_servants.specs.declared.servant.Reply.TheVariants as replies
 use Rattle.cp_servants.specs.Outcomes.{bad_outcome, named_imports}
 use Rattle.cp_dispatch.specs.Holders.{holders, held_by_more, lowered}
 
--- The connection, whether objects may call, the calls whose objects answer later, by their tickets, the calls that objects made, by their questions, how many
+-- The connection, whether objects may call, the calls whose objects answer later, by their tickets, the tickets of those of them that the peer made and didn't
+-- give up, by their answers, the calls that objects made, by their questions, how many
 -- objects hold each import, how often results named each to the program, which holds it so often, the imports that objects gave up and that none of them held
 -- then, and what is no object's business and wasn't taken.
 pub record Work : Type 0 where
   pub link : Link
   pub may_call : Bool
   pub awaited : Table Origin
+  pub owed : Table ℕ
   pub asked : Table QuestionOwner
   pub held : Table ℕ
   pub given : Table ℕ
@@ -39,7 +42,7 @@ pub record Work : Type 0 where
 
 -- nothing is owed yet
 abbrev pub begun : Bool → Link → Work
-begun may_call link = record { link = link; may_call = may_call; awaited = empty; asked = empty; held = empty; given = empty; given_up = []; notices = [] }
+begun may_call link = record { link = link; may_call = may_call; awaited = empty; owed = empty; asked = empty; held = empty; given = empty; given_up = []; notices = [] }
 
 -- Of the connection nothing was done but calls of the application, and that it was asked what happened: no byte of the peer was taken, and none written.
 abbrev pub Lives : Link → Link → Type 0
@@ -97,12 +100,34 @@ pub data Answers (old : Link) (origin : Origin) (outcome : Outcome) (new : Link)
   is_replaced : (refusal : VatFault) (mid : Link) → Acts old (events.Answer origin outcome) (Err (faults.Refused refusal)) mid
       → IsDone mid (events.Answer origin bad_outcome) new → Answers old origin outcome new
 
+-- the tickets of calls that are owed, by their answers, and one that is awaited too
+abbrev pub owing : Origin → ℕ → Table ℕ → Table ℕ
+owing (origins.Answer answer) ticket owed = insert owed answer ticket
+owing (origins.Own question) ticket owed = owed
+
+-- those, and one that isn't awaited any more
+abbrev pub owing_no_more : Origin → Table ℕ → Table ℕ
+owing_no_more (origins.Answer answer) owed = remove owed answer
+owing_no_more (origins.Own question) owed = owed
+
+-- the answer of a call is awaited
+abbrev pub awaiting : Origin → ℕ → Work → Work
+awaiting origin ticket old = record old { awaited = insert old.awaited ticket origin; owed = owing origin ticket old.owed }
+
+abbrev pub awaiting_no_more : Origin → ℕ → Work → Work
+awaiting_no_more origin ticket old = record old { awaited = remove old.awaited ticket; owed = owing_no_more origin old.owed }
+
+-- The answer of a call is awaited no more, if it was.
+abbrev pub TakesAwaited : ℕ → Work → Option Origin → Work → Type 0
+TakesAwaited ticket old (Some origin) new = (get old.awaited ticket ≡ Some origin) × (new ≡ awaiting_no_more origin ticket old)
+TakesAwaited ticket old None new = (get old.awaited ticket ≡ None) × (new ≡ old)
+
 -- What follows an object's answer to a call: at once the object gives imports up, and the call is answered with what its outcome means to the vat; later it
 -- is awaited.
 abbrev pub Replies : (Outcome → Outcome) → Work → Origin → ℕ → Reply → Work → Type 0
 Replies means old origin ticket (replies.Now outcome gives_up) new =
     (mid : Work) × (link : Link) × GivesUp gives_up old mid × Answers mid.link origin (means outcome) link × (new ≡ record mid { link = link })
-Replies means old origin ticket replies.Later new = new ≡ record old { awaited = insert old.awaited ticket origin }
+Replies means old origin ticket replies.Later new = new ≡ awaiting origin ticket old
 
 -- An import whose release was refused stays if it is still in use, and else is dropped.
 pub data Stays (i : ℕ) (refusal : VatFault) (old new : Work) : Type 0 where

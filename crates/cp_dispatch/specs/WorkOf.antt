@@ -8,6 +8,7 @@ work_of o link = record {
   link = link;
   may_call = o.may_call;
   awaited = o.awaited;
+  owed = o.owed;
   asked = o.asked;
   held = o.holders.counts;
   given = o.given.counts;

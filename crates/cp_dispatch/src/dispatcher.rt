@@ -1,24 +1,18 @@
 //! What is done for the objects of a connection.
 
-ghost use Rattle.std.specs.Prelude.{◌≡◌, ◌<◌, ◌↔◌, [], true, false, IfErr, IfOk, IsSome, IsTrue, OnOk, length};
+ghost use Rattle.std.specs.Prelude.{◌≡◌, ◌<◌, ◌↔◌, true, false, IfErr, IfOk, IsSome, IsTrue, OnOk, length};
 ghost use Rattle.std.specs.FinMap as map;
-ghost use Rattle.cp_vat_machine.specs.InUse.{caps_of};
 ghost use Rattle.cp_vat_machine.specs.declared.event.Value.TheVariants as values;
 ghost use Rattle.cp_connection.specs.Doing.{answered};
 ghost use Rattle.cp_connection.specs.Link.{Link};
 ghost use Rattle.cp_refs.specs.Memory.{counted};
-ghost use Rattle.cp_servants.specs.Outcomes.{no_such_object};
-ghost use Rattle.cp_servants.specs.Requests.{request_of};
-ghost use Rattle.cp_servants.specs.declared.servant.Reply.TheVariants.{Now};
-ghost use Rattle.cp_dispatch.specs.Work.{begun, Frees, GivesBack, GivesUp, Holds, IsGiven, Leaves, LetsGo, Lives, Notes, Releases, Replies, Stays, Tries, TriesEach, TriesUnheld};
-ghost use Rattle.cp_dispatch.specs.Calling.{HandsBack, Hears, NotesOutcome, MakesCall, MakesCalls, NextCall, Settles, SettlesEach};
-ghost use Rattle.cp_dispatch.specs.Rounds.{Gives, GivesUpBeside, Handles, HandsOver, PollsFrom, Rounds, WorksOff};
+ghost use Rattle.cp_dispatch.specs.Work.{begun, GivesBack, Lives, Notes};
+ghost use Rattle.cp_dispatch.specs.Rounds.{Handles, HandsOver, PollsFrom, Rounds, WorksOff};
 ghost use Rattle.cp_dispatch.specs.Idle.{ReleasesIdle};
 ghost use Rattle.cp_dispatch.specs.Noticed.{event_memory};
 ghost use Rattle.cp_dispatch.specs.Receiving.{HandlesLent, IsCutShort, Receives, delivered_by};
 ghost use Rattle.cp_dispatch.specs.WorkOf.{work_of};
 
-use crate::answers::{answer, finish};
 use crate::event::{DispatchEvent, event_memory};
 use crate::holders::ImportHolders;
 use crate::idle::forget_unknown;
@@ -28,17 +22,13 @@ use crate::question_owner::QuestionOwner;
 use cp_connection::{Connection, ConnectionEvent, ConnectionFault};
 use cp_fields::PointerReader;
 use cp_objects::ObjectTable;
-use cp_refs::{Caps, Origin, Outcome, Request};
-use cp_servants::{
-    Awaited, OutgoingCall, Reply, RequestView, Settled, named_imports, no_such_object, refused_call,
-};
+use cp_refs::Request;
+use cp_servants::{Awaited, RequestView};
 use cp_tables::Entries;
 use cp_vat::BorrowedCall;
-use cp_vat_machine::{Ids, VatFault};
 use cp_words::Segments;
 use std::alloc::{AllocError, Global};
 use std::collections::VecDeque;
-use std::mem;
 
 /// What a connection's objects owe its peer, and what happened that is no object's business. The objects themselves are kept beside the
 /// connection: a list, in which the object of number k is at place k, or `Objects`, which make others. They are of one type:
@@ -65,6 +55,13 @@ use std::mem;
 /// is answered as soon as the calls are made that were made with it. A call of an object that doesn't exist fails
 /// with `no such object`, and where the vat refuses an outcome the call fails with `bad outcome`. Once the connection
 /// ended no call is answered any more, and no object is polled.
+///
+/// # Calls that are given up
+///
+/// Where the peer finishes a call that an object is to answer later, `receive` tells the object (`ServedObject::on_cancel`), once, and never
+/// after it answered. What it answers then goes to nobody but calls that the peer made on its results; the vat says `canceled`, and
+/// keeps nothing of the call from then on. A call that still waits in the vat when it is finished is delivered all the same, and its object
+/// isn't told.
 ///
 /// # Objects that make promises
 ///
@@ -96,14 +93,16 @@ pub struct Dispatcher {
     pub(crate) alloc: Global,
     /// Whether objects may call.
     pub(crate) may_call: bool,
-    awaited: Awaited,
+    pub(crate) awaited: Awaited,
+    /// The tickets of those that the peer made and didn't give up, by their answers.
+    pub(crate) owed: Entries<u64>,
     /// The calls that objects made, by their questions.
-    asked: Entries<QuestionOwner>,
-    holders: ImportHolders,
+    pub(crate) asked: Entries<QuestionOwner>,
+    pub(crate) holders: ImportHolders,
     /// How often outcomes named each import to the program, which holds it so often.
-    given: ImportHolders,
+    pub(crate) given: ImportHolders,
     /// The imports that objects gave up and that none held then, until they are released.
-    given_up: Vec<u32>,
+    pub(crate) given_up: Vec<u32>,
     /// What is no object's business, in order.
     notices: VecDeque<DispatchEvent>,
 }
@@ -115,6 +114,7 @@ impl Drop for Dispatcher {
             alloc: _,
             may_call: _,
             awaited: _,
+            owed: _,
             asked: _,
             holders: _,
             given: _,
@@ -157,13 +157,14 @@ impl Dispatcher {
         ensures unreceived { IfErr result (λ fault. IsCutShort connection.old piece.now fault connection.new objects.old objects.new) }
     {
         let mut frame = Segments::one(Vec::new(self.alloc));
-        let (count, lent) = connection.receive_lending(piece, &mut frame)?;
+        let (count, lent, finished) = connection.receive_lending(piece, &mut frame)?;
         // No byte of a further frame came, so the bytes ended with a message.
         let has_ended = connection.held().came == 0;
         self.answer_lent(connection, objects, lent)?;
         // Nothing of the frame is lent any more.
         connection.reuse(frame);
         self.work_off(connection, objects)?;
+        self.cancel(connection, objects, finished)?;
         Ok((count, has_ended))
     }
 
@@ -291,6 +292,14 @@ impl Dispatcher {
         self.notices.pop_front()
     }
 
+    /// Adds an event.
+    pub(crate) fn note(&mut self, notice: DispatchEvent) -> Result<(), AllocError>
+        ensures { OnOk result ((link : Link) → Notes notice (work_of self.old link) (work_of self.new link)) }
+    {
+        self.notices.push_back(notice)?;
+        Ok(())
+    }
+
     /// Nothing is owed yet.
     fn made(alloc: Global, may_call: bool) -> Dispatcher
         ensures { (link : Link) → work_of result link ≡ begun may_call link }
@@ -299,6 +308,7 @@ impl Dispatcher {
             alloc,
             may_call,
             awaited: Awaited::new(alloc),
+            owed: Entries::new(alloc),
             asked: Entries::new(alloc),
             holders: ImportHolders::new(alloc),
             given: ImportHolders::new(alloc),
@@ -410,273 +420,6 @@ impl Dispatcher {
         self.make_calls(connection, objects, object)
     }
 
-    /// What a call of an object that doesn't exist fails with.
-    fn reply_of_none(&self) -> Result<Reply, AllocError>
-        ensures { IfOk result (λ reply. reply ≡ Now no_such_object []) }
-    {
-        Ok(Reply::Now {
-            outcome: no_such_object(self.alloc)?,
-            gives_up: Ids::new(Vec::new(self.alloc)),
-        })
-    }
-
-    /// Adds an event.
-    fn note(&mut self, notice: DispatchEvent) -> Result<(), AllocError>
-        ensures { OnOk result ((link : Link) → Notes notice (work_of self.old link) (work_of self.new link)) }
-    {
-        self.notices.push_back(notice)?;
-        Ok(())
-    }
-
-    /// Hands an outcome back to the object whose call it is of, which may make calls then, or notes it for the user.
-    fn hand_back<H: ObjectTable>(
-        &mut self,
-        connection: &mut Connection,
-        objects: &mut H,
-        question: u32,
-        outcome: Outcome,
-    ) -> Result<(), AllocError>
-        ensures done { OnOk result (HandsBack H.table question outcome (work_of self.old connection.old) (work_of self.new connection.new) objects.old objects.new) }
-        ensures lives { Lives connection.old connection.new }
-    {
-        let Some(owner) = self.asked.remove(question) else {
-            return self.note_outcome(question, outcome);
-        };
-        // An object names no question, so none of its paths is needed any more.
-        finish(connection, question)?;
-        self.on_response(objects, owner.number, owner.call_id, outcome)?;
-        self.make_calls(connection, objects, owner.number)
-    }
-
-    /// The program gives up what an object holds too, if it holds it.
-    fn leave(&mut self, import: u32) -> Result<(), ConnectionFault>
-        ensures { (link : Link) → Leaves import (work_of self.old link) (answered (λ _. values.Nothing) result) (work_of self.new link) }
-    {
-        if self.given.of(import) == 0 {
-            return Err(ConnectionFault::Refused(VatFault::InUse));
-        }
-        let _ = self.given.lower(import);
-        Ok(())
-    }
-
-    /// Notes an outcome for the program, which is given what it names.
-    fn note_outcome(&mut self, question: u32, outcome: Outcome) -> Result<(), AllocError>
-        ensures { OnOk result ((link : Link) → NotesOutcome question outcome (work_of self.old link) (work_of self.new link)) }
-    {
-        if let Err(error) = self.give(&outcome) {
-            drop(outcome);
-            return Err(error);
-        }
-        self.note(DispatchEvent::Settled { question, outcome })
-    }
-
-    /// Notes that the program is given what an outcome gives: where objects may call, it holds each import that is named once more.
-    fn give(&mut self, outcome: &Outcome) -> Result<(), AllocError>
-        ensures { OnOk result ((link : Link) → IsGiven (caps_of outcome.now) (work_of self.old link) (work_of self.new link)) }
-    {
-        match outcome {
-            Outcome::Results { caps, .. } if self.may_call => {
-                let named = named_imports(self.alloc, caps)?;
-                self.given.raise_each(named.ids())
-            }
-            _ => Ok(()),
-        }
-    }
-
-    /// Makes the calls that an object asks for, until it asks for no more. Then answers what objects settled meanwhile.
-    fn make_calls<H: ObjectTable>(
-        &mut self,
-        connection: &mut Connection,
-        objects: &mut H,
-        number: u32,
-    ) -> Result<(), AllocError>
-        ensures done { OnOk result (MakesCalls H.table number (work_of self.old connection.old) (work_of self.new connection.new) objects.old objects.new) }
-        ensures lives { Lives connection.old connection.new }
-    {
-        for _ in 0..u64::MAX {
-            let Some(next_call) = self.next_call(connection, objects, number)? else {
-                return self.settle_each(connection, objects);
-            };
-            let meant = objects.meant_call(next_call);
-            self.make_call(connection, objects, number, meant)?;
-        }
-        Err(AllocError)
-    }
-
-    /// Answers the calls that objects settled beside a poll, and those whose later calls were dropped, until none is left.
-    pub(crate) fn settle_each<H: ObjectTable>(
-        &mut self,
-        connection: &mut Connection,
-        objects: &mut H,
-    ) -> Result<(), AllocError>
-        ensures done { OnOk result (SettlesEach H.table (work_of self.old connection.old) (work_of self.new connection.new) objects.old objects.new) }
-        ensures lives { Lives connection.old connection.new }
-    {
-        for _ in 0..u64::MAX {
-            let Some(settled) = objects.next_settled()? else {
-                return Ok(());
-            };
-            let _ = self.settle(connection, objects, Some(settled))?;
-        }
-        Err(AllocError)
-    }
-
-    /// The next call of an object. Where objects may not call, and once the connection ended, it makes none, and none of those that it
-    /// was yet to make.
-    fn next_call<H: ObjectTable>(
-        &self,
-        connection: &mut Connection,
-        objects: &mut H,
-        number: u32,
-    ) -> Result<Option<OutgoingCall>, AllocError>
-        ensures done { IfOk result (λ call. NextCall H.table number (work_of self.now connection.old) call (work_of self.now connection.new) objects.old objects.new) }
-        ensures lives { Lives connection.old connection.new }
-    {
-        if !self.may_call || !objects.has(number) || has_ended(connection) {
-            // Nothing would bound them.
-            objects.drop_next_calls(number);
-            return Ok(None);
-        }
-        let next_call = objects.next_call_at(number)?;
-        with_promise_requests_kept(self.alloc, connection, objects, next_call)
-    }
-
-    /// Makes a call of an object. Where the vat refuses it the object is told so.
-    pub(crate) fn make_call<H: ObjectTable>(
-        &mut self,
-        connection: &mut Connection,
-        objects: &mut H,
-        number: u32,
-        next_call: OutgoingCall,
-    ) -> Result<(), AllocError>
-        ensures done { OnOk result (MakesCall H.table number next_call (work_of self.old connection.old) (work_of self.new connection.new) objects.old objects.new) }
-        ensures lives { Lives connection.old connection.new }
-    {
-        let call_id = next_call.call_id;
-        let fault = match connection.call(next_call.cap, next_call.request) {
-            Ok(question) => return self.asked.put(question, QuestionOwner { number, call_id }),
-            Err(fault) => fault,
-        };
-        match fault {
-            ConnectionFault::OutOfMemory => Err(AllocError),
-            ConnectionFault::Refused(_) => {
-                let outcome = refused_call(self.alloc)?;
-                self.on_response(objects, number, call_id, outcome)
-            }
-            // The connection ended, so no outcome will come.
-            ConnectionFault::Closed => Ok(()),
-            ConnectionFault::Unreadable { .. } => Ok(()),
-        }
-    }
-
-    /// Answers a call with what its object replied, or awaits that.
-    fn reply<H: ObjectTable>(
-        &mut self,
-        connection: &mut Connection,
-        objects: &H,
-        origin: Origin,
-        ticket: u64,
-        reply: Reply,
-    ) -> Result<(), AllocError>
-        ensures done { OnOk result (Replies (λ o. H.table.means o objects.now) (work_of self.old connection.old) origin ticket reply (work_of self.new connection.new)) }
-        ensures lives { Lives connection.old connection.new }
-    {
-        match reply {
-            Reply::Now { outcome, gives_up } => {
-                self.give_up(&gives_up)?;
-                answer(self.alloc, connection, origin, objects.meant(outcome))
-            }
-            Reply::Later => self.awaited.put(ticket, origin),
-        }
-    }
-
-    /// What an object replies to a call, whose capabilities it is given; where there is no such object the call fails.
-    fn reply_of<H: ObjectTable>(
-        &mut self,
-        objects: &mut H,
-        number: u32,
-        ticket: u64,
-        request: RequestView<'_>,
-    ) -> Result<Reply, AllocError>
-        ensures { IfOk result (λ r. (link : Link) → Gives H.table number ticket (request_of request.entry) r (work_of self.old link) (work_of self.new link) objects.old objects.new) }
-    {
-        if objects.has(number) {
-            self.hold(&request.caps)?;
-            let reply = objects.call_at(self.alloc, number, ticket, request)?;
-            return Ok(reply);
-        }
-        self.reply_of_none()
-    }
-
-    /// Tells an object what a call of its own came to, whose capabilities it is given. Where there is no such object nobody is told.
-    fn on_response<H: ObjectTable>(
-        &mut self,
-        objects: &mut H,
-        number: u32,
-        call_id: u64,
-        outcome: Outcome,
-    ) -> Result<(), AllocError>
-        ensures { OnOk result ((link : Link) → Hears H.table number call_id outcome (work_of self.old link) (work_of self.new link) objects.old objects.new) }
-    {
-        if objects.has(number) {
-            self.hold_given(&outcome)?;
-            return objects.on_response_at(number, call_id, outcome);
-        }
-        Ok(())
-    }
-
-    /// Notes that an object is given what an outcome gives.
-    fn hold_given(&mut self, outcome: &Outcome) -> Result<(), AllocError>
-        ensures { OnOk result ((link : Link) → Holds (caps_of outcome.now) (work_of self.old link) (work_of self.new link)) }
-    {
-        match outcome {
-            Outcome::Results { caps, .. } => self.hold(caps),
-            Outcome::Failed(_) => Ok(()),
-            Outcome::Canceled => Ok(()),
-        }
-    }
-
-    /// Notes that an object is given capabilities: where objects may call, each import that they name has a holder more.
-    fn hold(&mut self, caps: &Caps) -> Result<(), AllocError>
-        ensures { OnOk result ((link : Link) → Holds caps.now (work_of self.old link) (work_of self.new link)) }
-    {
-        // A release gives an import back whole, so it waits for the last holder; an object that doesn't call has no use for an
-        // import.
-        if !self.may_call {
-            return Ok(());
-        }
-        let imports = named_imports(self.alloc, caps)?;
-        self.holders.raise_each(imports.ids())
-    }
-
-    /// Notes that an object gives imports up.
-    pub(crate) fn give_up(&mut self, imports: &Ids) -> Result<(), AllocError>
-        ensures { OnOk result ((link : Link) → GivesUp imports.now (work_of self.old link) (work_of self.new link)) }
-    {
-        for import in imports.ids() {
-            self.let_go(*import)?;
-        }
-        Ok(())
-    }
-
-    /// Notes which imports objects gave up beside what they answered.
-    fn give_up_beside<H: ObjectTable>(&mut self, objects: &mut H) -> Result<(), AllocError>
-        ensures { OnOk result ((link : Link) → GivesUpBeside H.table (work_of self.old link) (work_of self.new link) objects.old objects.new) }
-    {
-        let imports = objects.take_given_up(self.alloc);
-        self.give_up(&imports)
-    }
-
-    /// Notes that an object gives an import up, which is to be released unless others hold it.
-    fn let_go(&mut self, import: u32) -> Result<(), AllocError>
-        ensures { OnOk result ((link : Link) → LetsGo import (work_of self.old link) (work_of self.new link)) }
-    {
-        if self.holders.lower(import) {
-            return Ok(());
-        }
-        self.free(import)
-    }
-
     /// Polls each object once that is to be polled, in order, until the connection ended. Says whether an outcome was given that was
     /// awaited.
     fn poll_each<H: ObjectTable>(
@@ -713,109 +456,10 @@ impl Dispatcher {
         }
         Err(AllocError)
     }
-
-    /// Answers a call with what an object settled it with, if it did. Says whether it was awaited: if not, what the
-    /// object gave is dropped.
-    fn settle<H: ObjectTable>(
-        &mut self,
-        connection: &mut Connection,
-        objects: &H,
-        settled: Option<Settled>,
-    ) -> Result<bool, AllocError>
-        ensures done { IfOk result (λ gave. Settles (λ o. H.table.means o objects.now) (work_of self.old connection.old) settled gave (work_of self.new connection.new)) }
-        ensures lives { Lives connection.old connection.new }
-    {
-        let Some(settled) = settled else {
-            return Ok(false);
-        };
-        let Some(origin) = self.awaited.remove(settled.ticket) else {
-            return Ok(false);
-        };
-        self.give_up(&settled.gives_up)?;
-        let outcome = objects.meant(settled.outcome);
-        answer(self.alloc, connection, origin, outcome)?;
-        Ok(true)
-    }
-
-    /// Tries to release each import that was given up and isn't held again. One that is still in use stays.
-    pub(crate) fn release_all(&mut self, connection: &mut Connection) -> Result<(), AllocError>
-        ensures done { OnOk result (Releases (work_of self.old connection.old) (work_of self.new connection.new)) }
-        ensures lives { Lives connection.old connection.new }
-    {
-        // A release that is refused puts its import into the new list.
-        let imports = mem::replace(&mut self.given_up, Vec::new(self.alloc));
-        self.release_each(connection, &imports)
-    }
-
-    /// Tries to release each of these imports, unless an object holds it, or the program.
-    fn release_each(
-        &mut self,
-        connection: &mut Connection,
-        imports: &[u32],
-    ) -> Result<(), AllocError>
-        ensures done { OnOk result (TriesEach (work_of self.old connection.old) imports.now (work_of self.new connection.new)) }
-        ensures lives { Lives connection.old connection.new }
-    {
-        for import in imports {
-            self.release_unheld(connection, *import)?;
-        }
-        Ok(())
-    }
-
-    /// Tries to release an import, unless an object holds it, or the program.
-    fn release_unheld(&mut self, connection: &mut Connection, import: u32) -> Result<(), AllocError>
-        ensures done { OnOk result (TriesUnheld (work_of self.old connection.old) import (work_of self.new connection.new)) }
-        ensures lives { Lives connection.old connection.new }
-    {
-        // Its holder puts it on the list again when it gives the import up.
-        if self.holders.of(import) > 0 {
-            return Ok(());
-        }
-        // So does the program.
-        if self.given.of(import) > 0 {
-            return Ok(());
-        }
-        self.release(connection, import)
-    }
-
-    /// Tries to release an import.
-    fn release(&mut self, connection: &mut Connection, import: u32) -> Result<(), AllocError>
-        ensures done { OnOk result (Tries (work_of self.old connection.old) import (work_of self.new connection.new)) }
-        ensures lives { Lives connection.old connection.new }
-    {
-        let fault = match connection.release(import) {
-            Ok(()) => return Ok(()),
-            Err(fault) => fault,
-        };
-        match fault {
-            ConnectionFault::OutOfMemory => Err(AllocError),
-            ConnectionFault::Refused(refusal) => self.stay(import, refusal),
-            ConnectionFault::Closed => Ok(()),
-            ConnectionFault::Unreadable { .. } => Ok(()),
-        }
-    }
-
-    /// Keeps an import whose release was refused, if it is still in use.
-    fn stay(&mut self, import: u32, refusal: VatFault) -> Result<(), AllocError>
-        ensures { OnOk result ((link : Link) → Stays import refusal (work_of self.old link) (work_of self.new link)) }
-    {
-        match refusal {
-            VatFault::InUse => self.free(import),
-            _ => Ok(()),
-        }
-    }
-
-    /// Notes that an import is to be released.
-    fn free(&mut self, import: u32) -> Result<(), AllocError>
-        ensures { OnOk result ((link : Link) → Frees import (work_of self.old link) (work_of self.new link)) }
-    {
-        self.given_up.push(import)?;
-        Ok(())
-    }
 }
 
 /// Whether a connection ended.
-fn has_ended(connection: &Connection) -> bool
+pub(crate) fn has_ended(connection: &Connection) -> bool
     ensures { IsTrue result ↔ IsSome connection.now.fault }
 {
     connection.fault().is_some()

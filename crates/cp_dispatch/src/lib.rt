@@ -2,10 +2,13 @@
 #![tactic(auto)]
 
 mod answers;
+mod calls;
+mod canceling;
 mod dispatcher;
 mod event;
 mod holders;
 mod idle;
+mod imports;
 mod incoming;
 mod laws;
 mod promise_requests;

@@ -1,3 +1,5 @@
+pub mod Faults
+pub mod Tables
 pub mod Replies
 pub mod Dispatch
 pub mod Promises

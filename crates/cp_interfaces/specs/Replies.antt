@@ -15,6 +15,10 @@ use Rattle.cp_servants.specs.declared.servant.Reply.TheVariants as replies
 use Rattle.cp_servants.specs.Outcomes.{exception_of, noted_with}
 use Rattle.cp_interfaces.specs.declared.fault.MethodFault.{MethodFault}
 use Rattle.cp_interfaces.specs.declared.fault.MethodFault.TheVariants as faults
+use Rattle.cp_interfaces.specs.declared.naming_error.NamingError.{NamingError}
+use Rattle.cp_interfaces.specs.declared.naming_error.NamingError.TheVariants as naming_errors
+use Rattle.cp_objects.specs.declared.reference_error.ReferenceError.{ReferenceError}
+use Rattle.cp_objects.specs.declared.reference_error.ReferenceError.TheVariants as reference_errors
 use Rattle.cp_interfaces.specs.declared.fault.CapFault.{CapFault}
 use Rattle.cp_interfaces.specs.declared.fault.CapFault.TheVariants as cap_faults
 
@@ -26,6 +30,15 @@ of_text texts.OutOfMemory = faults.OutOfMemory
 abbrev pub of_draft : BuildError → MethodFault
 of_draft drafts.TooLong = faults.TooLong
 of_draft drafts.OutOfMemory = faults.OutOfMemory
+
+abbrev pub of_naming : NamingError → MethodFault
+of_naming naming_errors.TooLong = faults.TooLong
+of_naming naming_errors.OtherSession = faults.OtherSession
+of_naming naming_errors.OutOfMemory = faults.OutOfMemory
+
+abbrev pub of_reference : ReferenceError → MethodFault
+of_reference reference_errors.OtherSession = faults.OtherSession
+of_reference reference_errors.OutOfMemory = faults.OutOfMemory
 
 abbrev pub of_cap : CapFault → MethodFault
 of_cap (cap_faults.WrongKind fault) = faults.WrongKind fault
@@ -40,6 +53,7 @@ exception_for faults.NotUtf8 = Some (exception_of kinds.Failed (codes "a text is
 exception_for faults.TooLong = Some (exception_of kinds.Failed (codes "the results are too long"))
 exception_for faults.OutOfRange = Some (exception_of kinds.Failed (codes "a number is out of range"))
 exception_for faults.InUse = Some (exception_of kinds.Failed (codes "what is shared is in use"))
+exception_for faults.OtherSession = Some (exception_of kinds.Failed (codes "a reference of another connection"))
 exception_for faults.OutOfMemory = None
 
 -- imports, and one more after them, if there is one

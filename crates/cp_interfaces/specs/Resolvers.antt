@@ -6,17 +6,18 @@ use Rattle.cp_refs.specs.declared.cap.Cap.TheVariants as caps
 use Rattle.cp_objects.specs.Context.{ContextState, next_number, with_effect, with_promise}
 use Rattle.cp_objects.specs.declared.context.ObjectEffect.TheVariants as effects
 use Rattle.cp_objects.specs.declared.resolver.Resolver.{Resolver}
+use Rattle.cp_objects.specs.declared.session_cap.SessionCap.{SessionCap}
 use Rattle.cp_interfaces.specs.declared.fault.MethodFault.{MethodFault}
 use Rattle.cp_interfaces.specs.Replies.{exception_for}
 
 -- the capability of a promise
-abbrev pub promised_by : Resolver → Cap
-promised_by resolver = caps.Object resolver.number
+abbrev pub promised_by : Resolver → SessionCap
+promised_by resolver = record { session = resolver.session; cap = caps.Object resolver.number }
 
 module _ {M : Type 0} where
   -- An object made a promise, which this resolves.
   abbrev pub Promises : Resolver → ContextState M → ContextState M → Type 0
-  Promises resolver old new = (resolver.number ≡ next_number old) × (new ≡ with_promise old)
+  Promises resolver old new = (resolver ≡ record { session = old.this.session; number = next_number old }) × (new ≡ with_promise old)
 
   -- what it promised comes to this
   abbrev pub resolved : Resolver → Cap → ContextState M → ContextState M

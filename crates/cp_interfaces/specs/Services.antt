@@ -1,5 +1,5 @@
 -- What objects of interfaces do that may make others.
-use Rattle.std.specs.Prelude.{◌≡◌, ◌⊎◌, ℕ, Bool, false, Option, None}
+use Rattle.std.specs.Prelude.{◌≡◌, ◌⊎◌, ℕ, Option, None}
 use Rattle.cp_refs.specs.declared.outcome.Outcome.{Outcome}
 use Rattle.cp_servants.specs.declared.servant.OutgoingCall.{OutgoingCall}
 use Rattle.cp_servants.specs.declared.servant.Reply.{Reply}
@@ -32,18 +32,19 @@ module _ {S M : Type 0} (kind : ServedObjectKind S M) where
   abbrev pub OnResponse : At S M → ℕ → Outcome → At S M → Type 0
   OnResponse old call_id outcome new = kind.on_response old.object call_id outcome old.place new.place new.object ⊎ (new ≡ old)
 
-  -- An object says whether a further poll may give more, as its kind says; or that it may not.
-  abbrev pub SaysMore : Bool → S → Type 0
-  SaysMore more object = kind.says_more more object ⊎ (more ≡ false)
+  -- An object was told that the call of this ticket was given up, as its kind says; or all is as it was.
+  abbrev pub OnCancel : At S M → ℕ → At S M → Type 0
+  OnCancel old ticket new = kind.on_cancel old.object ticket old.place new.place new.object ⊎ (new ≡ old)
 
   -- An object was told its end, as its kind says; or all is as it was.
   abbrev pub HasEnd : At S M → At S M → Type 0
   HasEnd old new = kind.ends old.object old.place new.place new.object ⊎ (new ≡ old)
 
 -- a call, as methods get it
-abbrev pub call_of : ℕ → Request → MethodCall
-call_of ticket request = record {
+abbrev pub call_of : ℕ → ℕ → Request → MethodCall
+call_of session ticket request = record {
   ticket = ticket;
+  session = session;
   request = record { interface = request.interface; method = request.method; content = request.content; caps = request.caps };
 }
 
@@ -51,13 +52,13 @@ call_of ticket request = record {
 abbrev pub taking : {S M : Type 0} → (At S M → MethodCall → Reply → At S M → Type 0) → ServedObjectKind S M → ServedObjectKind S M
 taking takes kind = record kind {
   takes = λ old ticket request before reply after new.
-      takes (record { object = old; place = before }) (call_of ticket request) reply (record { object = new; place = after });
+      takes (record { object = old; place = before }) (call_of before.this.session ticket request) reply (record { object = new; place = after });
   polls = λ old before given after new. Polls kind (record { object = old; place = before }) given (record { object = new; place = after });
   next_calls = λ old before next_call after new. NextCalls kind (record { object = old; place = before }) next_call (record { object = new; place = after });
   on_response = λ old call_id outcome before after new.
       OnResponse kind (record { object = old; place = before }) call_id outcome (record { object = new; place = after });
+  on_cancel = λ old ticket before after new. OnCancel kind (record { object = old; place = before }) ticket (record { object = new; place = after });
   ends = λ old before after new. HasEnd kind (record { object = old; place = before }) (record { object = new; place = after });
-  says_more = λ more object. SaysMore kind more object;
 }
 
 -- the kind of objects that do what their kind says as they are seen
@@ -67,6 +68,7 @@ seen_as seen kind = record {
   polls = λ old before given after new. kind.polls (seen old) before given after (seen new);
   next_calls = λ old before next_call after new. kind.next_calls (seen old) before next_call after (seen new);
   on_response = λ old call_id outcome before after new. kind.on_response (seen old) call_id outcome before after (seen new);
+  on_cancel = λ old ticket before after new. kind.on_cancel (seen old) ticket before after (seen new);
   ends = λ old before after new. kind.ends (seen old) before after (seen new);
   says_more = λ more object. kind.says_more more (seen object);
 }

@@ -3,14 +3,16 @@
 ghost use Rattle.std.specs.Prelude.{◌≡◌};
 ghost use Rattle.cp_fields.specs.Pointers.{struct_field};
 
+use crate::cap_table::CapTable;
 use cp_fields::{StructReader, WrongKind};
-use cp_refs::Caps;
 use cp_servants::RequestView;
 
 /// A call of a method, whose params are lent by their frame.
 pub struct MethodCall<'c> {
     /// No other call of the connection has it. An answer that is given later names it.
     pub ticket: u64,
+    /// The number of the session that it came by.
+    pub session: u64,
     pub request: RequestView<'c>,
 }
 
@@ -19,6 +21,7 @@ impl Drop for MethodCall<'_> {
     fn drop(self) {
         let MethodCall {
             ticket: _,
+            session: _,
             request: _,
         } = self;
     }
@@ -33,9 +36,13 @@ impl<'c> MethodCall<'c> {
     }
 
     /// The table of the capabilities that its params name.
-    pub fn caps(&self) -> &Caps
-        ensures { result.now ≡ self.now.request.caps }
+    pub fn caps(&self) -> CapTable<'_>
+        ensures caps { result.caps.now ≡ self.now.request.caps }
+        ensures session { result.session ≡ self.now.session }
     {
-        &self.request.caps
+        CapTable {
+            session: self.session,
+            caps: &self.request.caps,
+        }
     }
 }

@@ -1,13 +1,13 @@
 //! Typed clients.
 
-ghost use Rattle.cp_refs.specs.declared.cap.Cap.{Cap};
+ghost use Rattle.cp_objects.specs.declared.session_cap.SessionCap.{SessionCap};
 
 use crate::target::CallTarget;
 
 /// A client that calls a capability by the methods of an interface.
 pub trait TypedClient: Drop {
     /// The capability.
-    ghost called: { Self → Cap };
+    ghost called: { Self → SessionCap };
 
     ghost use Rattle.std.specs.Prelude.{◌≡◌};
 

@@ -4,8 +4,10 @@ ghost use Rattle.std.specs.Prelude.{◌≡◌, Some, IfOk};
 ghost use Rattle.cp_servants.specs.Outcomes.{exception_of};
 ghost use Rattle.cp_interfaces.specs.Replies.{exception_for};
 
+use crate::naming_error::NamingError;
 use cp_builder::BuildError;
 use cp_fields::{TextFault, WrongKind};
+use cp_objects::ReferenceError;
 use cp_rpc::{Exception, ExceptionKind, Text};
 use std::alloc::{AllocError, AllocFailed, Global};
 use std::cell::{BorrowError, BorrowMutError};
@@ -30,6 +32,8 @@ pub enum MethodFault {
     OutOfRange,
     /// What the object shares with others is in use.
     InUse,
+    /// A capability of another connection was used.
+    OtherSession,
     /// It ends the serving.
     OutOfMemory,
 }
@@ -45,6 +49,7 @@ impl Drop for MethodFault {
             MethodFault::TooLong => {}
             MethodFault::OutOfRange => {}
             MethodFault::InUse => {}
+            MethodFault::OtherSession => {}
             MethodFault::OutOfMemory => {}
         }
     }
@@ -66,6 +71,9 @@ impl MethodFault {
             MethodFault::TooLong => exception(alloc, failed, "the results are too long"),
             MethodFault::OutOfRange => exception(alloc, failed, "a number is out of range"),
             MethodFault::InUse => exception(alloc, failed, "what is shared is in use"),
+            MethodFault::OtherSession => {
+                exception(alloc, failed, "a reference of another connection")
+            }
             MethodFault::OutOfMemory => Err(AllocError),
         }
     }
@@ -128,6 +136,35 @@ impl From<BuildError> for MethodFault {
         match fault {
             BuildError::TooLong => MethodFault::TooLong,
             BuildError::OutOfMemory => MethodFault::OutOfMemory,
+        }
+    }
+}
+
+impl From<NamingError> for MethodFault {
+    ghost use Rattle.std.specs.Prelude.{◌≡◌};
+    ghost use Rattle.cp_interfaces.specs.Replies.{of_naming};
+
+    ghost from_gives = { λ fault f. f ≡ of_naming fault };
+
+    fn from(fault: NamingError) -> MethodFault {
+        match fault {
+            NamingError::TooLong => MethodFault::TooLong,
+            NamingError::OtherSession => MethodFault::OtherSession,
+            NamingError::OutOfMemory => MethodFault::OutOfMemory,
+        }
+    }
+}
+
+impl From<ReferenceError> for MethodFault {
+    ghost use Rattle.std.specs.Prelude.{◌≡◌};
+    ghost use Rattle.cp_interfaces.specs.Replies.{of_reference};
+
+    ghost from_gives = { λ fault f. f ≡ of_reference fault };
+
+    fn from(fault: ReferenceError) -> MethodFault {
+        match fault {
+            ReferenceError::OtherSession => MethodFault::OtherSession,
+            ReferenceError::OutOfMemory => MethodFault::OutOfMemory,
         }
     }
 }

@@ -3,14 +3,16 @@
 
 mod call;
 mod caller;
+mod cap_table;
 mod cap_table_builder;
 mod client;
 mod fault;
 mod later;
 mod lists;
+mod method_request;
 mod named_results;
+mod naming_error;
 mod no_fields;
-mod numbers;
 mod object;
 mod payload;
 mod pipeline;
@@ -24,17 +26,16 @@ mod typed_pipeline;
 
 pub use call::MethodCall;
 pub use caller::Caller;
+pub use cap_table::CapTable;
 pub use cap_table_builder::CapTableBuilder;
 pub use client::TypedClient;
 pub use fault::{CapFault, MethodFault, NoResults};
 pub use later::LaterAnswer;
-pub use lists::{CapListBuilder, DataListBuilder, ListValue, ListsBuilder, TextListBuilder};
+pub use lists::{CapListBuilder, DataListBuilder, ListsBuilder, TextListBuilder};
+pub use method_request::MethodRequest;
 pub use named_results::NamedResults;
+pub use naming_error::NamingError;
 pub use no_fields::{NoFieldsBuilder, NoFieldsPipeline, NoFieldsReader};
-pub use numbers::{
-    Enumerant, enumerants_of, float32_of, float64_of, signed8_of, signed16_of, signed32_of,
-    signed64_of,
-};
 pub use object::ServiceObject;
 pub use payload::{ResultPayload, payload_of};
 pub use pipeline::Pipeline;

@@ -1,18 +1,18 @@
 //! Lists of what pointers stand for, to be written: texts, data, capabilities, and other lists.
 
-ghost use Rattle.std.specs.Prelude.{◌≡◌, ◌+◌, ◌≤◌, ◌^◌, [], ◌∷◌, ◌++◌, Err, IfOk, OnOk, OnErr, length};
+ghost use Rattle.std.specs.Prelude.{◌≡◌, ◌+◌, ◌≤◌, ◌^◌, true, false, [], ◌∷◌, ◌++◌, Err, IfOk, OnOk, OnErr, length};
 ghost use Rattle.cp_tree.specs.Node.{Node};
 ghost use Rattle.cp_servants.specs.Naming.{pointer_naming, with_named};
-ghost use Rattle.cp_builder.specs.Drafts.{bits_tree, bytes_tree, halves_tree, quads_tree, text_tree, words_tree};
+ghost use Rattle.cp_interfaces.specs.Tables.{IsFull, may_name, naming};
+ghost use Rattle.cp_interfaces.specs.declared.naming_error.NamingError.TheVariants as naming_errors;
+ghost use Rattle.cp_builder.specs.Drafts.{bytes_tree, text_tree};
 ghost use Rattle.cp_builder.specs.declared.fault.BuildError.TheVariants.{TooLong};
-ghost use Rattle.cp_interfaces.specs.Lists.{pointers_tree};
+ghost use Rattle.cp_interfaces.specs.Lists.{AddsOne, pointers_tree};
 
 use crate::cap_table_builder::CapTableBuilder;
+use crate::naming_error::NamingError;
 use crate::target::CallTarget;
-use cp_builder::{
-    BuildError, FieldValue, bits_of, bytes_of, four_bytes_of, pointers_of, text_of, two_bytes_of,
-    words_of,
-};
+use cp_builder::{BuildError, FieldValue, bytes_of, pointers_of, text_of};
 use cp_fields::{DataReader, List, TextReader, WrongKind};
 use cp_tree::Whole;
 use std::alloc::Global;
@@ -134,11 +134,13 @@ impl CapListBuilder {
         &mut self,
         table: &mut CapTableBuilder,
         target: CallTarget,
-    ) -> Result<(), BuildError>
-        ensures pushed { OnOk result (self.new.items.items ≡ self.old.items.items ++ pointer_naming table.old target ∷ []) }
-        ensures added { OnOk result (table.new ≡ with_named table.old target) }
+    ) -> Result<(), NamingError>
+        ensures pushed { OnOk result (self.new.items.items ≡ self.old.items.items ++ pointer_naming table.old.caps target.cap ∷ []) }
+        ensures added { OnOk result (table.new ≡ naming table.old target) }
         ensures left { OnErr result (self.new.items.items ≡ self.old.items.items) }
-        ensures full { result ≡ Err TooLong → 2 ^ 32 ≤ length table.old + 1 }
+        ensures full { result ≡ Err naming_errors.TooLong → IsFull table.old }
+        ensures own { OnOk result (may_name table.old target ≡ true) }
+        ensures other { result ≡ Err naming_errors.OtherSession → may_name table.old target ≡ false }
     {
         self.items.push(table.add(target.into_cap())?)?;
         Ok(())
@@ -151,53 +153,6 @@ impl CapListBuilder {
     {
         let CapListBuilder { alloc, items } = self;
         pointers_of(alloc, items)
-    }
-}
-
-/// A list, as a field is set to it, or as it is pushed to a list of lists.
-pub trait ListValue: Drop {
-    /// The list that it is.
-    ghost tree: { Self → Node };
-
-    /// It has more elements than a list can have.
-    ghost is_long: { Self → Type 0 };
-
-    /// The list that it is.
-    fn into_list(self, alloc: Global) -> Result<Whole, BuildError>
-        ensures list { IfOk result (λ whole. whole ≡ tree self) }
-        ensures long { result ≡ Err TooLong → is_long self };
-}
-
-impl ListValue for TextListBuilder {
-    ghost tree = { λ l. pointers_tree l.items.items };
-
-    ghost is_long = { λ l. 2 ^ 29 ≤ length l.items.items };
-
-    fn into_list(self, alloc: Global) -> Result<Whole, BuildError> {
-        let _ = alloc;
-        self.into_whole()
-    }
-}
-
-impl ListValue for DataListBuilder {
-    ghost tree = { λ l. pointers_tree l.items.items };
-
-    ghost is_long = { λ l. 2 ^ 29 ≤ length l.items.items };
-
-    fn into_list(self, alloc: Global) -> Result<Whole, BuildError> {
-        let _ = alloc;
-        self.into_whole()
-    }
-}
-
-impl ListValue for CapListBuilder {
-    ghost tree = { λ l. pointers_tree l.items.items };
-
-    ghost is_long = { λ l. 2 ^ 29 ≤ length l.items.items };
-
-    fn into_list(self, alloc: Global) -> Result<Whole, BuildError> {
-        let _ = alloc;
-        self.into_whole()
     }
 }
 
@@ -227,58 +182,16 @@ impl<'a> FieldValue<List<'a, Result<DataReader<'a>, WrongKind>>> for DataListBui
     }
 }
 
-impl ListValue for Vec<bool> {
-    ghost tree = { λ l. bits_tree l.items };
+impl<'a> FieldValue<List<'a, Result<Option<u32>, WrongKind>>> for CapListBuilder {
+    ghost stands = { λ l t. t ≡ pointers_tree l.items.items };
 
-    ghost is_long = { λ l. 2 ^ 29 ≤ length l.items };
+    ghost is_long = { λ l. 2 ^ 29 ≤ length l.items.items };
 
-    fn into_list(self, alloc: Global) -> Result<Whole, BuildError> {
-        let _ = alloc;
-        bits_of(self)
-    }
-}
-
-impl ListValue for Vec<u8> {
-    ghost tree = { λ l. bytes_tree l.items };
-
-    ghost is_long = { λ l. 2 ^ 29 ≤ length l.items };
-
-    fn into_list(self, alloc: Global) -> Result<Whole, BuildError> {
-        let _ = alloc;
-        bytes_of(self)
-    }
-}
-
-impl ListValue for Vec<u16> {
-    ghost tree = { λ l. halves_tree l.items };
-
-    ghost is_long = { λ l. 2 ^ 29 ≤ length l.items };
-
-    fn into_list(self, alloc: Global) -> Result<Whole, BuildError> {
-        let _ = alloc;
-        two_bytes_of(self)
-    }
-}
-
-impl ListValue for Vec<u32> {
-    ghost tree = { λ l. quads_tree l.items };
-
-    ghost is_long = { λ l. 2 ^ 29 ≤ length l.items };
-
-    fn into_list(self, alloc: Global) -> Result<Whole, BuildError> {
-        let _ = alloc;
-        four_bytes_of(self)
-    }
-}
-
-impl ListValue for Vec<u64> {
-    ghost tree = { λ l. words_tree l.items };
-
-    ghost is_long = { λ l. 2 ^ 29 ≤ length l.items };
-
-    fn into_list(self, alloc: Global) -> Result<Whole, BuildError> {
-        let _ = alloc;
-        words_of(self)
+    fn into_whole(self, _alloc: Global) -> Result<Whole, BuildError>
+        ensures value { IfOk result (λ whole. whole ≡ pointers_tree self.items.items) }
+        ensures long { result ≡ Err TooLong → 2 ^ 29 ≤ length self.items.items }
+    {
+        CapListBuilder::into_whole(self)
     }
 }
 
@@ -299,7 +212,7 @@ impl<L> Drop for ListsBuilder<L> {
     }
 }
 
-impl<L: ListValue> ListsBuilder<L> {
+impl<L> ListsBuilder<L> {
     /// No list yet.
     pub fn new(alloc: Global) -> ListsBuilder<L>
         ensures { result.items.items ≡ [] }
@@ -312,12 +225,14 @@ impl<L: ListValue> ListsBuilder<L> {
     }
 
     /// Adds a list at the end.
-    pub fn push(&mut self, list: L) -> Result<(), BuildError>
-        ensures pushed { OnOk result (self.new.items.items ≡ self.old.items.items ++ L.tree list ∷ []) }
+    pub fn push<'a, T>(&mut self, list: L) -> Result<(), BuildError>
+    where
+        L: FieldValue<List<'a, T>>,
+        ensures pushed { OnOk result (AddsOne (L.stands list) self.old.items.items self.new.items.items) }
         ensures left { OnErr result (self.new.items.items ≡ self.old.items.items) }
         ensures long { result ≡ Err TooLong → L.is_long list }
     {
-        self.items.push(list.into_list(self.alloc)?)?;
+        self.items.push(list.into_whole(self.alloc)?)?;
         Ok(())
     }
 
@@ -335,13 +250,16 @@ impl<L: ListValue> ListsBuilder<L> {
     }
 }
 
-impl<L: ListValue> ListValue for ListsBuilder<L> {
-    ghost tree = { λ l. pointers_tree l.items.items };
+impl<'a, T, L: FieldValue<List<'a, T>>> FieldValue<List<'a, Result<List<'a, T>, WrongKind>>>
+    for ListsBuilder<L> {
+    ghost stands = { λ l t. t ≡ pointers_tree l.items.items };
 
     ghost is_long = { λ l. 2 ^ 29 ≤ length l.items.items };
 
-    fn into_list(self, alloc: Global) -> Result<Whole, BuildError> {
-        let _ = alloc;
-        self.into_whole()
+    fn into_whole(self, _alloc: Global) -> Result<Whole, BuildError>
+        ensures value { IfOk result (λ whole. whole ≡ pointers_tree self.items.items) }
+        ensures long { result ≡ Err TooLong → 2 ^ 29 ≤ length self.items.items }
+    {
+        ListsBuilder::into_whole(self)
     }
 }

@@ -1,6 +1,7 @@
 //! Results whose struct has a name in its schema.
 
-ghost use Rattle.std.specs.Prelude.{◌≡◌, []};
+ghost use Rattle.std.specs.Prelude.{◌≡◌};
+ghost use Rattle.cp_interfaces.specs.Tables.{none_named};
 
 use crate::cap_table_builder::CapTableBuilder;
 use crate::results::Results;
@@ -19,7 +20,7 @@ pub struct NamedResults<R> {
 impl<R> NamedResults<R> {
     /// Results that name no capability yet.
     pub fn new(alloc: Global, content: R) -> NamedResults<R>
-        ensures { result ≡ record { content = content; table = [] } }
+        ensures { result ≡ record { content = content; table = none_named } }
     {
         NamedResults {
             content,

@@ -1,6 +1,7 @@
 //! Structs without fields, as params and results may be; those of methods with `-> stream` are.
 
-ghost use Rattle.std.specs.Prelude.{◌≡◌, [], IfOk};
+ghost use Rattle.std.specs.Prelude.{◌≡◌, IfOk};
+ghost use Rattle.cp_interfaces.specs.Tables.{none_named};
 ghost use Rattle.cp_builder.specs.Drafts.{blank};
 
 use crate::cap_table_builder::CapTableBuilder;
@@ -38,7 +39,7 @@ impl NoFieldsBuilder {
 impl Results for NoFieldsBuilder {
     ghost content = { λ d. d.body };
 
-    ghost names = { λ d. [] };
+    ghost names = { λ d. none_named };
 
     fn into_parts(self, alloc: Global) -> (Whole, CapTableBuilder) {
         (self.body.into_whole(), CapTableBuilder::new(alloc))

@@ -2,15 +2,15 @@
 
 ghost use Rattle.std.specs.Prelude.{IfOk, OnOk};
 ghost use Rattle.cp_objects.specs.ServedObject.{ServedObjectKind, any_served_object};
-ghost use Rattle.cp_interfaces.specs.Services.{NextCalls, HasEnd, OnResponse, Polls, SaysMore, at};
+ghost use Rattle.cp_interfaces.specs.Services.{NextCalls, HasEnd, OnCancel, OnResponse, Polls, at};
 
 use crate::fault::MethodFault;
 use cp_objects::Context;
 use cp_refs::Outcome;
 use cp_servants::{OutgoingCall, Settled};
 
-/// An object that has the methods of an interface, and what else a `ServedObject` may do. An object that does nothing but in its methods has
-/// `impl ServiceObject for .. { type Makes = ..; }`. A fault of what isn't a call ends the serving.
+/// An object that has the methods of an interface, and what else a `ServedObject` may do. An object that does nothing but in its methods says
+/// what it `Makes`, and `false` of `has_more`. A fault of what isn't a call ends the serving.
 pub trait ServiceObject: Drop {
     /// The one type of all objects of the connection.
     type Makes: Drop;
@@ -28,12 +28,9 @@ pub trait ServiceObject: Drop {
         Ok(None)
     }
 
-    /// Whether a further poll may give more, though nothing more comes to the object.
+    /// Whether a further poll may give more, though nothing more comes to the object: `false` for one that gives all as it is called.
     fn has_more(&self) -> bool
-        ensures { SaysMore kind result self.now }
-    {
-        false
-    }
+        ensures { kind.says_more result self.now };
 
     /// The next call that the object makes, if it makes one more: it is asked once all calls that it sent (`Context::send`) are made.
     fn next_call(
@@ -56,6 +53,20 @@ pub trait ServiceObject: Drop {
         ensures { OnOk result (OnResponse kind (at self.old context.old) call_id outcome (at self.new context.new)) }
     {
         let _ = (call_id, outcome);
+        let _ = context;
+        Ok(())
+    }
+
+    /// The peer gave a call up that the object is to answer later, and takes no results of it. To stop working for it, drop its
+    /// `LaterAnswer` (that of this `ticket`): then nothing is kept of the call. Calls that the peer made on its results fail then.
+    fn on_cancel(
+        &mut self,
+        ticket: u64,
+        context: &mut Context<Self::Makes>,
+    ) -> Result<(), MethodFault>
+        ensures { OnOk result (OnCancel kind (at self.old context.old) ticket (at self.new context.new)) }
+    {
+        let _ = ticket;
         let _ = context;
         Ok(())
     }

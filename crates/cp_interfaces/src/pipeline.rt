@@ -1,18 +1,19 @@
 //! What a question will give, by the places of the fields.
 
 ghost use Rattle.std.specs.Prelude.{◌≡◌, ◌++◌, ◌∷◌, [], IfOk};
-ghost use Rattle.cp_refs.specs.declared.cap.Cap.TheVariants.{Pipelined};
-ghost use Rattle.cp_interfaces.specs.Promises.{promise_of, along};
+ghost use Rattle.cp_interfaces.specs.Promises.{along, promise_of, promised_cap};
 
 use crate::target::CallTarget;
+use cp_objects::SessionCap;
 use cp_refs::{Cap, Path};
 use std::alloc::{AllocError, Global};
 use std::marker::Model;
 
-/// What a question will give at a path of pointer fields of its results. Contracts see it as the question's number and the
-/// path.
+/// What a question of a session will give at a path of pointer fields of its results. Contracts see it as the session's number, the
+/// question's, and the path.
 pub struct Pipeline {
     alloc: Global,
+    session: u64,
     question: u32,
     path: Vec<u16>,
 }
@@ -24,7 +25,7 @@ impl Model for Pipeline {
 
     ghost coded = { promise_code };
 
-    ghost view = { λ p. record { question = p.question; path = p.path.items } };
+    ghost view = { λ p. record { session = p.session; question = p.question; path = p.path.items } };
 }
 
 // Not derived: a crate that lets one go calls this function, and need not prove the drop of all that it holds.
@@ -32,6 +33,7 @@ impl Drop for Pipeline {
     fn drop(self) {
         let Pipeline {
             alloc: _,
+            session: _,
             question: _,
             path: _,
         } = self;
@@ -39,12 +41,13 @@ impl Drop for Pipeline {
 }
 
 impl Pipeline {
-    /// The results of a question.
-    pub fn of(alloc: Global, question: u32) -> Pipeline
-        ensures { result ≡ promise_of question }
+    /// The results of a question of this session.
+    pub fn of(alloc: Global, session: u64, question: u32) -> Pipeline
+        ensures { result ≡ promise_of session question }
     {
         Pipeline {
             alloc,
+            session,
             question,
             path: Vec::new(alloc),
         }
@@ -63,6 +66,7 @@ impl Pipeline {
     {
         Ok(Pipeline {
             alloc: self.alloc,
+            session: self.session,
             question: self.question,
             path: self.path_to(field)?,
         })
@@ -70,10 +74,11 @@ impl Pipeline {
 
     /// What a pointer field of it will be, as a capability that may be called at once.
     pub fn target(&self, field: u16) -> Result<CallTarget, AllocError>
-        ensures { IfOk result (λ t. t ≡ Pipelined self.now.question (self.now.path ++ field ∷ [])) }
+        ensures { IfOk result (λ t. t ≡ promised_cap self.now field) }
     {
         let path = Path::new(self.path_to(field)?);
-        Ok(CallTarget::new(self.alloc, Cap::Pipelined(self.question, path)))
+        let cap = SessionCap::new(self.session, Cap::Pipelined(self.question, path));
+        Ok(CallTarget::new(self.alloc, cap))
     }
 
     /// The path to a pointer field.

@@ -23,7 +23,7 @@ pub fn reply(
 {
     Ok(Reply::Now {
         outcome,
-        gives_up: given_up(alloc, call.caps(), keeps)?,
+        gives_up: given_up(alloc, &call.request.caps, keeps)?,
     })
 }
 

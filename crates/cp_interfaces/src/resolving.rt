@@ -1,13 +1,14 @@
 //! Promises that objects make, as typed clients call them.
 
 ghost use Rattle.std.specs.Prelude.{◌≡◌, IfOk, OnOk, OnErr};
-ghost use Rattle.cp_objects.specs.Context.{context_of};
+ghost use Rattle.cp_objects.specs.Context.{context_of, may_resolve};
+ghost use Rattle.cp_objects.specs.SessionCap.{IsTakenIf};
 ghost use Rattle.cp_interfaces.specs.Resolvers.{Fails, Promises, promised_by, resolved};
 
 use crate::client::TypedClient;
 use crate::fault::MethodFault;
 use crate::target::CallTarget;
-use cp_objects::{Context, Resolver};
+use cp_objects::{Context, ReferenceError, Resolver};
 use cp_refs::Cap;
 use std::alloc::{AllocError, Global};
 use std::marker::PhantomData;
@@ -38,9 +39,10 @@ impl<C: TypedClient> TypedResolver<C> {
         C::of(CallTarget::new(alloc, self.resolver.cap()))
     }
 
-    /// What was promised comes to this object.
-    pub fn resolve<M: Drop>(self, context: &mut Context<M>, client: C) -> Result<(), AllocError>
-        ensures resolved { OnOk result (context_of context.new ≡ resolved self.resolver (C.called client) (context_of context.old)) }
+    /// What was promised comes to this object, as by `Context::resolve`.
+    pub fn resolve<M: Drop>(self, context: &mut Context<M>, client: C) -> Result<(), ReferenceError>
+        ensures resolved { OnOk result (context_of context.new ≡ resolved self.resolver (C.called client).cap (context_of context.old)) }
+        ensures own { IsTakenIf (may_resolve (context_of context.old) self.resolver (C.called client)) result }
         ensures left { OnErr result (context_of context.new ≡ context_of context.old) }
     {
         context.resolve(self.resolver, client.into_target().into_cap())
@@ -51,7 +53,7 @@ impl<C: TypedClient> TypedResolver<C> {
         self,
         context: &mut Context<M>,
         fault: MethodFault,
-    ) -> Result<(), AllocError>
+    ) -> Result<(), ReferenceError>
         ensures fails { OnOk result (Fails self.resolver fault (context_of context.old) (context_of context.new)) }
         ensures left { OnErr result (context_of context.new ≡ context_of context.old) }
     {
@@ -64,10 +66,11 @@ pub fn fail<M: Drop>(
     resolver: Resolver,
     context: &mut Context<M>,
     fault: MethodFault,
-) -> Result<(), AllocError>
+) -> Result<(), ReferenceError>
     ensures fails { OnOk result (Fails resolver fault (context_of context.old) (context_of context.new)) }
     ensures left { OnErr result (context_of context.new ≡ context_of context.old) }
 {
     let exception = fault.exception(context.alloc())?;
-    context.resolve(resolver, Cap::Broken(exception))
+    let broken = context.own(Cap::Broken(exception));
+    context.resolve(resolver, broken)
 }

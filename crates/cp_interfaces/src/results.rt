@@ -1,10 +1,10 @@
 //! The results of methods, to be written.
 
-ghost use Rattle.std.specs.Prelude.{List};
 ghost use Rattle.cp_tree.specs.Node.{Node};
-ghost use Rattle.cp_refs.specs.declared.cap.Cap.{Cap};
+ghost use Rattle.cp_interfaces.specs.Tables.{Named};
 
 use crate::cap_table_builder::CapTableBuilder;
+use cp_objects::ReferenceError;
 use cp_refs::Outcome;
 use cp_tree::Whole;
 use std::alloc::Global;
@@ -15,24 +15,27 @@ pub trait Results: Drop + Sized {
     ghost content: { Self → Node };
 
     /// The capabilities that they name, each by its place.
-    ghost names: { Self → List Cap };
+    ghost names: { Self → Named };
 
     ghost use Rattle.std.specs.Prelude.{◌≡◌};
-    ghost use Rattle.cp_refs.specs.declared.outcome.Outcome.TheVariants as outcomes;
+    ghost use Rattle.cp_interfaces.specs.ServiceCalls.{outcome_for};
 
     /// The struct that they are, and the table of what they name.
     fn into_parts(self, alloc: Global) -> (Whole, CapTableBuilder)
         ensures content { result.0 ≡ content self }
         ensures names { result.1 ≡ names self };
 
-    /// The outcome with them.
-    fn into_outcome(self, alloc: Global) -> Outcome
-        ensures { result ≡ outcomes.Results (content self) (names self) }
+    /// The outcome with them, of a call of this session.
+    fn into_outcome(self, alloc: Global, session: u64) -> Result<Outcome, ReferenceError>
+        ensures { result ≡ outcome_for session (content self) (names self) }
     {
         let (content, table) = self.into_parts(alloc);
-        Outcome::Results {
-            content,
-            caps: table.into_caps(),
+        match table.into_caps(session) {
+            Ok(caps) => Ok(Outcome::Results { content, caps }),
+            Err(error) => {
+                drop(content);
+                Err(error)
+            }
         }
     }
 }

@@ -63,7 +63,11 @@ impl<T: ServiceObject, C: Dispatch<T>> ServedObject for ObjectDispatch<T, C> {
         request: RequestView<'_>,
         context: &mut Context<T::Makes>,
     ) -> Result<Reply, AllocError> {
-        let call = MethodCall { ticket, request };
+        let call = MethodCall {
+            ticket,
+            session: context.session(),
+            request,
+        };
         C::dispatch(&mut self.object, &call, context)
     }
 
@@ -89,6 +93,14 @@ impl<T: ServiceObject, C: Dispatch<T>> ServedObject for ObjectDispatch<T, C> {
         context: &mut Context<T::Makes>,
     ) -> Result<(), AllocError> {
         Ok(self.object.on_response(call_id, outcome, context)?)
+    }
+
+    fn on_cancel(
+        &mut self,
+        ticket: u64,
+        context: &mut Context<T::Makes>,
+    ) -> Result<(), AllocError> {
+        Ok(self.object.on_cancel(ticket, context)?)
     }
 
     fn ended(&mut self, context: &mut Context<T::Makes>) -> Result<(), AllocError> {

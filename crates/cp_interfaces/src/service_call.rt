@@ -2,18 +2,19 @@
 
 ghost use Rattle.std.specs.Prelude.{◌≡◌, [], Some, true, false, IfOk, OnOk, OnErr};
 ghost use Rattle.cp_objects.specs.Context.{keeping, keeping_for, context_of};
+ghost use Rattle.cp_objects.specs.SessionCap.{IsTakenIf, are_of, is_of};
 ghost use Rattle.cp_interfaces.specs.Calls.{import_of};
 ghost use Rattle.cp_interfaces.specs.Replies.{given_up, with_import};
 ghost use Rattle.cp_interfaces.specs.ServiceCalls.{reply_for};
 
 use crate::call::MethodCall;
+use crate::cap_table::CapTable;
 use crate::fault::MethodFault;
 use crate::later::LaterAnswer;
 use crate::replies::{given_up, refuse, reply};
 use crate::results::Results;
 use crate::target::CallTarget;
-use cp_objects::Context;
-use cp_refs::{Cap, Caps};
+use cp_objects::{Context, ReferenceError, SessionCap};
 use cp_servants::Reply;
 use cp_vat_machine::Ids;
 use std::alloc::{AllocError, Global};
@@ -57,8 +58,9 @@ impl<'c, P, R> ServiceCall<'c, P, R> {
     }
 
     /// The table of the capabilities that its params name.
-    pub fn caps(&self) -> &Caps
-        ensures { result.now ≡ self.now.of.now.request.caps }
+    pub fn caps(&self) -> CapTable<'_>
+        ensures caps { result.caps.now ≡ self.now.of.now.request.caps }
+        ensures session { result.session ≡ self.now.of.now.session }
     {
         self.of.caps()
     }
@@ -69,32 +71,34 @@ impl<'c, P, R> ServiceCall<'c, P, R> {
         &mut self,
         target: &CallTarget,
         context: &mut Context<M>,
-    ) -> Result<(), AllocError>
-        ensures kept { OnOk result (self.new.keeps.items ≡ with_import (import_of target.now) self.old.keeps.items) }
-        ensures noted { OnOk result (context_of context.new ≡ keeping target.now (context_of context.old)) }
+    ) -> Result<(), ReferenceError>
+        ensures kept { OnOk result (self.new.keeps.items ≡ with_import (import_of target.now.cap) self.old.keeps.items) }
+        ensures noted { OnOk result (context_of context.new ≡ keeping target.now.cap (context_of context.old)) }
+        ensures own { IsTakenIf (is_of (context_of context.old).this.session target.now) result }
         ensures left { OnErr result (self.new.keeps.items ≡ self.old.keeps.items) }
         ensures parts { (self.new.params ≡ self.old.params) × (self.new.results ≡ self.old.results) }
         ensures call { (self.new.of.now ≡ self.old.of.now) × (self.new.is_later ≡ self.old.is_later) }
     {
         context.keep(target.cap())?;
-        self.keep_import(target)
+        Ok(self.keep_import(target)?)
     }
 
     /// Another object of the connection, as one that was made just now, keeps this capability of the params until it is dropped.
     pub fn keep_for<M: Drop>(
         &mut self,
-        object: &Cap,
+        object: &SessionCap,
         target: &CallTarget,
         context: &mut Context<M>,
-    ) -> Result<(), AllocError>
-        ensures kept { OnOk result (self.new.keeps.items ≡ with_import (import_of target.now) self.old.keeps.items) }
-        ensures noted { OnOk result (context_of context.new ≡ keeping_for object.now target.now (context_of context.old)) }
+    ) -> Result<(), ReferenceError>
+        ensures kept { OnOk result (self.new.keeps.items ≡ with_import (import_of target.now.cap) self.old.keeps.items) }
+        ensures noted { OnOk result (context_of context.new ≡ keeping_for object.now.cap target.now.cap (context_of context.old)) }
+        ensures own { IsTakenIf (are_of (context_of context.old).this.session object.now target.now) result }
         ensures left { OnErr result (self.new.keeps.items ≡ self.old.keeps.items) }
         ensures parts { (self.new.params ≡ self.old.params) × (self.new.results ≡ self.old.results) }
         ensures call { (self.new.of.now ≡ self.old.of.now) × (self.new.is_later ≡ self.old.is_later) }
     {
         context.keep_for(object, target.cap())?;
-        self.keep_import(target)
+        Ok(self.keep_import(target)?)
     }
 
     /// The call is answered later, by what this gives: the object, or another of its connection, stores it. What was written of its
@@ -109,7 +113,7 @@ impl<'c, P, R> ServiceCall<'c, P, R> {
         ensures call { (self.new.of.now ≡ self.old.of.now) × (self.new.keeps.items ≡ self.old.keeps.items) }
     {
         let keeps = Ids::new(Vec::from_slice(self.alloc, self.keeps.as_slice())?);
-        let gives_up = given_up(self.alloc, self.of.caps(), &keeps)?;
+        let gives_up = given_up(self.alloc, &self.of.request.caps, &keeps)?;
         let call = context.later(self.of.ticket, gives_up)?;
         self.is_later = true;
         Ok(LaterAnswer::new(call))
@@ -117,7 +121,7 @@ impl<'c, P, R> ServiceCall<'c, P, R> {
 
     /// An import isn't given up with the answer.
     fn keep_import(&mut self, target: &CallTarget) -> Result<(), AllocError>
-        ensures kept { OnOk result (self.new.keeps.items ≡ with_import (import_of target.now) self.old.keeps.items) }
+        ensures kept { OnOk result (self.new.keeps.items ≡ with_import (import_of target.now.cap) self.old.keeps.items) }
         ensures left { OnErr result (self.new.keeps.items ≡ self.old.keeps.items) }
         ensures parts { (self.new.params ≡ self.old.params) × (self.new.results ≡ self.old.results) }
         ensures call { (self.new.of.now ≡ self.old.of.now) × (self.new.is_later ≡ self.old.is_later) }
@@ -138,7 +142,7 @@ impl<P: Drop, R: Results> ServiceCall<'_, P, R> {
             params,
             results,
             alloc,
-            of: _,
+            of,
             keeps,
             is_later,
         } = self;
@@ -148,7 +152,10 @@ impl<P: Drop, R: Results> ServiceCall<'_, P, R> {
                 drop(results);
                 Ok(Reply::Later)
             }
-            Ok(()) => reply(alloc, call, results.into_outcome(alloc), &Ids::new(keeps)),
+            Ok(()) => match results.into_outcome(alloc, of.session) {
+                Ok(outcome) => reply(alloc, call, outcome, &Ids::new(keeps)),
+                Err(fault) => refuse(alloc, call, MethodFault::from(fault)),
+            },
             Err(fault) => {
                 drop(results);
                 refuse(alloc, call, fault)

@@ -1,5 +1,5 @@
 -- What an object may do beside what it answers.
-use Rattle.std.specs.Prelude.{ℕ, ◌+◌, ◌-◌, ◌^◌, min, List, [], ◌∷◌, ◌++◌, length}
+use Rattle.std.specs.Prelude.{ℕ, ◌+◌, ◌-◌, ◌^◌, ◌==◌, ◌&&◌, Bool, min, List, [], ◌∷◌, ◌++◌, length}
 use Rattle.cp_refs.specs.declared.cap.Cap.{Cap}
 use Rattle.cp_refs.specs.declared.cap.Cap.TheVariants as caps
 use Rattle.cp_objects.specs.declared.context.ObjectEffect.{ObjectEffect}
@@ -7,7 +7,12 @@ use Rattle.cp_objects.specs.declared.context.ObjectEffect.TheVariants as effects
 use Rattle.cp_objects.specs.declared.context.Context.{Context}
 use Rattle.cp_objects.specs.declared.context.NewCap.{NewCap}
 use Rattle.cp_objects.specs.declared.context.NewCap.TheVariants as new_caps
+use Rattle.cp_refs.specs.declared.outcome.Outcome.{Outcome}
+use Rattle.cp_objects.specs.declared.later.LaterCall.{LaterCall}
+use Rattle.cp_objects.specs.declared.resolver.Resolver.{Resolver}
+use Rattle.cp_objects.specs.declared.session_cap.SessionCap.{SessionCap}
 use Rattle.cp_objects.specs.declared.waker.Waker.{Waker}
+use Rattle.cp_objects.specs.SessionCap.{is_of}
 
 -- Which object of which session does something, and when; the number that the first of what it makes gets; the objects and promises that it made, in order,
 -- and what else it did, in order.
@@ -25,6 +30,14 @@ module _ {M : Type 0} where
   -- the number of the next object or promise that it makes
   abbrev pub next_number : ContextState M → ℕ
   next_number place = place.next + length place.made
+
+  -- an object of its session, as a reference
+  abbrev pub own_object : ℕ → ContextState M → SessionCap
+  own_object number place = record { session = place.this.session; cap = caps.Object number }
+
+  -- It may resolve this promise to that: both are of its session.
+  abbrev pub may_resolve : ContextState M → Resolver → SessionCap → Bool
+  may_resolve place resolver value = resolver.session == place.this.session && is_of place.this.session value
 
   -- it made one object more
   abbrev pub with_made : ContextState M → M → ContextState M
@@ -58,6 +71,10 @@ module _ {M : Type 0} where
   giving_up (caps.Object k) place = with_effect place (effects.GiveUp k)
   giving_up (caps.Import i) place = with_effect place (effects.GiveUpImport i)
   giving_up other place = place
+
+  -- a later call comes to this, with the imports that no object keeps
+  abbrev pub answering : LaterCall → Outcome → ContextState M → ContextState M
+  answering call outcome place = with_effect place (effects.Settle (record { ticket = call.ticket; outcome = outcome; gives_up = call.gives_up }))
 
 -- the time this much later, if there is one
 abbrev pub time_after : ℕ → ℕ → ℕ

@@ -23,6 +23,8 @@ module _ {A B M : Type 0} (a : ServedObjectKind A M) (b : ServedObjectKind B M) 
     next_calls = λ old before next_call after new. EachChanges (λ x y. a.next_calls x before next_call after y) (λ x y. b.next_calls x before next_call after y) old new;
     on_response = λ old call_id outcome before after new.
         EachChanges (λ x y. a.on_response x call_id outcome before after y) (λ x y. b.on_response x call_id outcome before after y) old new;
+    on_cancel = λ old ticket before after new.
+        EachChanges (λ x y. a.on_cancel x ticket before after y) (λ x y. b.on_cancel x ticket before after y) old new;
     ends = λ old before after new. EachChanges (λ x y. Ends a x before after y) (λ x y. Ends b x before after y) old new;
     says_more = says;
   }

@@ -5,6 +5,7 @@ use Rattle.std.specs.FinSet as set
 use Rattle.cp_objects.specs.declared.objects.Objects.{Objects}
 use Rattle.cp_objects.specs.declared.waker.Waker.{Waker}
 use Rattle.cp_objects.specs.Objects.{ObjectsState, objects_of, Calls, Polls, NextCalls, Responds, Ends, EndsAll, HandsSettled, changing, idle_of, in_session, loose_of, promised_so, waking, woken}
+use Rattle.cp_objects.specs.Canceling.{Cancels}
 use Rattle.cp_objects.specs.ObjectTable.{ObjectTableKind}
 use Rattle.cp_objects.specs.ServedObject.{ServedObjectKind}
 use Rattle.cp_objects.specs.Members.{without_next_calls}
@@ -29,6 +30,7 @@ grown kind = record {
   next_calls = λ number next_call old new. NextCalls kind number next_call (objects_of old) (objects_of new);
   drops_next_calls = λ number old new. objects_of new ≡ changing number without_next_calls (objects_of old);
   tells = λ number call_id outcome old new. Responds kind number call_id outcome (objects_of old) (objects_of new);
+  cancels = λ ticket told old new. Cancels kind ticket told (objects_of old) (objects_of new);
   is_next = λ from next f. IsFirst from next (objects_of f).awake;
   says_more = λ more f. IsTrue more ↔ IsAwake (objects_of f).awake;
   guests = λ f. min (len (objects_of f).members + len (objects_of f).promised.names) (2 ^ 64 - 1);

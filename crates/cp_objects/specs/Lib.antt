@@ -1,3 +1,4 @@
+pub mod SessionCap
 pub mod Context
 pub mod ServedObject
 pub mod Either
@@ -6,6 +7,7 @@ pub mod Members
 pub mod Counts
 pub mod Promises
 pub mod Objects
+pub mod Canceling
 pub mod ObjectTable
 pub mod Listed
 pub mod Grown

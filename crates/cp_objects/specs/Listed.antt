@@ -1,7 +1,7 @@
 -- A list of objects that is fixed.
 use Rattle.std.specs.Prelude.{◌≡◌, ℕ, ◌<◌, ◌≤◌, true, List, [], Option, Some, None, length}
 use Rattle.std.specs.Global.{Vec}
-use Rattle.cp_servants.specs.Servant.{Kind, CallsAt, PollsAt, NextCallsAt, OnResponseAt, SomeMaySayMore}
+use Rattle.cp_servants.specs.Servant.{Kind, CallsAt, PollsAt, NextCallsAt, OnResponseAt, AnySaysMore}
 use Rattle.cp_objects.specs.ObjectTable.{ObjectTableKind}
 
 -- each is polled
@@ -9,8 +9,8 @@ abbrev pub IsListed : {A : Type 0} → ℕ → Option ℕ → List A → Type 0
 IsListed from (Some number) objects = (number ≡ from) × (from < length objects)
 IsListed from None objects = length objects ≤ from
 
--- What is done to the list is done to the object at a place of it. None goes, none is told its end, none is woken, none makes promises, and none gives imports
--- up beside what it answers. Any may know each promise of the vat's.
+-- What is done to the list is done to the object at a place of it. None goes, none is told its end or that a call was given up, none is woken, none makes
+-- promises, and none gives imports up beside what it answers. Any may know each promise of the vat's.
 abbrev pub listed : {A : Type 0} → Kind A → ObjectTableKind (Vec A)
 listed kind = record {
   holds = λ number v. number < length v.items;
@@ -19,8 +19,9 @@ listed kind = record {
   next_calls = λ number next_call old new. NextCallsAt kind number next_call old.items new.items;
   drops_next_calls = λ number old new. new ≡ old;
   tells = λ number call_id outcome old new. OnResponseAt kind number call_id outcome old.items new.items;
+  cancels = λ ticket told old new. (told ≡ None) × (new ≡ old);
   is_next = λ from next v. IsListed from next v.items;
-  says_more = λ more v. more ≡ true → SomeMaySayMore kind v.items;
+  says_more = λ more v. AnySaysMore kind more v.items;
   guests = λ v. 0;
   idle = λ v. [];
   ends = λ number left old new. new ≡ old;

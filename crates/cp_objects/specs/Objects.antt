@@ -257,8 +257,8 @@ module _ {A : Type 0} where
   abbrev pub AreKept : ObjectsState A → Numbers → Type 0
   AreKept state kept = (k : ℕ) → set.contains kept k ≡ is_kept state k
 
-  -- An object goes unless the connection refers to it: the program didn't add it, it waits for no outcome, owes no answer, has no promise to resolve, and
-  -- none keeps it.
+  -- An object goes where the program didn't add it, it waits for no outcome, owes no answer, has no promise to resolve, and no object keeps it. It stays while
+  -- the connection refers to it.
   abbrev pub is_idle : ObjectsState A → ℕ → ObjectEntry A → Bool
   is_idle state k member = not (nat_lt k state.stays) && member.asked == 0 && not (is_held state k)
 
@@ -372,12 +372,12 @@ module _ {A : Type 0} (kind : ServedObjectKind A A) where
     pub next_calls : kind.next_calls before.object (entered number old) said place object
     pub is : new ≡ settled number (asking number said (leaving place (placing number (record before { object = object }) old)))
 
-  -- The next call of the object of this number is the first of those that it is yet to make. Where there is none, it is asked before.
+  -- The next call of an object is the first of those that it sent. Where it sent none, it is the one that the object is asked for.
   pub data NextCalls (number : ℕ) (next_call : Option OutgoingCall) (old new : ObjectsState A) : Type 0 where
     has_one : next_calls_of number old.members ≢ [] → HandsNextCall number next_call old new → NextCalls number next_call old new
     has_none : (mid : ObjectsState A) → next_calls_of number old.members ≡ [] → AsksNextCall number old mid → HandsNextCall number next_call mid new → NextCalls number next_call old new
 
-  -- It is told what a call of its own came to, and given the imports of that. It is to be polled, and what it did beside is done.
+  -- An object is told what a call of its own came to, and given the imports of that. It is to be polled, and what it did beside is done.
   pub record Responds (number call_id : ℕ) (outcome : Outcome) (old new : ObjectsState A) : Type 0 where
     pub before : ObjectEntry A
     pub object : A
@@ -398,7 +398,7 @@ module _ {A : Type 0} (kind : ServedObjectKind A A) where
     pub ends : served_object.Ends kind before.object (entered number old) place object
     pub is : new ≡ settled_last number (leaving place (placing number (record before { object = object }) old))
 
-  -- It is told its end, and then it is gone. It leaves the imports that it held, and the calls that it is yet to make.
+  -- An object is told its end, and then it is gone. It leaves the imports that it held, and the calls that it is yet to make.
   abbrev pub Ends : ℕ → Departed → ObjectsState A → ObjectsState A → Type 0
   Ends number left old new = (told : ObjectsState A) × IsToldEnd number old told × (left ≡ departed_of number told) × (new ≡ losing number told)
 

@@ -7,13 +7,14 @@ use Rattle.cp_servants.specs.declared.servant.Reply.{Reply}
 use Rattle.cp_servants.specs.declared.servant.Settled.{Settled}
 use Rattle.cp_objects.specs.Context.{ContextState}
 
--- What objects of one kind do, as a Kind says it of objects that make none: what each of these does to an object, what it gives, and what the object did beside
--- it, by the place before and after. And what it says of whether a further poll may give more, though nothing more comes.
+-- What objects of one kind do when they are called, polled, asked for a call, or told an outcome or their end: to themselves, and by their context before and
+-- after. And what they say of whether a further poll may give more, though nothing more comes.
 pub record ServedObjectKind (A M : Type 0) : Type 1 where
   pub takes : A → ℕ → Request → ContextState M → Reply → ContextState M → A → Type 0
   pub polls : A → ContextState M → Option Settled → ContextState M → A → Type 0
   pub next_calls : A → ContextState M → Option OutgoingCall → ContextState M → A → Type 0
   pub on_response : A → ℕ → Outcome → ContextState M → ContextState M → A → Type 0
+  pub on_cancel : A → ℕ → ContextState M → ContextState M → A → Type 0
   pub ends : A → ContextState M → ContextState M → A → Type 0
   pub says_more : Bool → A → Type 0
 
@@ -24,6 +25,7 @@ any_served_object = record {
   polls = λ old before settled after new. Unit {0};
   next_calls = λ old before next_call after new. Unit {0};
   on_response = λ old call_id outcome before after new. Unit {0};
+  on_cancel = λ old ticket before after new. Unit {0};
   ends = λ old before after new. Unit {0};
   says_more = λ more object. Unit {0};
 }

@@ -1,15 +1,18 @@
 //! What an object may do beside what it answers.
 
-ghost use Rattle.std.specs.Prelude.{◌≡◌, ◌+◌, [], IfOk, IfSome, OnOk, OnErr};
-ghost use Rattle.cp_refs.specs.declared.cap.Cap.TheVariants as caps;
-ghost use Rattle.cp_objects.specs.Context.{begun, giving_up, keeping, keeping_for, next_number, context_of, time_after, with_effect, with_made, with_promise, without_those_made};
+ghost use Rattle.std.specs.Prelude.{◌≡◌, ◌+◌, ◌==◌, [], IfOk, IfSome, OnOk, OnErr};
+ghost use Rattle.cp_objects.specs.Context.{answering, begun, giving_up, keeping, keeping_for, may_resolve, next_number, own_object, context_of, time_after, with_effect, with_made, with_promise, without_those_made};
+ghost use Rattle.cp_objects.specs.SessionCap.{IsTakenIf, are_of, is_of};
 ghost use Rattle.cp_objects.specs.declared.context.ObjectEffect.{ObjectEffect};
 ghost use Rattle.cp_objects.specs.declared.context.ObjectEffect.TheVariants as effects;
 
 use crate::later::{DroppedCall, DroppedCalls, LaterCall};
+use crate::reference_error::ReferenceError;
 use crate::resolver::Resolver;
+use crate::session_call::SessionCall;
+use crate::session_cap::SessionCap;
 use crate::waker::Waker;
-use cp_refs::Cap;
+use cp_refs::{Cap, Outcome};
 use cp_servants::{OutgoingCall, Settled};
 use cp_vat_machine::Ids;
 use std::alloc::{AllocError, Global};
@@ -45,8 +48,8 @@ pub(crate) enum ObjectEffect {
     Settle(Settled),
 }
 
-/// Where an object is while it is called, polled, asked or told something: what it may do there beside what it answers. `M` is the one type of
-/// all objects of the connection.
+/// Where an object is while it is called, polled, or told a response or its end: what it may do there beside what it answers. `M` is the one
+/// type of all objects of the connection.
 #[derive(Drop)]
 pub struct Context<M> {
     alloc: Global,
@@ -71,8 +74,8 @@ impl<M: Drop> Context<M> {
     /// # Errors
     ///
     /// Memory ran out, or 2^32 objects were made.
-    pub fn make(&mut self, object: M) -> Result<Cap, AllocError>
-        ensures cap { IfOk result (λ cap. cap ≡ caps.Object (next_number (context_of self.old))) }
+    pub fn make(&mut self, object: M) -> Result<SessionCap, AllocError>
+        ensures cap { IfOk result (λ cap. cap ≡ own_object (next_number (context_of self.old)) (context_of self.old)) }
         ensures made { OnOk result (context_of self.new ≡ with_made (context_of self.old) object) }
         ensures err { OnErr result (context_of self.new ≡ context_of self.old) }
     {
@@ -81,7 +84,7 @@ impl<M: Drop> Context<M> {
             return Err(AllocError);
         };
         self.made.push(NewCap::Object(object))?;
-        Ok(Cap::Object(number))
+        Ok(self.own(Cap::Object(number)))
     }
 
     /// Makes a promise, whose capability (`Resolver::cap`) may be named at once: the calls on it wait, in order, until it is resolved.
@@ -92,7 +95,7 @@ impl<M: Drop> Context<M> {
     /// Memory ran out, or 2^32 objects and promises were made. Where the vat has no room for a promise more, calls on it fail with
     /// `no such object`.
     pub fn promise(&mut self) -> Result<Resolver, AllocError>
-        ensures number { IfOk result (λ resolver. resolver.number ≡ next_number (context_of self.old)) }
+        ensures number { IfOk result (λ resolver. resolver ≡ record { session = (context_of self.old).this.session; number = next_number (context_of self.old) }) }
         ensures made { OnOk result (context_of self.new ≡ with_promise (context_of self.old)) }
         ensures err { OnErr result (context_of self.new ≡ context_of self.old) }
     {
@@ -100,44 +103,81 @@ impl<M: Drop> Context<M> {
             return Err(AllocError);
         };
         self.made.push(NewCap::Promise)?;
-        Ok(Resolver { number })
+        Ok(Resolver {
+            session: self.this.session,
+            number,
+        })
     }
 
     /// Resolves a promise: it comes to an object of this end, to what the object was given, or, where that is `Broken`, to an
     /// exception. The calls on it that wait go there, in order, and the peer is told. Where the vat refuses the value, as one that leads
     /// back to the promise, it comes to the exception `bad outcome`.
-    pub fn resolve(&mut self, resolver: Resolver, value: Cap) -> Result<(), AllocError>
-        ensures noted { OnOk result (context_of self.new ≡ with_effect (context_of self.old) (effects.Resolve resolver.number value)) }
+    ///
+    /// # Errors
+    ///
+    /// The promise is of another session, or the value is; then the promise stays open. Or memory ran out.
+    pub fn resolve(&mut self, resolver: Resolver, value: SessionCap) -> Result<(), ReferenceError>
+        ensures noted { OnOk result (context_of self.new ≡ with_effect (context_of self.old) (effects.Resolve resolver.number value.cap)) }
         ensures err { OnErr result (context_of self.new ≡ context_of self.old) }
+        ensures own { IsTakenIf (may_resolve (context_of self.old) resolver value) result }
     {
-        self.note(ObjectEffect::Resolve(resolver.number, value))
+        let session = self.this.session;
+        if resolver.session != session {
+            drop(value);
+            return Err(ReferenceError::OtherSession);
+        }
+        let cap = value.into_cap(session)?;
+        Ok(self.note(ObjectEffect::Resolve(resolver.number, cap))?)
     }
 
     /// Makes a call, as an `.._call` of a client gives it, once what the object answers went out. Those that it sends so are made in
     /// order, each once, before it is asked for more (`ServedObject::next_call`). It is told what each came to, by the call's number
     /// (`ServedObject::on_response`), and stays until then. Once the connection ended, and where its objects may not call, none is made.
-    pub fn send(&mut self, next_call: OutgoingCall) -> Result<(), AllocError>
-        ensures noted { OnOk result (context_of self.new ≡ with_effect (context_of self.old) (effects.Call next_call)) }
+    ///
+    /// # Errors
+    ///
+    /// It is a call of another session's capability, or memory ran out.
+    pub fn send(&mut self, next_call: SessionCall) -> Result<(), ReferenceError>
+        ensures noted { OnOk result (context_of self.new ≡ with_effect (context_of self.old) (effects.Call next_call.call)) }
         ensures err { OnErr result (context_of self.new ≡ context_of self.old) }
+        ensures own { IsTakenIf (next_call.session == (context_of self.old).this.session) result }
     {
-        self.note(ObjectEffect::Call(next_call))
+        let call = next_call.into_call(self.this.session)?;
+        Ok(self.note(ObjectEffect::Call(call))?)
     }
 
     /// Gives a value that stands for a call of the connection which is answered later: the one of this ticket, with whose answer these
-    /// imports of its params are given up. Store it, in any object of the connection, and answer it (`LaterCall::into_settled`) while any of
-    /// them is called, polled, asked or told something. Where it is dropped before, the call fails with
-    /// `the call was dropped without an answer`.
+    /// imports of its params are given up. Store it, in any object of the connection, and answer it (`answer`) while any of them is called,
+    /// polled, or told a response or its end. Where it is dropped before, the call fails with `the call was dropped without an answer`.
     pub fn later(&mut self, ticket: u64, gives_up: Ids) -> Result<LaterCall, AllocError>
-        ensures call { IfOk result (λ call. (call.ticket ≡ ticket) × (call.gives_up ≡ gives_up)) }
+        ensures call { IfOk result (λ call. (call.session ≡ (context_of self.old).this.session) × (call.ticket ≡ ticket) × (call.gives_up ≡ gives_up)) }
         ensures left { context_of self.new ≡ context_of self.old }
     {
         match self.one_more_later() {
-            Ok(dropped) => Ok(LaterCall::new(ticket, gives_up, dropped)),
+            Ok(dropped) => Ok(LaterCall::new(self.this.session, ticket, gives_up, dropped)),
             Err(error) => {
                 drop(gives_up);
                 Err(error)
             }
         }
+    }
+
+    /// Answers a later call, as `settle` does what it comes to.
+    ///
+    /// # Errors
+    ///
+    /// It is one of another session, which fails there as one that was dropped. Or memory ran out.
+    pub fn answer(&mut self, call: LaterCall, outcome: Outcome) -> Result<(), ReferenceError>
+        ensures noted { OnOk result (context_of self.new ≡ answering call outcome (context_of self.old)) }
+        ensures err { OnErr result (context_of self.new ≡ context_of self.old) }
+        ensures own { IsTakenIf (call.session == (context_of self.old).this.session) result }
+    {
+        if call.session() != self.this.session {
+            drop(call);
+            drop(outcome);
+            return Err(ReferenceError::OtherSession);
+        }
+        Ok(self.settle(call.into_settled(outcome))?)
     }
 
     /// Answers a call that an object of the connection answers later, this one or another: once what is done now is over, and each call
@@ -150,10 +190,34 @@ impl<M: Drop> Context<M> {
     }
 
     /// The object itself.
-    pub fn this_cap(&self) -> Cap
-        ensures { result ≡ caps.Object (context_of self.now).this.object }
+    pub fn this_cap(&self) -> SessionCap
+        ensures { result ≡ own_object (context_of self.now).this.object (context_of self.now) }
     {
-        Cap::Object(self.this.object)
+        self.own(Cap::Object(self.this.object))
+    }
+
+    /// A capability that a call or an outcome named to an object of this session.
+    pub fn own(&self, cap: Cap) -> SessionCap
+        ensures { result ≡ record { session = (context_of self.now).this.session; cap = cap } }
+    {
+        SessionCap::new(self.this.session, cap)
+    }
+
+    /// A call of such a capability.
+    pub fn own_call(&self, call: OutgoingCall) -> SessionCall
+        ensures { result ≡ record { session = (context_of self.now).this.session; call = call } }
+    {
+        SessionCall {
+            session: self.this.session,
+            call,
+        }
+    }
+
+    /// The number of the session.
+    pub fn session(&self) -> u64
+        ensures { result ≡ (context_of self.now).this.session }
+    {
+        self.this.session
     }
 
     /// What wakes the object: whoever has it, of any session of the host, may wake it.
@@ -195,52 +259,57 @@ impl<M: Drop> Context<M> {
 
     /// Keeps an object or a promise of this end that the object stores, though nothing else refers to it: once more for each call of this.
     /// Any other capability isn't kept by this.
-    pub fn keep(&mut self, cap: &Cap) -> Result<(), AllocError>
-        ensures noted { OnOk result (context_of self.new ≡ keeping cap.now (context_of self.old)) }
+    ///
+    /// # Errors
+    ///
+    /// It is of another session, or memory ran out.
+    pub fn keep(&mut self, cap: &SessionCap) -> Result<(), ReferenceError>
+        ensures noted { OnOk result (context_of self.new ≡ keeping cap.now.cap (context_of self.old)) }
         ensures err { OnErr result (context_of self.new ≡ context_of self.old) }
+        ensures own { IsTakenIf (is_of (context_of self.old).this.session cap.now) result }
     {
-        match cap {
-            Cap::Object(number) => self.note(ObjectEffect::Keep {
-                keeper: self.this.object,
-                kept: *number,
-            }),
-            _ => Ok(()),
+        if !cap.is_of(self.this.session) {
+            return Err(ReferenceError::OtherSession);
         }
+        Ok(self.keep_own(cap.cap())?)
     }
 
     /// Has another object of the connection, as one that was made just now, keep what it stores until it is dropped: an object or a promise
     /// once more; an import in place of this object, which kept it past its answer. So an import is given up as that object is dropped.
     /// Nothing is done where that object isn't there, or this one doesn't hold the import.
-    pub fn keep_for(&mut self, object: &Cap, kept: &Cap) -> Result<(), AllocError>
-        ensures noted { OnOk result (context_of self.new ≡ keeping_for object.now kept.now (context_of self.old)) }
+    ///
+    /// # Errors
+    ///
+    /// One of them is of another session, or memory ran out.
+    pub fn keep_for(&mut self, object: &SessionCap, kept: &SessionCap) -> Result<(), ReferenceError>
+        ensures noted { OnOk result (context_of self.new ≡ keeping_for object.now.cap kept.now.cap (context_of self.old)) }
         ensures err { OnErr result (context_of self.new ≡ context_of self.old) }
+        ensures own { IsTakenIf (are_of (context_of self.old).this.session object.now kept.now) result }
     {
-        match (object, kept) {
-            (Cap::Object(keeper), Cap::Object(kept)) => self.note(ObjectEffect::Keep {
-                keeper: *keeper,
-                kept: *kept,
-            }),
-            (Cap::Object(keeper), Cap::Import(import)) => self.note(ObjectEffect::HandOver {
-                keeper: *keeper,
-                import: *import,
-            }),
-            _ => Ok(()),
+        let session = self.this.session;
+        if !object.is_of(session) || !kept.is_of(session) {
+            return Err(ReferenceError::OtherSession);
         }
+        Ok(self.keep_own_for(object.cap(), kept.cap())?)
     }
 
     /// Keeps an object or a promise once less; or gives up an import that the object kept past its answer, as that of a client's target
     /// (`CallTarget::cap`). An import is given up once for each call or outcome that named it, by this or with an answer
     /// (`Reply::Now`, `Settled`): then it is released, once the vat doesn't use it either. Nothing is given up that the object doesn't keep or
     /// hold.
-    pub fn give_up(&mut self, cap: &Cap) -> Result<(), AllocError>
-        ensures noted { OnOk result (context_of self.new ≡ giving_up cap.now (context_of self.old)) }
+    ///
+    /// # Errors
+    ///
+    /// It is of another session, or memory ran out.
+    pub fn give_up(&mut self, cap: &SessionCap) -> Result<(), ReferenceError>
+        ensures noted { OnOk result (context_of self.new ≡ giving_up cap.now.cap (context_of self.old)) }
         ensures err { OnErr result (context_of self.new ≡ context_of self.old) }
+        ensures own { IsTakenIf (is_of (context_of self.old).this.session cap.now) result }
     {
-        match cap {
-            Cap::Object(number) => self.note(ObjectEffect::GiveUp(*number)),
-            Cap::Import(import) => self.note(ObjectEffect::GiveUpImport(*import)),
-            _ => Ok(()),
+        if !cap.is_of(self.this.session) {
+            return Err(ReferenceError::OtherSession);
         }
+        Ok(self.give_up_own(cap.cap())?)
     }
 
     /// That of a session in which no object was made.
@@ -329,6 +398,50 @@ impl<M: Drop> Context<M> {
         match &self.dropped {
             Some(dropped) => dropped.next(),
             None => None,
+        }
+    }
+
+    /// Keeps an object or a promise of this session.
+    fn keep_own(&mut self, cap: &Cap) -> Result<(), AllocError>
+        ensures noted { OnOk result (context_of self.new ≡ keeping cap.now (context_of self.old)) }
+        ensures err { OnErr result (context_of self.new ≡ context_of self.old) }
+    {
+        match cap {
+            Cap::Object(number) => self.note(ObjectEffect::Keep {
+                keeper: self.this.object,
+                kept: *number,
+            }),
+            _ => Ok(()),
+        }
+    }
+
+    /// Has another object of this session keep what is of it.
+    fn keep_own_for(&mut self, object: &Cap, kept: &Cap) -> Result<(), AllocError>
+        ensures noted { OnOk result (context_of self.new ≡ keeping_for object.now kept.now (context_of self.old)) }
+        ensures err { OnErr result (context_of self.new ≡ context_of self.old) }
+    {
+        match (object, kept) {
+            (Cap::Object(keeper), Cap::Object(kept)) => self.note(ObjectEffect::Keep {
+                keeper: *keeper,
+                kept: *kept,
+            }),
+            (Cap::Object(keeper), Cap::Import(import)) => self.note(ObjectEffect::HandOver {
+                keeper: *keeper,
+                import: *import,
+            }),
+            _ => Ok(()),
+        }
+    }
+
+    /// Keeps once less what is of this session, or gives it up.
+    fn give_up_own(&mut self, cap: &Cap) -> Result<(), AllocError>
+        ensures noted { OnOk result (context_of self.new ≡ giving_up cap.now (context_of self.old)) }
+        ensures err { OnErr result (context_of self.new ≡ context_of self.old) }
+    {
+        match cap {
+            Cap::Object(number) => self.note(ObjectEffect::GiveUp(*number)),
+            Cap::Import(import) => self.note(ObjectEffect::GiveUpImport(*import)),
+            _ => Ok(()),
         }
     }
 

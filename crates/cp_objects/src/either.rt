@@ -68,6 +68,17 @@ impl<A: ServedObject, B: ServedObject<Makes = A::Makes>> ServedObject for Either
         }
     }
 
+    fn on_cancel(
+        &mut self,
+        ticket: u64,
+        context: &mut Context<A::Makes>,
+    ) -> Result<(), AllocError> {
+        match self {
+            Either::Left(object) => object.on_cancel(ticket, context),
+            Either::Right(object) => object.on_cancel(ticket, context),
+        }
+    }
+
     fn ended(&mut self, context: &mut Context<A::Makes>) -> Result<(), AllocError> {
         match self {
             Either::Left(object) => object.ended(context),

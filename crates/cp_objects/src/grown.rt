@@ -53,6 +53,10 @@ impl<O: ServedObject<Makes = O>> ObjectTable for Objects<O> {
         self.on_response(number, call_id, outcome)
     }
 
+    fn on_cancel_at(&mut self, ticket: u64) -> Result<Option<u32>, AllocError> {
+        self.cancel(ticket)
+    }
+
     fn next_from(&self, number: u32) -> Option<u32> {
         self.awake.first_from(number)
     }

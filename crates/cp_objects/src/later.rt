@@ -15,6 +15,8 @@ use std::rc::Rc;
 ///
 /// A contract can't see that it is dropped. It says what an answer is, and that each call has at most one.
 pub struct LaterCall {
+    /// The number of the session that it came by.
+    session: u64,
     /// No other call of the connection has it.
     ticket: u64,
     /// The imports of the params that no object keeps.
@@ -26,6 +28,7 @@ pub struct LaterCall {
 impl Drop for LaterCall {
     fn drop(self) {
         let LaterCall {
+            session: _,
             ticket,
             gives_up,
             dropped,
@@ -42,11 +45,19 @@ impl LaterCall {
         self.ticket
     }
 
+    /// The number of its session.
+    pub fn session(&self) -> u64
+        ensures { result ≡ self.now.session }
+    {
+        self.session
+    }
+
     /// It comes to this: give it to `Context::settle`, or have a poll of the object that was called give it.
     pub fn into_settled(self, outcome: Outcome) -> Settled
         ensures { result ≡ record { ticket = self.ticket; outcome = outcome; gives_up = self.gives_up } }
     {
         let LaterCall {
+            session: _,
             ticket,
             gives_up,
             dropped,
@@ -59,11 +70,12 @@ impl LaterCall {
         }
     }
 
-    /// The call of this ticket, which is added to those that were dropped if it is.
-    pub(crate) fn new(ticket: u64, gives_up: Ids, dropped: DroppedCalls) -> LaterCall
-        ensures { (result.ticket ≡ ticket) × (result.gives_up ≡ gives_up) }
+    /// The call of this session and this ticket, which is added to those that were dropped if it is.
+    pub(crate) fn new(session: u64, ticket: u64, gives_up: Ids, dropped: DroppedCalls) -> LaterCall
+        ensures { (result.session ≡ session) × (result.ticket ≡ ticket) × (result.gives_up ≡ gives_up) }
     {
         LaterCall {
+            session,
             ticket,
             gives_up,
             dropped,

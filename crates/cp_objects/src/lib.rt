@@ -3,6 +3,7 @@
 
 mod alarms;
 mod call_queue;
+mod canceling;
 mod context;
 mod counts;
 mod departed;
@@ -21,9 +22,12 @@ mod param_caps;
 mod pending_answers;
 mod promise_request;
 mod promises;
+mod reference_error;
 mod resolver;
 mod served;
 mod served_object;
+mod session_call;
+mod session_cap;
 mod waker;
 
 pub use call_queue::CallQueue;
@@ -34,7 +38,10 @@ pub use later::LaterCall;
 pub use object_table::ObjectTable;
 pub use objects::Objects;
 pub use promise_request::PromiseRequest;
+pub use reference_error::ReferenceError;
 pub use resolver::Resolver;
 pub use served::ServantObject;
 pub use served_object::ServedObject;
+pub use session_call::SessionCall;
+pub use session_cap::SessionCap;
 pub use waker::Waker;

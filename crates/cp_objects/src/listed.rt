@@ -51,6 +51,10 @@ impl<O: Servant> ObjectTable for Vec<O> {
         on_response_at(self.as_mut_slice(), number as usize, call_id, outcome)
     }
 
+    fn on_cancel_at(&mut self, _ticket: u64) -> Result<Option<u32>, AllocError> {
+        Ok(None)
+    }
+
     fn next_from(&self, number: u32) -> Option<u32> {
         if self.has(number) { Some(number) } else { None }
     }

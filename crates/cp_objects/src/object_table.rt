@@ -56,6 +56,10 @@ pub trait ObjectTable: Drop {
         requires { table.holds number self.old }
         ensures { OnOk result (table.tells number call_id outcome self.old self.new) };
 
+    /// Tells the object that is to answer this call later that it was given up, if one is. Says which.
+    fn on_cancel_at(&mut self, ticket: u64) -> Result<Option<u32>, AllocError>
+        ensures { IfOk result (λ told. table.cancels ticket told self.old self.new) };
+
     /// The first object from this number on that is to be polled in a round.
     fn next_from(&self, number: u32) -> Option<u32>
         ensures { table.is_next number result self.now };

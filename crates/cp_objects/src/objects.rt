@@ -2,13 +2,12 @@
 
 ghost use Rattle.std.specs.Prelude.{◌≡◌, Some, None, true, false, IsSome, IfOk, OnOk};
 ghost use Rattle.std.specs.FinMap as maps;
-ghost use Rattle.cp_refs.specs.declared.cap.Cap.TheVariants as caps;
 ghost use Rattle.cp_vat_machine.specs.InUse.{caps_of};
 ghost use Rattle.cp_servants.specs.declared.servant.Settled.{Settled};
 ghost use Rattle.cp_servants.specs.Outcomes.{named_imports};
 ghost use Rattle.cp_servants.specs.Requests.{request_of};
 ghost use Rattle.cp_objects.specs.Objects.{NextCalls, Calls, Ends, EndsAll, HandsSettled, AsksNextCall, IsToldEnd, Polls, Responds, adding, adopting, alone, answering, asking, awoken, changing, departed_of, failing, first_number, followed, followed_last, following, following_last, giving_held, giving_up_import, handing_over, held_by, in_session, joining, objects_of, lending, losing, noting, own_of, placing, replying_held, resting, settled, settled_last, settling, waking, with_those_made};
-ghost use Rattle.cp_objects.specs.Context.{next_number};
+ghost use Rattle.cp_objects.specs.Context.{next_number, own_object};
 ghost use Rattle.cp_objects.specs.Counts.{those_in};
 ghost use Rattle.cp_objects.specs.Members.{earlier, newborn, without_next_calls};
 ghost use Rattle.cp_objects.specs.declared.context.ObjectEffect.TheVariants as effects;
@@ -27,8 +26,9 @@ use crate::param_caps::ParamCaps;
 use crate::pending_answers::PendingAnswers;
 use crate::promises::Promises;
 use crate::served_object::ServedObject;
+use crate::session_cap::SessionCap;
 use crate::waker::Waker;
-use cp_refs::{Cap, Caps, Outcome};
+use cp_refs::{Caps, Outcome};
 use cp_servants::{OutgoingCall, Reply, RequestView, Settled, dropped_call, named_imports};
 use cp_tables::Entries;
 use cp_vat_machine::Ids;
@@ -107,8 +107,8 @@ impl<O: ServedObject<Makes = O>> Objects<O> {
     /// # Errors
     ///
     /// Memory ran out, or there were 2^32 objects.
-    pub fn add(&mut self, object: O) -> Result<Cap, AllocError>
-        ensures cap { IfOk result (λ cap. cap ≡ caps.Object (next_number (objects_of self.old).context)) }
+    pub fn add(&mut self, object: O) -> Result<SessionCap, AllocError>
+        ensures cap { IfOk result (λ cap. cap ≡ own_object (next_number (objects_of self.old).context) (objects_of self.old).context) }
         ensures added { OnOk result (objects_of self.new ≡ adding object (objects_of self.old)) }
     {
         let cap = self.context.make(object)?;
@@ -122,6 +122,13 @@ impl<O: ServedObject<Makes = O>> Objects<O> {
         ensures { objects_of self.new ≡ in_session session (objects_of self.old) }
     {
         self.context.set_session(session);
+    }
+
+    /// The number of their session.
+    pub fn session(&self) -> u64
+        ensures { result ≡ (objects_of self.now).context.this.session }
+    {
+        self.context.session()
     }
 
     /// How many objects there are.
@@ -503,7 +510,7 @@ impl<O: ServedObject<Makes = O>> Objects<O> {
     }
 
     /// Does what an object wanted beside what it answered.
-    fn settle(&mut self, number: u32) -> Result<(), AllocError>
+    pub(crate) fn settle(&mut self, number: u32) -> Result<(), AllocError>
         ensures { OnOk result (objects_of self.new ≡ settled number (objects_of self.old)) }
     {
         self.join()?;

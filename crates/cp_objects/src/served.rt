@@ -95,4 +95,15 @@ impl<S: Servant> ServedObject for ServantObject<S> {
         let _ = context;
         self.servant.on_response(call_id, outcome)
     }
+
+    fn on_cancel(
+        &mut self,
+        ticket: u64,
+        context: &mut Context<ServantObject<S>>,
+    ) -> Result<(), AllocError> {
+        // A servant isn't told: it answers, and nobody takes that.
+        let _ = ticket;
+        let _ = context;
+        Ok(())
+    }
 }

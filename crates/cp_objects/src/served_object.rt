@@ -55,6 +55,16 @@ pub trait ServedObject: Drop {
     ) -> Result<(), AllocError>
         ensures { OnOk result (makes.on_response self.old call_id outcome (context_of context.old) (context_of context.new) self.new) };
 
+    /// Tells the object that a call of its own was given up which it is to answer later: the peer finished it, and takes no results of it.
+    /// It is told once, and never after the answer. Its answer, if it still gives one, is dropped; but calls that the peer made on
+    /// its results take it. So an object that works for nobody else lets go what it keeps for the call, its `LaterCall` too.
+    fn on_cancel(
+        &mut self,
+        ticket: u64,
+        context: &mut Context<Self::Makes>,
+    ) -> Result<(), AllocError>
+        ensures { OnOk result (makes.on_cancel self.old ticket (context_of context.old) (context_of context.new) self.new) };
+
     /// Tells the object its end, once, just before it goes: as nothing refers to it any more, or as its connection ended. It can't stop
     /// that. The calls that it makes (`Context::send`), unless the connection ended, and whom it wakes, what it resolves and settles, and the
     /// imports that it gives up or hands over, are done. What it makes isn't kept, nor an object for another one. It isn't told what its

@@ -1,5 +1,5 @@
 -- What the samples answer to calls and to polls.
-use Rattle.std.specs.Prelude.{◌≡◌, ℕ, ◌+◌, ◌-◌, ◌%◌, ◌^◌, Bool, ◌&&◌, ◌==◌, if◌then◌else◌, List, [], ◌∷◌, ◌++◌, Option, Some, None, map}
+use Rattle.std.specs.Prelude.{◌≡◌, ℕ, ◌+◌, ◌-◌, ◌%◌, ◌^◌, Bool, true, false, ◌&&◌, ◌==◌, if◌then◌else◌, List, [], ◌∷◌, ◌++◌, Option, Some, None, map}
 use Rattle.cp_fields.specs.Numbers.{plain}
 use Rattle.cp_tree.specs.Node.{Node, cap, struct, node, no_nodes}
 use Rattle.cp_refs.specs.declared.cap.Cap.TheVariants as caps
@@ -85,13 +85,19 @@ Polls (script replies []) settled new = (settled ≡ None) × (new ≡ script re
 Polls (script replies (first ∷ more)) settled new = (settled ≡ first) × (new ≡ script replies more)
 
 -- A further poll may give more, though nothing more comes: at a Desk where a call waits, and of a Script whose answers aren't over.
-abbrev pub MayGoOn : Seen → Type 0
-MayGoOn (desk []) = ⊥
-MayGoOn (desk (due ∷ more)) = Unit {0}
-MayGoOn (cell n) = ⊥
-MayGoOn (script replies []) = ⊥
-MayGoOn (script replies (first ∷ more)) = Unit {0}
+abbrev pub may_go_on : Seen → Bool
+may_go_on (desk []) = false
+may_go_on (desk (due ∷ more)) = true
+may_go_on (cell n) = false
+may_go_on (script replies []) = false
+may_go_on (script replies (first ∷ more)) = true
 
 -- the kind of samples, which make no calls and are told of none
 abbrev pub samples : Kind Seen
-samples = record { takes = Takes; polls = Polls; next_calls = λ old next_call new. ⊥; on_response = λ old call_id outcome new. ⊥; may_go_on = MayGoOn }
+samples = record {
+  takes = Takes;
+  polls = Polls;
+  next_calls = λ old next_call new. ⊥;
+  on_response = λ old call_id outcome new. ⊥;
+  says_more = λ more sample. more ≡ may_go_on sample;
+}

@@ -1,5 +1,5 @@
 -- What objects do.
-use Rattle.std.specs.Prelude.{◌≡◌, ◌⊎◌, ℕ, List, [], ◌∷◌, ◌++◌, Option, None, length}
+use Rattle.std.specs.Prelude.{◌≡◌, ◌⊎◌, ℕ, Bool, true, false, List, [], ◌∷◌, ◌++◌, Option, None, length}
 use Rattle.std.specs.declared.dyn_box.DynBox.{DynBox}
 use Rattle.cp_refs.specs.declared.call.Request.{Request}
 use Rattle.cp_refs.specs.declared.outcome.Outcome.{Outcome}
@@ -8,13 +8,13 @@ use Rattle.cp_servants.specs.declared.servant.Reply.{Reply}
 use Rattle.cp_servants.specs.declared.servant.Settled.{Settled}
 
 -- What objects of one kind do: what each of these does to an object, and what it gives. An object is called under a ticket; it is polled; it says which call
--- it makes next; it is told what its call of a number came to. And whether a further poll may give more, though nothing more comes.
+-- it makes next; it is told what its call of a number came to. And it says whether a further poll may give more, though nothing more comes.
 pub record Kind (A : Type 0) : Type 1 where
   pub takes : A → ℕ → Request → Reply → A → Type 0
   pub polls : A → Option Settled → A → Type 0
   pub next_calls : A → Option OutgoingCall → A → Type 0
   pub on_response : A → ℕ → Outcome → A → Type 0
-  pub may_go_on : A → Type 0
+  pub says_more : Bool → A → Type 0
 
 -- Of objects of any kind nothing is said.
 abbrev pub any : {A : Type 0} → Kind A
@@ -23,7 +23,7 @@ any = record {
   polls = λ old settled new. Unit {0};
   next_calls = λ old next_call new. Unit {0};
   on_response = λ old call_id outcome new. Unit {0};
-  may_go_on = λ object. Unit {0};
+  says_more = λ more object. Unit {0};
 }
 
 -- the kind of objects that do what their kind says as they are seen
@@ -33,7 +33,7 @@ seen_as seen kind = record {
   polls = λ old settled new. kind.polls (seen old) settled (seen new);
   next_calls = λ old next_call new. kind.next_calls (seen old) next_call (seen new);
   on_response = λ old call_id outcome new. kind.on_response (seen old) call_id outcome (seen new);
-  may_go_on = λ object. kind.may_go_on (seen object);
+  says_more = λ more object. kind.says_more more (seen object);
 }
 
 -- What is in a box changed so, and the box is as it was.
@@ -47,7 +47,7 @@ boxed kind = record {
   polls = λ old settled new. ChangesIn old new (λ before after. (kind old).polls before settled after);
   next_calls = λ old next_call new. ChangesIn old new (λ before after. (kind old).next_calls before next_call after);
   on_response = λ old call_id outcome new. ChangesIn old new (λ before after. (kind old).on_response before call_id outcome after);
-  may_go_on = λ b. (kind b).may_go_on b.value;
+  says_more = λ more b. (kind b).says_more more b.value;
 }
 
 -- Of these objects the one at this place changed so, and the others are as they were.
@@ -87,7 +87,17 @@ module _ {A : Type 0} (kind : Kind A) where
   abbrev pub OnResponseAt : ℕ → ℕ → Outcome → List A → List A → Type 0
   OnResponseAt place call_id outcome old new = ChangesAt (λ before after. OnResponse before call_id outcome after) old place new
 
-  -- one of these objects may give more
-  abbrev pub SomeMaySayMore : List A → Type 0
-  SomeMaySayMore [] = ⊥
-  SomeMaySayMore (first ∷ more) = kind.may_go_on first ⊎ SomeMaySayMore more
+  -- one of these objects says that it may give more
+  abbrev pub SomeSaysMore : List A → Type 0
+  SomeSaysMore [] = ⊥
+  SomeSaysMore (first ∷ others) = kind.says_more true first ⊎ SomeSaysMore others
+
+  -- each of them says that it gives no more
+  abbrev pub NoneSaysMore : List A → Type 0
+  NoneSaysMore [] = Unit {0}
+  NoneSaysMore (first ∷ others) = kind.says_more false first × NoneSaysMore others
+
+  -- what was said of them all
+  abbrev pub AnySaysMore : Bool → List A → Type 0
+  AnySaysMore true objects = SomeSaysMore objects
+  AnySaysMore false objects = NoneSaysMore objects

@@ -86,6 +86,10 @@ impl Servant for Cell {
     fn poll(&mut self) -> Result<Option<Settled>, AllocError> {
         Ok(None)
     }
+
+    fn has_more(&self) -> bool {
+        false
+    }
 }
 
 /// The first data word of a struct; 0 where it has none.

@@ -1,8 +1,8 @@
 //! Objects by their places.
 
-ghost use Rattle.std.specs.Prelude.{◌≡◌, ◌<◌, IfOk, OnOk, length, true};
+ghost use Rattle.std.specs.Prelude.{◌≡◌, ◌<◌, IfOk, OnOk, length};
 ghost use Rattle.cp_servants.specs.Requests.{request_of};
-ghost use Rattle.cp_servants.specs.Servant.{NextCallsAt, CallsAt, PollsAt, OnResponseAt, SomeMaySayMore};
+ghost use Rattle.cp_servants.specs.Servant.{AnySaysMore, CallsAt, NextCallsAt, OnResponseAt, PollsAt};
 
 use crate::request::RequestView;
 use crate::servant::{OutgoingCall, Reply, Servant, Settled};
@@ -61,7 +61,7 @@ pub fn on_response_at<O: Servant>(
 
 /// Whether one of the objects may give more though nothing more comes: then poll again before you wait for the peer.
 pub fn any_has_more<O: Servant>(objects: &[O]) -> bool
-    ensures { result ≡ true → SomeMaySayMore O.kind objects.now }
+    ensures { AnySaysMore O.kind result objects.now }
 {
     for object in objects {
         if object.has_more() {

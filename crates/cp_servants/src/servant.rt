@@ -1,6 +1,6 @@
 //! Objects that answer calls.
 
-ghost use Rattle.std.specs.Prelude.{◌≡◌, true, IfOk, OnOk};
+ghost use Rattle.std.specs.Prelude.{IfOk, OnOk};
 ghost use Rattle.cp_servants.specs.Requests.{request_of};
 ghost use Rattle.cp_servants.specs.Servant.{Kind, any, NextCalls, OnResponse};
 
@@ -67,13 +67,10 @@ pub trait Servant: Drop {
         ensures { IfOk result (λ settled. kind.polls self.old settled self.new) };
 
     /// Whether a further poll may give more, though nothing more comes to the object: then a driver that could wait
-    /// for its peer polls again first. `serve` asks no object for this, as its rounds follow the messages.
+    /// for its peer polls again first. An object that gives all as it is called says `false`. `serve` asks no object for this, as its
+    /// rounds follow the messages.
     fn has_more(&self) -> bool
-        ensures { result ≡ true → kind.may_go_on self.now }
-    {
-        // The contract says when it may be true, not when it must be, so this body serves any object.
-        false
-    }
+        ensures { kind.says_more result self.now };
 
     /// The next call that the object makes, if it makes one more. A driver that lets objects call asks for these after
     /// each call, poll and outcome that the object got, until there is none. `serve` lets none call.

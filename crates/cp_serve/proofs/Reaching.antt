@@ -5,6 +5,7 @@ use Rattle.std.proofs.lemmas.Bool.Decides.{nat_tests}
 use Rattle.std.proofs.lemmas.List.{length_push, length-drop, nil_from_length}
 use Rattle.std.proofs.Math.Seq.{take-append_seam, take-length, drop-append_seam}
 use Rattle.std.proofs.Math.ListN.{drop_of_length-le}
+use Rattle.std.specs.FinMap.{remove}
 use Rattle.std.specs.Global.{Vec}
 use Rattle.std.specs.Io.KnownBytes.{Consumes, IsAtEnd}
 use Rattle.std.proofs.KnownBytes.{Consumes-trans}
@@ -19,6 +20,7 @@ use Rattle.cp_stream.specs.declared.fault.Refusal.TheVariants as refusals
 use Rattle.cp_stream.specs.declared.fault.StreamFault.TheVariants as streams
 use Rattle.cp_stream.specs.Stream.{Messages, IsFrameOf, HasFault}
 use Rattle.cp_stream.proofs.Reading.{messages_push}
+use Rattle.cp_tables.specs.Table.{Table}
 use Rattle.cp_vat_machine.specs.declared.effect.Effect.{Effect}
 use Rattle.cp_vat_machine.specs.declared.event.Event.TheVariants as events
 use Rattle.cp_vat_machine.specs.declared.event.Value.TheVariants as values
@@ -32,16 +34,20 @@ use Rattle.cp_connection.specs.declared.event.ConnectionStats.{ConnectionStats}
 use Rattle.cp_connection.specs.Doing.{Does}
 use Rattle.cp_tail_calls.specs.Bridging.{sent_of}
 use Rattle.cp_connection.specs.Effects.{happening_by, AreFramesOf}
+use Rattle.cp_connection.specs.Finishing.{ReceivesNaming}
 use Rattle.cp_connection.specs.Link.{Link, HasCome, new_link}
 use Rattle.cp_connection.specs.Moves.{Moves}
 use Rattle.cp_connection.specs.Receiving.{Reads, Receives, IsUnread, IsUnreceived, EndsBadly}
 use Rattle.cp_connection.specs.Receiving as receiving
 use Rattle.cp_connection.specs.Refusing.{refusal_of}
+use Rattle.cp_connection.proofs.Finishing.{receives_of}
 use Rattle.cp_connection.proofs.Living.{lives_move}
 use Rattle.cp_connection.proofs.Moving.{moves_received, moves_unreceived}
 use Rattle.cp_servants.specs.Servant.{Kind}
 use Rattle.cp_objects.specs.ObjectTable.{ObjectTableKind}
 use Rattle.cp_objects.specs.Listed.{listed}
+use Rattle.cp_dispatch.specs.Canceling.{Cancels}
+use Rattle.cp_dispatch.specs.Canceling as canceling
 use Rattle.cp_dispatch.specs.Receiving.{IsCutShort, is_unreceived, ran_out}
 use Rattle.cp_dispatch.specs.Rounds as rounds
 use Rattle.cp_dispatch.specs.Work as objects
@@ -220,7 +226,7 @@ module _ {A : Type 0} {kind : Kind A} {mode : Mode} {start : List A} {held : Dev
 
     serves_more : GoesOn kind mode start held (bytes ++ front) new others.items to
     serves_more =
-        let more = follows_message m link works.2 d works.3 works.4 r.last begins.matches in
+        let more = follows_message m link works.2 works.3 d works.4 works.5 r.last begins.matches in
         let still = (open_work s.connection r.last (owed s) r.rests.matches on.is_open).0 in
         goes_on_after more.0 more.2 more.3 (takes_more m r.takes still more.1 refl refl refl)
 
@@ -353,6 +359,26 @@ module _ {A : Type 0} {kind : Kind A} {mode : Mode} {start : List A} {held : Dev
   goes_by bytes s t same ready (inr h) =
       inr (h.0, reached_by bytes h.0 s t same ready h.1, subst (λ (w : objects.Work). IsSome w.link.fault) (sym same) h.2)
 
+-- of a list of objects none is told that a call was given up, which is owed no more
+cancels_listed : {A : Type 0} (kind : Kind A) {finished : Option ℕ} {o new : objects.Work} {seen others : Vec A} → Cancels (listed kind) finished o new seen others
+    → (owed_then : Table ℕ) × (new ≡ record o { owed = owed_then }) × (others ≡ seen)
+cancels_listed kind {o = o} (canceling.finishes_none none same still) = (o.owed, same, still)
+cancels_listed kind {o = o} (canceling.is_not_owed answer is none same still) = (o.owed, same, still)
+cancels_listed kind {o = o} (canceling.is_owed answer ticket is owed_ (canceling.by_none told same)) = (remove o.owed answer, same, told.1)
+cancels_listed kind (canceling.is_owed answer ticket is owed_ (canceling.by_object called link number told kept calls works)) = none_out (sym told.0)
+
+cancels_none : {H : Type 0} {table : ObjectTableKind H} {finished : Option ℕ} {o new : objects.Work} {seen others : H} → finished ≡ None → Cancels table finished o new seen others
+    → (new ≡ o) × (others ≡ seen)
+cancels_none e (canceling.finishes_none none same still) = (same, still)
+cancels_none e (canceling.is_not_owed answer is none same still) = (same, still)
+cancels_none e (canceling.is_owed answer ticket is owed_ told) = none_out (sym e ∙ is)
+
+-- nothing is finished where no frame ended
+finishes_nothing : (old : Server) (piece : List ℕ) (link : Link) (count : ℕ) (finished : Option ℕ) → ReceivesNaming old.connection piece count finished link → frames.taken_of link.reading ≢ 0 → finished ≡ None
+finishes_nothing old piece link count finished (inl h) some = h.1
+finishes_nothing old piece link count finished (inr h) some =
+    absurd (some (ap (λ (s : frames.State). frames.taken_of s) h.7.same_reading ∙ came_is h.3.mode h.3.limits h.3.reading [] h.6.fresh.0 h.6.fresh.1))
+
 -- nothing happened where no frame ended
 no_news : (old : Server) (piece : List ℕ) (link : Link) (count : ℕ) → Receives old.connection piece count link → frames.taken_of link.reading ≢ 0 → old.connection.happened ≡ [] → link.happened ≡ []
 no_news old piece link count (inl h) some none = ap (λ (l : Link). l.happened) h.1.same ∙ none
@@ -386,20 +412,25 @@ module _ {A : Type 0} {kind : Kind A} (old : Server) (piece : List ℕ) (link : 
   )
 
   -- either way
-  pub takes_front : (count : ℕ) (back : List ℕ) (has_ended : Bool) (mid new : Server) {seen between : Vec A} (others : Vec A) → Receives old.connection piece count link
-      → ((has_ended ≡ true) ↔ (frames.taken_of link.reading ≡ 0)) → 0 < length piece → back ≡ drop count piece
-      → rounds.WorksOff (listed kind) (owed (record old { connection = link })) (owed mid) seen between → mid.ready ≡ old.ready → FollowsIf kind has_ended mid new between others
+  pub takes_front : (count : ℕ) (back : List ℕ) (has_ended : Bool) (finished : Option ℕ) (worked : objects.Work) (mid new : Server) {seen told between : Vec A} (others : Vec A)
+      → ReceivesNaming old.connection piece count finished link → ((has_ended ≡ true) ↔ (frames.taken_of link.reading ≡ 0)) → 0 < length piece → back ≡ drop count piece
+      → rounds.WorksOff (listed kind) (owed (record old { connection = link })) worked seen told → Cancels (listed kind) finished worked (owed mid) told between → mid.ready ≡ old.ready → FollowsIf kind has_ended mid new between others
       → TakesFront kind old piece back new seen.items others.items
-  takes_front count back true mid new others received ended some e works ready follows =
-      takes_one count back new received (ended.0 refl) some e (owed mid, _, follows.0.0, works, follows.0.1) follows.1
-  takes_front count back false mid new {seen = seen} others received ended some e works ready follows = λ mode start held to bytes serves.
+  takes_front count back true finished worked mid new {told = told} others received ended some e works cancels ready follows =
+      let after = cancels_listed kind cancels in
+      let round : rounds.Rounds (listed kind) (record worked { owed = after.0 }) follows.0.0 (owed new) told others =
+      subst (λ (w : objects.Work). rounds.Rounds (listed kind) w follows.0.0 (owed new) told others) after.1
+      (subst (λ (os : Vec A). rounds.Rounds (listed kind) (owed mid) follows.0.0 (owed new) os others) after.2 follows.0.1) in
+      takes_one count back new (receives_of received) (ended.0 refl) some e (worked, told, follows.0.0, after.0, works, round) follows.1
+  takes_front count back false finished worked mid new {seen = seen} others received ended some e works cancels ready follows = λ mode start held to bytes serves.
       let open_ : frames.taken_of link.reading ≢ 0 = λ none. true≢false (sym (ended.1 none)) in
       let rests = serves.1.rests in
-      let none : link.happened ≡ [] = no_news old piece link count received open_ (rests.matches.happens ∙ ap (λ (es : List Effect). happening_by es) rests.none_left) in
+      let none : link.happened ≡ [] = no_news old piece link count (receives_of received) open_ (rests.matches.happens ∙ ap (λ (es : List Effect). happening_by es) rests.none_left) in
+      let quiet = cancels_none (finishes_nothing old piece link count finished received open_) cancels in
       let same = works_none none works in
-      let fills = takes_none count back received open_ e mode start held to bytes serves in
-      subst (λ (os : Vec A). Fills kind mode start held bytes piece back new os.items to) (sym (follows.1 ∙ same.1))
-      (subst (λ (x : Server). Fills kind mode start held bytes piece back x seen.items to) (sym follows.0) (fills.0, fills.1, goes_by (bytes ++ fills.0) (record old { connection = link }) mid same.0 ready fills.2))
+      let fills = takes_none count back (receives_of received) open_ e mode start held to bytes serves in
+      subst (λ (os : Vec A). Fills kind mode start held bytes piece back new os.items to) (sym (follows.1 ∙ quiet.1 ∙ same.1))
+      (subst (λ (x : Server). Fills kind mode start held bytes piece back x seen.items to) (sym follows.0) (fills.0, fills.1, goes_by (bytes ++ fills.0) (record old { connection = link }) mid (quiet.0 ∙ same.0) ready fills.2))
 
   -- memory ran out for what a message leads to
   pub stops_working : (count : ℕ) (new : Server) {seen : List A} (others : List A) → Receives old.connection piece count link → objects.Lives link new.connection → new.ready ≡ old.ready

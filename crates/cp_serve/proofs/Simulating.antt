@@ -227,8 +227,8 @@ module _ (base : Link) (w : Work) (o : objects.Work) (h : Matches base w o) wher
   closed_work some none = known_reason w.closed w.effects (shut_if (is_over w.closed w.effects) (subst (λ (f : Option ConnectionFault). IsSome f) h.ended some)) none
 
   -- other calls are awaited, and other imports were given up
-  owes : (a b : Table Origin) (g i : List ℕ) → b ≡ a → i ≡ g → Matches base (record w { awaited = a; given_up = g }) (record o { awaited = b; given_up = i })
-  owes a b g i e f = record {
+  owes : (a b : Table Origin) (c : Table ℕ) (g i : List ℕ) → b ≡ a → i ≡ g → Matches base (record w { awaited = a; given_up = g }) (record o { awaited = b; owed = c; given_up = i })
+  owes a b c g i e f = record {
     vat = h.vat;
     no_tails = h.no_tails;
     awaited = e;
@@ -420,7 +420,7 @@ module _ (base : Link) (w : Work) (o : objects.Work) (h : Matches base w o) wher
         is_used w.vat (subst (λ (r : VatFault). Step w.vat (events.Release i) (Err r) [] w.vat) (is.0 ∙ used) stepped) refl,
         subst (λ (x : objects.Work). Matches base (record w { given_up = w.given_up ++ i ∷ [] }) x) (sym gives)
             (subst (λ (l : Link). Matches base (record w { given_up = w.given_up ++ i ∷ [] }) (record o { link = l; given_up = o.given_up ++ i ∷ [] })) (sym same)
-            (owes w.awaited o.awaited (w.given_up ++ i ∷ []) (o.given_up ++ i ∷ []) h.awaited (ap (λ (x : List ℕ). x ++ i ∷ []) h.given_up))),
+            (owes w.awaited o.awaited o.owed (w.given_up ++ i ∷ []) (o.given_up ++ i ∷ []) h.awaited (ap (λ (x : List ℕ). x ++ i ∷ []) h.given_up))),
       )
       by (objects.is_dropped other e) = (w, is_dropped refuses.0 w.vat (λ k. other (sym is.0 ∙ k)) is.1 stepped refl, subst (λ (x : objects.Work). Matches base w x) (sym e) (unchanged link same))
   follows_tries i new (objects.had_ended fault link is_end (inl ended) e) = (
@@ -438,7 +438,7 @@ follows_replies {base = base} {w = w} {o = o} h origin ticket (replies.Now outco
     let owed : objects.Work = record o { given_up = o.given_up ++ gives_up } in
     let all : r.0 ≡ owed = gives_up_all gives_up o h.none_held r.2 in
     let more = follows_answers base (record w { given_up = w.given_up ++ gives_up }) owed
-    (owes base w o h w.awaited o.awaited (w.given_up ++ gives_up) (o.given_up ++ gives_up) h.awaited (ap (λ (x : List ℕ). x ++ gives_up) h.given_up)) origin outcome r.1
+    (owes base w o h w.awaited o.awaited o.owed (w.given_up ++ gives_up) (o.given_up ++ gives_up) h.awaited (ap (λ (x : List ℕ). x ++ gives_up) h.given_up)) origin outcome r.1
     (subst (λ (x : objects.Work). objects.Answers x.link origin outcome r.1) all r.3) in
     (more.0, more.1, subst (λ (x : objects.Work). Matches base more.0 x) (sym (r.4 ∙ ap (λ (x : objects.Work). record x { link = r.1 }) all)) more.2)
 follows_replies {base = base} {w = w} {o = o} h origin ticket replies.Later r =
@@ -446,7 +446,7 @@ follows_replies {base = base} {w = w} {o = o} h origin ticket replies.Later r =
       record w { awaited = a },
       refl,
       subst (λ (x : objects.Work). Matches base (record w { awaited = a }) x) (sym r)
-          (owes base w o h a (insert o.awaited ticket origin) w.given_up o.given_up (ap (λ (t : Table Origin). insert t ticket origin) h.awaited) h.given_up),
+          (owes base w o h a (insert o.awaited ticket origin) (objects.owing origin ticket o.owed) w.given_up o.given_up (ap (λ (t : Table Origin). insert t ticket origin) h.awaited) h.given_up),
     )
 
 follows_settles : {base : Link} {w : Work} {o new : objects.Work} → Matches base w o → (settled : Option Settled) (gave : Bool) → calling.Settles (λ outcome. outcome) o settled gave new
@@ -454,11 +454,11 @@ follows_settles : {base : Link} {w : Work} {o new : objects.Work} → Matches ba
 follows_settles {w = w} h settled gave calling.gives_none = (w, gives_none, h)
 follows_settles {w = w} h settled gave (calling.is_stranger s none) = (w, is_stranger s (ap (λ (t : Table Origin). get t s.ticket) (sym h.awaited) ∙ none), h)
 follows_settles {base = base} {w = w} {o = o} h settled gave (calling.is_awaited s origin link {mid = mid} got gives answers e) =
-    let taken : objects.Work = record o { awaited = remove o.awaited s.ticket } in
-    let owed : objects.Work = record o { awaited = remove o.awaited s.ticket; given_up = o.given_up ++ s.gives_up } in
+    let taken : objects.Work = objects.awaiting_no_more origin s.ticket o in
+    let owed : objects.Work = record taken { given_up = o.given_up ++ s.gives_up } in
     let all : mid ≡ owed = gives_up_all s.gives_up taken h.none_held gives in
     let more = follows_answers base (record w { awaited = remove w.awaited s.ticket; given_up = w.given_up ++ s.gives_up }) owed
-    (owes base w o h (remove w.awaited s.ticket) (remove o.awaited s.ticket) (w.given_up ++ s.gives_up) (o.given_up ++ s.gives_up) (ap (λ (t : Table Origin). remove t s.ticket) h.awaited) (ap (λ (x : List ℕ). x ++ s.gives_up) h.given_up))
+    (owes base w o h (remove w.awaited s.ticket) (remove o.awaited s.ticket) (objects.owing_no_more origin o.owed) (w.given_up ++ s.gives_up) (o.given_up ++ s.gives_up) (ap (λ (t : Table Origin). remove t s.ticket) h.awaited) (ap (λ (x : List ℕ). x ++ s.gives_up) h.given_up))
     origin s.outcome link (subst (λ (x : objects.Work). objects.Answers x.link origin s.outcome link) all answers) in (
       more.0,
       is_awaited s origin (ap (λ (t : Table Origin). get t s.ticket) (sym h.awaited) ∙ got) more.1,
@@ -467,7 +467,7 @@ follows_settles {base = base} {w = w} {o = o} h settled gave (calling.is_awaited
 
 -- ---- objects that may not call make no calls
 
-module _ {A : Type 0} {kind : Kind A} where
+module _ {A : Type 0} (kind : Kind A) where
   next_none : {number : ℕ} {o new : objects.Work} {next_call : Option OutgoingCall} {seen others : Vec A} → o.may_call ≡ false → calling.NextCall (listed kind) number o next_call new seen others
       → (next_call ≡ None) × (new ≡ o) × (others ≡ seen)
   next_none off (calling.next_calls link may still asked kept is) = absurd (true≢false (sym may ∙ off))
@@ -483,9 +483,9 @@ module _ {A : Type 0} {kind : Kind A} where
 
 -- ---- objects of a list make no promises
 
-no_promise_requests : {A : Type 0} {kind : Kind A} {old new : Link} {seen others : Vec A} → pledging.KeepsPromiseRequests (listed kind) old new seen others → (new ≡ old) × (others ≡ seen)
-no_promise_requests (pledging.none_left none) = (refl, none.1)
-no_promise_requests (pledging.keeps promise_request handed kept rest) = none_out (sym handed.0)
+no_promise_requests : {A : Type 0} (kind : Kind A) {old new : Link} {seen others : Vec A} → pledging.KeepsPromiseRequests (listed kind) old new seen others → (new ≡ old) × (others ≡ seen)
+no_promise_requests kind (pledging.none_left none) = (refl, none.1)
+no_promise_requests kind (pledging.keeps promise_request handed kept rest) = none_out (sym handed.0)
 
 -- ---- effects that are worked off
 
@@ -531,10 +531,10 @@ module _ {A : Type 0} {kind : Kind A} where
       → objects.Replies (λ outcome. outcome) (record given { link = link }) origin ticket reply mid → calling.MakesCalls (listed kind) k mid new kept others
       → (next : Work) × Delivers kind w seen.items k origin ticket call next others.items × Matches base next new
   delivers {base = base} {w = w} {o = o} {given = given} {mid = mid} {seen = seen} {between = between} {others = others} k origin ticket call reply h gives pledged replied called =
-      let quiet = no_promise_requests pledged in
+      let quiet = no_promise_requests kind pledged in
       let is : record given { link = _ } ≡ o = ap (λ (l : Link). record given { link = l }) quiet.0 ∙ unnoted gives in
       let more = follows_replies h origin ticket reply (subst (λ (x : objects.Work). objects.Replies (λ outcome. outcome) x origin ticket reply mid) is replied) in
-      let none = no_calls more.2.none_call called in
+      let none = no_calls kind more.2.none_call called in
       (more.0, by more.0 more.1 (none.1 ∙ quiet.1) gives, subst (λ (x : objects.Work). Matches base more.0 x) (sym none.0) more.2)
     where
       unnoted : rounds.Gives (listed kind) k ticket call reply o given seen between → given ≡ o
@@ -657,9 +657,9 @@ module _ {A : Type 0} {kind : Kind A} where
   follows_polls (rounds.none_left past) w h rest = (w, service.none_left past, h, rest)
   follows_polls {base = base} {o = o} (rounds.has_ended some) w h rest = (w, service.is_closed (closed_work base w o h some rest), h, rest)
   follows_polls {base = base} {o = o} {seen = seen} {others = others} {gave = gave} (rounds.polls {mid = mid} {last = last} number settled first more still next polled pledged settles calls off tail e) w h rest =
-      let quiet = no_promise_requests pledged in
+      let quiet = no_promise_requests kind pledged in
       let one = follows_settles h settled first (subst (λ (l : Link). calling.Settles (λ outcome. outcome) (record o { link = l }) settled first mid) quiet.0 settles) in
-      let none = no_calls one.2.none_call calls in
+      let none = no_calls kind one.2.none_call calls in
       let two = follows_works_off off one.0 (subst (λ (x : objects.Work). Matches base one.0 x) (sym none.0) one.2) in
       let three = follows_polls tail two.0 two.2 two.3 in
       let polls = service.polls {new = three.0} settled first more (open_work base w o h still).0 polled one.1 (subst (λ (x : Vec A). WorksOff kind one.0 x.items two.0 last.items) (none.1 ∙ quiet.1) two.1) three.1 e in
@@ -674,7 +674,7 @@ follows_each {base = base} (i ∷ more) {w = w} {o = o} h tries =
 
 follows_releases : {base : Link} {w : Work} {o new : objects.Work} → Matches base w o → objects.Releases o new → (next : Work) × Releases w next × Matches base next new
 follows_releases {base = base} {w = w} {o = o} {new = new} h releases =
-    follows_each w.given_up (owes base w o h w.awaited o.awaited [] [] h.awaited refl) (subst (λ (x : List ℕ). objects.TriesEach (record o { given_up = [] }) x new) h.given_up releases)
+    follows_each w.given_up (owes base w o h w.awaited o.awaited o.owed [] [] h.awaited refl) (subst (λ (x : List ℕ). objects.TriesEach (record o { given_up = [] }) x new) h.given_up releases)
 
 -- the objects of a list give nothing up beside what they answer
 gives_up_none : {A : Type 0} (kind : Kind A) (o new : objects.Work) (seen others : Vec A) → rounds.GivesUpBeside (listed kind) o new seen others → new ≡ o
@@ -694,15 +694,15 @@ module _ {A : Type 0} {kind : Kind A} where
       (three.0, service.releases one.0 two.0 between.items one.1 (open_work base one.0 mid one.2 still).0 two.1 off_left, three.2, three.3)
 
   -- a message is taken
-  pub follows_message : {base : Link} {o mid new : objects.Work} {seen between others : Vec A} (m : Message) (link : Link) (gave : Bool) → Does o.link (events.Receive m) (Ok values.Nothing) link
-      → rounds.WorksOff (listed kind) (record o { link = link }) mid seen between → rounds.Rounds (listed kind) mid gave new between others → (w : Work) → Matches base w o
+  pub follows_message : {base : Link} {o mid new : objects.Work} {seen between others : Vec A} (m : Message) (link : Link) (gave : Bool) (owed_then : Table ℕ) → Does o.link (events.Receive m) (Ok values.Nothing) link
+      → rounds.WorksOff (listed kind) (record o { link = link }) mid seen between → rounds.Rounds (listed kind) (record mid { owed = owed_then }) gave new between others → (w : Work) → Matches base w o
       → (next : Work) × TakesMessage kind w seen.items m next others.items × Matches base next new × (next.effects ≡ [])
-  follows_message {base = base} {o = o} {between = between} m link gave d off round w h =
+  follows_message {base = base} {o = o} {mid = mid} {between = between} m link gave owed_then d off round w h =
       let received : Work = record w { vat = link.vat; effects = w.effects ++ d.effects } in
       let done : IsDone w (events.Receive m) received =
       record { result = Ok values.Nothing; effects = d.effects; vat = link.vat; step = step_at base w o h (events.Receive m) values.Nothing link d.effects (steps_alone d h.no_tails); memory = tt; did = refl } in
       let one = follows_works_off off received (does base w o h (events.Receive m) values.Nothing link d) in
-      let two = follows_round round one.0 one.2 one.3 in
+      let two = follows_round round one.0 (owes base one.0 mid one.2 one.0.awaited mid.awaited owed_then one.0.given_up mid.given_up one.2.awaited one.2.given_up) one.3 in
       (two.0, takes received one.0 between.items gave done one.1 two.1, two.2, two.3)
 
 -- ---- between messages

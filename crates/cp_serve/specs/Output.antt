@@ -187,8 +187,8 @@ module _ {A : Type 0} (kind : Kind A) where
   abbrev pub IsStopped : Mode → List A → Device → Device → Device → Device → List A → ServeFault → Type 0
   IsStopped mode objects from left old new others fault = (bytes : List ℕ) × Consumes from.bytes left.bytes bytes × StopsFor mode objects bytes from left old new others fault
 
-  -- One call of the reader failed, after bytes of which each message that came whole was taken, and what these lead to was written. The vat is open. A reader
-  -- may fail at any call, so all this holds before each: what came is answered first, and once the vat closed nothing more is read.
+  -- One call of the reader failed. Of the bytes before it each message that came whole was taken, and what these lead to was written. The vat is open. A reader
+  -- may fail at any call, so this holds before each one. What came is answered first, and nothing more is read once the vat closed.
   abbrev pub IsUnread : Mode → List A → Device → Device → Device → Device → List A → Type 0
   IsUnread mode objects from left old new others =
       FailedOnce from.failures left.failures × (bytes : List ℕ) × Consumes from.bytes left.bytes bytes

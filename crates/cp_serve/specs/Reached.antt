@@ -11,6 +11,7 @@ use Rattle.cp_stream.specs.Read.{FailedOnce}
 use Rattle.cp_stream.specs.Write.{Passes}
 use Rattle.cp_stream.specs.Tap.{failures_of}
 use Rattle.cp_stream.specs.declared.tap.Tap.{Tap}
+use Rattle.cp_tables.specs.Table.{Table}
 use Rattle.cp_connection.specs.Counting.{CountsMore}
 use Rattle.cp_connection.specs.Link.{Link, HasCome, new_link}
 use Rattle.cp_objects.specs.Listed.{listed}
@@ -201,10 +202,11 @@ module _ {A : Type 0} (kind : Kind A) where
       (mode : Mode) (start : List A) (held from left to : Device) (bytes : List ℕ) → Serves mode start held bytes old objects to
       → StopsFor kind mode start (bytes ++ piece) from left held (ahead to (ready_of new)) others fault
 
-  -- what a message leads to was worked off, and a round followed
+  -- What a message leads to was worked off, and a round followed. Its Finish of an answer that is owed tells no object.
   abbrev pub WorksOut : Server → Server → Vec A → Vec A → Type 0
   WorksOut old new seen others =
-      (mid : work.Work) × (between : Vec A) × (gave : Bool) × rounds.WorksOff (listed kind) (owed old) mid seen between × rounds.Rounds (listed kind) mid gave (owed new) between others
+      (mid : work.Work) × (between : Vec A) × (gave : Bool) × (owed_then : Table ℕ) × rounds.WorksOff (listed kind) (owed old) mid seen between
+      × rounds.Rounds (listed kind) (record mid { owed = owed_then }) gave (owed new) between others
 
   -- Where a message ended a round followed, and all that is to go out is ready then; and else nothing is done.
   abbrev pub FollowsIf : Bool → Server → Server → Vec A → Vec A → Type 0

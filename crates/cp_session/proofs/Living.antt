@@ -6,6 +6,7 @@ use Rattle.cp_connection.specs.Link.{Link}
 use Rattle.cp_connection.specs.declared.excess.Excess.{Excess}
 use Rattle.cp_connection.specs.Excess.{excess_of}
 use Rattle.cp_connection.specs.Lives.{Course}
+use Rattle.cp_connection.proofs.Finishing.{receives_of}
 use Rattle.cp_connection.specs.Lives as life
 use Rattle.cp_dispatch.specs.declared.event.DispatchEvent.{DispatchEvent}
 use Rattle.cp_dispatch.specs.Receiving.{IsCutShort, is_unreceived, ran_out}
@@ -93,7 +94,7 @@ follows_lives table now old new objects others false h = subst (λ (s : Service)
 takes_life : {H : Type 0} {table : ObjectTableKind H} {now : ℕ} {old new : Service} {objects others : H} (piece : List ℕ) (count : ℕ) → Takes table now old piece count new objects others
     → IsLife old.work.link (take count piece) [] new.work.link
 takes_life {table = table} {now = now} {old = old} piece count h =
-    life_then (life_then (life_one (life.receives piece count h.receives.1 refl)) h.receives.4)
+    life_then (life_then (life_one (life.receives piece count (receives_of h.receives.4) refl)) h.receives.8)
     (follows_lives table now (record old { work = h.work }) _ _ _ h.has_ended h.follows)
 
 cut_life : {H : Type 0} {old new : Link} {piece : List ℕ} {fault : ConnectionFault} {objects others : H} (h : IsCutShort old piece fault new objects others)

@@ -1,8 +1,6 @@
 -- What each call does to a session.
 use Rattle.std.specs.Prelude.{◌≡◌, ◌≢◌, ◌⊎◌, ℕ, ◌<◌, ◌≤◌, nat_lt, if◌then◌else◌, Bool, true, IsSome, is_some, ◌||◌, List, [], ◌∷◌, ◌++◌, ◌^◌, Option, Some, None, Result, length}
 use Rattle.cp_frame.specs.Reader.{taken_of}
-use Rattle.cp_refs.specs.declared.cap.Cap.{Cap}
-use Rattle.cp_refs.specs.declared.cap.Cap.TheVariants as caps
 use Rattle.cp_vat_machine.specs.declared.event.Event as machine
 use Rattle.cp_vat_machine.specs.declared.event.Value.{Value}
 use Rattle.cp_connection.specs.declared.fault.ConnectionFault.{ConnectionFault}
@@ -16,7 +14,8 @@ use Rattle.cp_objects.specs.declared.objects.Objects.{Objects}
 use Rattle.cp_objects.specs.declared.waker.Waker.{Waker}
 use Rattle.cp_objects.specs.Objects.{adding, objects_of}
 use Rattle.cp_objects.specs.ObjectTable.{ObjectTableKind}
-use Rattle.cp_objects.specs.Context.{next_number}
+use Rattle.cp_objects.specs.Context.{next_number, own_object}
+use Rattle.cp_objects.specs.declared.session_cap.SessionCap.{SessionCap}
 use Rattle.cp_dispatch.specs.declared.event.DispatchEvent.{DispatchEvent}
 use Rattle.cp_dispatch.specs.declared.event.DispatchEvent.TheVariants as notices
 use Rattle.cp_dispatch.specs.Receiving.{IsCutShort}
@@ -53,8 +52,8 @@ abbrev pub KeepsRest : {H : Type 0} → State H → State H → Type 0
 KeepsRest old new = new ≡ record old { objects = new.objects }
 
 -- the capability of the object that is added next
-abbrev pub next_cap : {A : Type 0} → State (Objects A) → Cap
-next_cap state = caps.Object (next_number (objects_of state.objects).context)
+abbrev pub next_cap : {A : Type 0} → State (Objects A) → SessionCap
+next_cap state = let place = (objects_of state.objects).context in own_object (next_number place) place
 
 -- there is an object more, which stays, and nothing else changed
 abbrev pub Adds : {A : Type 0} → A → State (Objects A) → State (Objects A) → Type 0

@@ -8,8 +8,8 @@ use Rattle.cp_connection.specs.Contents.{event_memory, kept_contents}
 use Rattle.cp_dispatch.specs.Noticed as dispatch
 use Rattle.cp_dispatch.specs.Work.{Work}
 
--- The bytes that are kept: of the open message, of what waits to be written, 640 for each entry of the vat and each object that may go, 272 for each promise, and
--- of the contents that the vat keeps and that weren't taken.
+-- The bytes that are kept: of the open message, of what waits to be written, of the contents that the vat keeps, and of those that weren't taken. Each entry of
+-- the vat counts for 640 bytes more, as does each object that may go, and each promise for 272.
 abbrev pub kept_of : Work → ℕ → ℕ
 kept_of work guests =
     counted (taken_of work.link.reading + length work.link.unwritten + (entries_of work.link.vat + guests) * 640 + len work.link.vat.values.promises * 272 + kept_contents work.link + event_memory work.link.happened + dispatch.event_memory work.notices)

@@ -45,7 +45,7 @@ module _ {H : Type 0} (table : ObjectTableKind H) where
     pub drops : DropsIdle table old.work work objects others
     pub is : new ≡ record old { work = work; sweep = swept_from (table.guests objects) (table.guests others) work.link.stats.messages now }
 
-  -- They are, where messages or time paid for it, and else later; and where no object may go nothing is done.
+  -- Idle objects are scanned for where messages or time paid for it, else later. Where no object may go, nothing is done.
   pub data Sweeps (now : ℕ) (old new : Service) (objects others : H) : Type 0 where
     none_may_go : table.guests objects ≡ 0 → new ≡ old → others ≡ objects → Sweeps now old new objects others
     waits : 1 ≤ table.guests objects → (IsSweepDue old.work.link.stats.messages now old.sweep → ⊥) → new ≡ record old { sweep = later now old.sweep } → others ≡ objects

@@ -16,7 +16,7 @@ use crate::progress::{Limit, Progress, earlier};
 use crate::sweep::has_come;
 use cp_connection::{ConnectionFault, ConnectionStats};
 use cp_dispatch::DispatchEvent;
-use cp_objects::{ObjectTable, Objects, ServedObject, Waker};
+use cp_objects::{ObjectTable, Objects, ServedObject, SessionCap, Waker};
 use cp_refs::{Cap, PromiseId, Request};
 use cp_vat_machine::Reason;
 use std::alloc::{AllocError, Global};
@@ -97,7 +97,7 @@ impl<H: ObjectTable> SessionOver<H> {
 /// A session of objects that make others.
 impl<O: ServedObject<Makes = O>> SessionOver<Objects<O>> {
     /// Adds an object that stays as long as the session, as `Objects::add`, and gives its capability.
-    pub fn add(&mut self, object: O) -> Result<Cap, AllocError>
+    pub fn add(&mut self, object: O) -> Result<SessionCap, AllocError>
         ensures cap { IfOk result (λ cap. cap ≡ next_cap (state_of self.old)) }
         ensures adds { OnOk result (Adds object (state_of self.old) (state_of self.new)) }
         ensures unadded { OnErr result (KeepsRest (state_of self.old) (state_of self.new)) }

@@ -48,7 +48,8 @@ fn add_and_read<R: Read + Drop, W: Write + Drop>(
     watcher: WatcherClient,
     heard: &Rc<RefCell<String>>,
 ) -> anyhow::Result<String> {
-    let notebook = NotebookClient::new(alloc, client.bootstrap()?.cap(alloc));
+    let root = client.bootstrap()?.cap(alloc);
+    let notebook = NotebookClient::new(alloc, client.own(root));
     notebook.watch(client, watcher)?;
     let next = notebook.next(client)?;
     let read = next.page()?.read(client)?;
@@ -71,6 +72,10 @@ struct Watcher {
 
 impl ServiceObject for Watcher {
     type Makes = Served;
+
+    fn has_more(&self) -> bool {
+        false
+    }
 }
 
 impl WatcherServer for Watcher {

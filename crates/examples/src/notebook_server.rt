@@ -88,7 +88,7 @@ impl Notebook {
         shelf.wakers.insert(self.number, context.waker())?;
         for note in shelf.notes.iter().skip(self.told) {
             for watcher in &self.watchers {
-                context.send(watcher.added_call(note.as_str(), 0)?)?;
+                context.send(watcher.added_request(note.as_str())?.outgoing(0)?)?;
             }
             for resolver in mem::replace(&mut self.promised, Vec::new(context.alloc())) {
                 let page = new_page(&self.shelf, self.told, context)?;
@@ -106,6 +106,10 @@ impl ServiceObject for Notebook {
     fn poll(&mut self, context: &mut Context<Served>) -> Result<Option<Settled>, MethodFault> {
         self.tell_all(context)?;
         Ok(None)
+    }
+
+    fn has_more(&self) -> bool {
+        false
     }
 }
 
@@ -183,6 +187,10 @@ pub struct Page {
 
 impl ServiceObject for Page {
     type Makes = Served;
+
+    fn has_more(&self) -> bool {
+        false
+    }
 }
 
 impl PageServer for Page {

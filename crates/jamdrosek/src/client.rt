@@ -21,7 +21,10 @@
 //!
 //! A `CallWindow` keeps several calls in flight, up to a window, for example those of a `-> stream` method.
 //!
-//! The reader and the writer may be the two ends of a `TcpStream`, `&stream` twice, or bytes in memory.
+//! The reader and the writer may be `&stream` twice, or bytes in memory. For a socket take a `DuplexStream` (net_client), which connects to an
+//! address within a limit of time, and is read while it is written. Over a `TcpStream` a client stands still where it and its peer both wait
+//! until the other reads: many large calls with large results. `reconnect` tries again after waits that grow, and `poll`, `wait_any`,
+//! `results_within` and `serve_for` limit how long a client waits.
 
 pub use cp_builder::BuildError;
 pub use cp_client::{CallError, CallWindow, Client, ClientFault, Question, request_of, word_at};
@@ -29,3 +32,4 @@ pub use cp_connection::ConnectionFault;
 pub use cp_refs::{Cap, Caps, Outcome, Path, Request};
 pub use cp_servants::{PayloadBuilder, data_in, results_of, text_in, word_in};
 pub use cp_vat_machine::Reason;
+pub use net_client::{Address, Backoff, ConnectOptions, DuplexStream, SocketClient};

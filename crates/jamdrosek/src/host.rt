@@ -8,8 +8,9 @@
 //! ever and unpacked. It allows 1,000 connections at once, and 4 GiB for all of them together. `WhenFull` says what becomes of one more.
 //!
 //! An object wakes one of another connection by its `server::Waker` (`Context::wake`), and so does the program (`Host::wake`). That one is
-//! polled at once, and can call its peer. After `wake_after(ms)` the program's `next` returns `Woken`.
+//! polled at once, and can call its peer. After `wake_after(ms)` the program's `next` returns `Woken`, for example to write down the host's
+//! `figures`.
 
 pub use cp_session::{Limit, SessionLimits};
-pub use net_host::{End, Host, HostConfig, HostEvent, HostLimits, WhenFull};
+pub use net_host::{End, Host, HostConfig, HostEvent, HostFigures, HostLimits, WhenFull};
 pub use net_sockets::{Listener, Peer};

@@ -42,12 +42,13 @@
 //!
 //! # Call an object
 //!
-//! A `Client` talks over a reader and a writer; for a `TcpStream`, pass `&stream` as both. The plugin generates a typed client for each
-//! interface, whose methods make the calls. Results can be called before they arrive (pipelining): here the page of a note that isn't there
-//! yet is read, in one round trip.
+//! A `Client` talks over a reader and a writer; for a socket, pass `&stream` of a `DuplexStream` as both. The plugin generates a typed client
+//! for each interface, whose methods make the calls. Results can be called before they arrive (pipelining): here the page of a note that
+//! isn't there yet is read, in one round trip.
 //!
 //! ```rust crates/examples/src/notebook_client.rt
-//! let notebook = NotebookClient::new(alloc, client.bootstrap()?.cap(alloc));
+//! let root = client.bootstrap()?.cap(alloc);
+//! let notebook = NotebookClient::new(alloc, client.own(root));
 //! ..
 //! let next = notebook.next(client)?;
 //! let read = next.page()?.read(client)?;
@@ -190,7 +191,7 @@
 //! ```
 //!
 //! `read_struct` and `write_struct` read and write a message with any struct as its root. `read_segments` and `send_frame` move a message
-//! without looking into it.
+//! without looking into it. `canonical::canonical_message` writes the one canonical encoding of a message, to sign or to hash.
 //!
 //! # Write a message
 //!
@@ -265,7 +266,8 @@
 //!     alloc: Global,
 //!     client: &mut Client<R, W>,
 //! ) -> anyhow::Result<String> {
-//!     let store = StoreClient::new(alloc, client.bootstrap()?.cap(alloc));
+//!     let root = client.bootstrap()?.cap(alloc);
+//!     let store = StoreClient::new(alloc, client.own(root));
 //!     store.put(client, "colour", "blue")?;
 //!     let got = store.get(client, "colour")?;
 //!     let came = client.results(got.question())?;
@@ -293,6 +295,10 @@
 //!
 //!     fn poll(&mut self) -> Result<Option<Settled>, AllocError> {
 //!         Ok(None)
+//!     }
+//!
+//!     fn has_more(&self) -> bool {
+//!         false
 //!     }
 //! }
 //! ```
@@ -343,6 +349,7 @@
 //! - `words`: pointer words, segments and limits.
 //! - `tree`: the values that a message holds, owned or borrowed.
 //! - `reading`, `writing`: from segments to trees, in place or owned, and from trees to segments.
+//! - `canonical`: the canonical form of a message, to sign, to hash and to compare.
 //! - `packed`, `frame`: the packed form, and the frames of a stream in any pieces.
 //! - `fields`, `builder`: generic access to struct fields by offset; `UnknownEnumerant` is an enumerant unknown to this schema.
 //! - `message`: the messages of rpc.capnp, owned or read in place.
@@ -375,6 +382,7 @@ pub mod session;
 pub mod vat;
 
 pub use cp_builder as builder;
+pub use cp_canonical as canonical;
 pub use cp_fields as fields;
 pub use cp_frame as frame;
 pub use cp_frame::{FrameReader, Mode, send_frame};

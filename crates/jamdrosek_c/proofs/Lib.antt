@@ -1,1 +1,1 @@
-pub mod Receiving
+pub mod Placing

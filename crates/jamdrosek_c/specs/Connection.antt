@@ -1,4 +1,5 @@
 -- What the calls of C on a connection do: on an open handle each is the call of the connection, and on a closed one none.
+use Rattle.std.specs.FinMap.{empty}
 use Rattle.std.specs.Prelude.{◌≡◌, ℕ, Bool, false, if◌then◌else◌, List, [], length, Option, None, Some, Result, Ok, Err}
 use Rattle.cp_words.specs.Limits.{Bounds}
 use Rattle.cp_frame.specs.declared.mode.Mode.{Mode}
@@ -9,7 +10,7 @@ use Rattle.cp_vat_machine.specs.InUse.{is_object_used}
 use Rattle.cp_connection.specs.declared.fault.ConnectionFault.{ConnectionFault}
 use Rattle.cp_connection.specs.declared.fault.ConnectionFault.TheVariants as connections
 use Rattle.cp_connection.specs.Link.{new_link_with_tails}
-use Rattle.cp_connection.specs.Receiving.{Wrote, HandsOut}
+use Rattle.cp_connection.specs.Receiving.{Wrote}
 use Rattle.c_handles.specs.declared.code.CallFault.{CallFault}
 use Rattle.c_handles.specs.declared.code.Spot.{Spot}
 use Rattle.c_handles.specs.declared.method.MethodNumbers.{MethodNumbers}
@@ -19,12 +20,12 @@ use Rattle.c_handles.specs.declared.connection.ConnectionState.{ConnectionState}
 use Rattle.c_handles.specs.declared.event.EventNumbers.{EventNumbers}
 use Rattle.c_handles.specs.declared.event.OriginNumbers.{OriginNumbers}
 use Rattle.c_handles.specs.Caps.{of_kind}
-use Rattle.c_handles.specs.Event.{nothing, numbers_of, origin_of}
-use Rattle.c_handles.specs.Fault.{fault_of}
+use Rattle.c_handles.specs.Event.{nothing, origin_of}
+use Rattle.c_handles.specs.Fault.{fault_of, no_memory}
 use Rattle.c_handles.specs.declared.bytes.Bytes.{Bytes}
 use Rattle.c_handles.specs.Lent.{LieIn}
-use Rattle.c_handles.specs.Connection.{ChangesOnly, ActsAs, TakesAs, EndsAs, Resolves, Calls, Answers, Fails, Keeps, LendsContent, LendsNone, HasCap, HasNoCap, LendsReason, LendsNoReason}
-use Rattle.jamdrosek_c.specs.Tell.{TellsNumber, done_code}
+use Rattle.c_handles.specs.Connection.{ChangesOnly, ActsAs, TakesAs, EndsAs, Resolves, Calls, Answers, Fails, GivesBack, Keeps, Tells, Waits, LendsContent, LendsNone, HasCap, HasNoCap, LendsReason, LendsNoReason}
+use Rattle.jamdrosek_c.specs.Tell.{TellsEvent, TellsNumber, done_code}
 
 -- the object that a Bootstrap gets, if there is one
 abbrev pub bootstrap_of : Bool → ℕ → Option ℕ
@@ -36,6 +37,8 @@ pub record IsNew (mode : Mode) (limits : Bounds) (bootstrap : Option ℕ) (state
   pub limits_are : state.limits ≡ limits
   pub none : state.event ≡ None
   pub nothing : state.lent.items ≡ []
+  pub counted : state.counted ≡ 0
+  pub holds : state.holds.counts ≡ empty
 
 -- one is there
 abbrev pub Opens : Mode → Bounds → Bool → ℕ → Option ConnectionState → Type 0
@@ -76,6 +79,10 @@ AnswersTo origin results table code old new = (answer : Result (Unit {0}) CallFa
 abbrev pub FailsTo : OriginNumbers → ℕ → List ℕ → ℕ → ConnectionState → ConnectionState → Type 0
 FailsTo origin kind reason code old new = (answer : Result (Unit {0}) CallFault) × Fails old (origin_of origin) kind reason answer new × (code ≡ done_code answer)
 
+-- one hold of an import was given back
+abbrev pub Releases : ℕ → ℕ → ConnectionState → ConnectionState → Type 0
+Releases import code old new = (answer : Result (Unit {0}) CallFault) × GivesBack old import answer new × (code ≡ done_code answer)
+
 -- a promise was settled
 abbrev pub Settles : ℕ → CapNumbers → ℕ → ConnectionState → ConnectionState → Type 0
 Settles promise value code old new = (answer : Result (Unit {0}) CallFault) × Resolves old promise value answer new × (code ≡ done_code answer)
@@ -88,13 +95,18 @@ LendsOutgoing number code old new = (new ≡ old) × (number ≡ length old.conn
 abbrev pub Writes : ℕ → ℕ → ConnectionState → ConnectionState → Type 0
 Writes count code old new = Wrote old.connection count new.connection × ChangesOnly old new × (code ≡ 0)
 
+-- an event is told; or memory ran out
+abbrev pub TellsOrWaits : ConnectionState → ConnectionState → Result EventNumbers CallFault → Type 0
+TellsOrWaits old new (Ok numbers) = Tells old new numbers
+TellsOrWaits old new (Err fault) = Waits old new × (fault ≡ no_memory)
+
 -- what happened first is taken, and its numbers told
 pub record HandsOutNumbers (event : EventNumbers) (code : ℕ) (old new : ConnectionState) : Type 0 where
-  pub taken : HandsOut old.connection new.event new.connection
-  pub numbers : event ≡ numbers_of new.event
+  pub answer : Result EventNumbers CallFault
+  pub tells : TellsOrWaits old new answer
+  pub told : TellsEvent answer event code
   pub lent : new.lent.items ≡ []
   pub limits : new.limits ≡ old.limits
-  pub code_is : code ≡ 0
 
 -- on a closed handle the numbers are those of nothing
 abbrev pub HandsOutThrough : Option ConnectionState → Option ConnectionState → EventNumbers → ℕ → Type 0

@@ -13,7 +13,7 @@ use Rattle.c_handles.specs.declared.code.Spot.{Spot}
 use Rattle.c_handles.specs.declared.message.MessageNumbers.{MessageNumbers}
 use Rattle.c_handles.specs.declared.reader.ReaderState.{ReaderState}
 use Rattle.c_handles.specs.Given.{Copies}
-use Rattle.c_handles.specs.Reader.{Keeps, Takes, IsMessage, IsNoMessage, IsStruct, IsNoStruct, Writes, IsUnwritten, Recuts, IsUncut}
+use Rattle.c_handles.specs.Reader.{Keeps, Takes, IsMessage, IsNoMessage, IsStruct, IsNoStruct, Writes, IsUnwritten, Recuts, IsUncut, WritesForm, IsFormUnwritten, IsCanonicalFrame, IsNoCanonicalFrame}
 use Rattle.jamdrosek_c.specs.declared.tell.Step.{Step}
 use Rattle.jamdrosek_c.specs.Tell.{TellsStep, Tells, TellsNumbers, end_code, done_code}
 
@@ -93,6 +93,26 @@ RecutThrough mode words None new bytes spot code = IsClosed new code × (bytes.l
 RecutThrough mode words (Some old) None bytes spot code = ⊥
 RecutThrough mode words (Some old) (Some new) bytes spot code =
     Keeps old new × LieIn bytes new.lent × (answer : Result (Unit {0}) CallFault) × IsRecutOf old mode words new answer × Tells answer spot code
+
+-- what a reader lends of the canonical form of its frame's message
+abbrev pub IsFormOf : ReaderState → Mode → ReaderState → Result (Unit {0}) CallFault → Type 0
+IsFormOf old mode new (Ok done) = WritesForm mode old.limits old.came new.lent.items
+IsFormOf old mode new (Err fault) = IsFormUnwritten old.limits old.came fault × (new.lent.items ≡ [])
+
+abbrev pub FormThrough : Mode → Option ReaderState → Option ReaderState → Bytes → Spot → ℕ → Type 0
+FormThrough mode None new bytes spot code = IsClosed new code × (bytes.len ≡ 0) × Tells (Err faults.Closed) spot code
+FormThrough mode (Some old) None bytes spot code = ⊥
+FormThrough mode (Some old) (Some new) bytes spot code =
+    Keeps old new × LieIn bytes new.lent × (answer : Result (Unit {0}) CallFault) × IsFormOf old mode new answer × Tells answer spot code
+
+-- whether its message is canonical
+abbrev pub IsFormCheckOf : ReaderState → Result (Unit {0}) CallFault → Type 0
+IsFormCheckOf state (Ok done) = IsCanonicalFrame state.limits state.came
+IsFormCheckOf state (Err fault) = IsNoCanonicalFrame state.limits state.came fault
+
+abbrev pub CheckFormThrough : Option ReaderState → Spot → ℕ → Type 0
+CheckFormThrough None spot code = Tells (Err faults.Closed) spot code
+CheckFormThrough (Some state) spot code = (answer : Result (Unit {0}) CallFault) × IsFormCheckOf state answer × Tells answer spot code
 
 abbrev pub CopyThrough : Option ReaderState → ℕ → List ℕ → List ℕ → ℕ → Type 0
 CopyThrough None from old new number = (new ≡ old) × (number ≡ 0)

@@ -4,6 +4,8 @@ use Rattle.cp_frame.specs.declared.fault.FrameFault.{FrameFault}
 use Rattle.c_handles.specs.declared.code.CallFault.{CallFault}
 use Rattle.c_handles.specs.declared.code.Spot.{Spot}
 use Rattle.c_handles.specs.declared.message.MessageNumbers.{MessageNumbers}
+use Rattle.c_handles.specs.declared.event.EventNumbers.{EventNumbers}
+use Rattle.c_handles.specs.Event.{nothing}
 use Rattle.c_handles.specs.Code.{code_of, frame_code, spot_of, nowhere}
 use Rattle.c_handles.specs.Given.{over}
 use Rattle.c_handles.specs.Message.{of_kind}
@@ -37,6 +39,11 @@ pub record Tells (done : Result (Unit {0}) CallFault) (spot : Spot) (code : ℕ)
 abbrev pub TellsNumber : Result ℕ CallFault → ℕ → ℕ → Type 0
 TellsNumber (Ok number) out code = (out ≡ number) × (code ≡ 0)
 TellsNumber (Err fault) out code = (out ≡ 0) × (code ≡ code_of fault)
+
+-- the numbers of an event; or those of nothing, and the fault's number
+abbrev pub TellsEvent : Result EventNumbers CallFault → EventNumbers → ℕ → Type 0
+TellsEvent (Ok numbers) event code = (event ≡ numbers) × (code ≡ 0)
+TellsEvent (Err fault) event code = (event ≡ nothing) × (code ≡ code_of fault)
 
 -- the numbers of a message; or none, the fault's number, and what is to blame
 abbrev pub TellsNumbers : Result MessageNumbers CallFault → MessageNumbers → Spot → ℕ → Type 0

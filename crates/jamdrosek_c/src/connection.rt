@@ -7,11 +7,11 @@ ghost use Rattle.c_handles.specs.Limits.{bounds_of};
 ghost use Rattle.c_handles.specs.Connection.{LendsContent, LendsNone, LendsReason, LendsNoReason};
 ghost use Rattle.jamdrosek_c.specs.Reader.{mode_of, IsAllowedFor};
 ghost use Rattle.jamdrosek_c.specs.Connection as through;
-ghost use Rattle.jamdrosek_c.specs.Connection.{Opens, Through, Takes, Ends, Asks, Acts, CallsFor, AnswersTo, FailsTo, Settles};
+ghost use Rattle.jamdrosek_c.specs.Connection.{Opens, Through, Takes, Ends, Asks, Acts, CallsFor, AnswersTo, FailsTo, Releases, Settles};
 ghost use Rattle.jamdrosek_c.specs.Connection.{Lends, LendsOutgoing, Writes, HandsOutThrough, UsesThrough, CapThrough, FaultThrough};
 
 use crate::tell::{
-    CLOSED, DONE, NO_MEMORY, mode_of, tell_bytes, tell_cap, tell_count, tell_number,
+    CLOSED, DONE, NO_MEMORY, mode_of, tell_bytes, tell_cap, tell_count, tell_event, tell_number,
 };
 use c_handles::{
     Bytes, CallFault, CapNumbers, ConnectionHandle, ConnectionState, EventNumbers, LimitNumbers,
@@ -130,7 +130,8 @@ pub extern "C" fn jd_connection_wrote(
     }
 }
 
-/// Takes what happened first of what wasn't taken, as `Connection::next`. What the event before had is let go.
+/// Takes what happened first of what wasn't taken, as `Connection::next`. What the event before had is let go. Each entry of its table that is
+/// an import is one hold of it. F6: an entry couldn't be counted; the next call goes on with this event.
 #[unsafe(no_mangle)]
 pub extern "C" fn jd_connection_next(
     alloc: Global,
@@ -141,9 +142,9 @@ pub extern "C" fn jd_connection_next(
 {
     match connection.take(alloc) {
         Some(mut state) => {
-            *event = state.next();
+            let told = state.next();
             connection.put(state);
-            DONE
+            tell_event(told, event)
         }
         None => {
             *event = EventNumbers::NOTHING;
@@ -285,14 +286,14 @@ pub extern "C" fn jd_connection_finish(
     }
 }
 
-/// Gives an import back, with its whole count, as `Connection::release`.
+/// Gives back one hold of an import. The last one has it released, with its whole count, as `Connection::release` does.
 #[unsafe(no_mangle)]
 pub extern "C" fn jd_connection_release(
     alloc: Global,
     connection: &mut ConnectionHandle,
     import: u32,
 ) -> u32
-    ensures { Through connection.old.value connection.new.value result (Acts (events.Release import) result) }
+    ensures { Through connection.old.value connection.new.value result (Releases import result) }
 {
     match connection.take(alloc) {
         Some(mut state) => {

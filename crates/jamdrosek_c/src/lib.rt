@@ -20,8 +20,9 @@ pub use connection::{
     jd_connection_wrote,
 };
 pub use reader::{
-    jd_reader_check, jd_reader_close, jd_reader_copy, jd_reader_end, jd_reader_message,
-    jd_reader_needs, jd_reader_next, jd_reader_open, jd_reader_recut, jd_reader_write,
+    jd_reader_canonical, jd_reader_check, jd_reader_check_canonical, jd_reader_close,
+    jd_reader_copy, jd_reader_end, jd_reader_message, jd_reader_needs, jd_reader_next,
+    jd_reader_open, jd_reader_recut, jd_reader_write,
 };
 pub use relay::{jd_relay_close, jd_relay_end, jd_relay_feed, jd_relay_open};
 pub use tell::Step;

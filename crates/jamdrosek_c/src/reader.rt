@@ -3,6 +3,7 @@
 ghost use Rattle.std.specs.Prelude.{◌≡◌, ◌≢◌, None};
 ghost use Rattle.c_handles.specs.Limits.{bounds_of};
 ghost use Rattle.jamdrosek_c.specs.Reader.{mode_of, IsNew, IsAllowedFor, TakesThrough, EndsThrough, NeedsThrough, MessageThrough, CheckThrough, WriteThrough, RecutThrough, CopyThrough};
+ghost use Rattle.jamdrosek_c.specs.Reader.{FormThrough, CheckFormThrough};
 
 use crate::tell::{
     CLOSED, DONE, NO_MEMORY, Step, mode_of, tell, tell_bytes, tell_end, tell_numbers, tell_step,
@@ -178,6 +179,51 @@ pub extern "C" fn jd_reader_recut(
             *bytes = Bytes::of(&[]);
             tell(Err(CallFault::Closed), spot)
         }
+    }
+}
+
+/// Lends the canonical form of the frame's message, in a frame of one segment, as `canonical_message`.
+#[unsafe(no_mangle)]
+pub extern "C" fn jd_reader_canonical(
+    alloc: Global,
+    reader: &mut ReaderHandle,
+    packed: bool,
+    bytes: &mut Bytes,
+    spot: &mut Spot,
+) -> u32
+    ensures { FormThrough (mode_of packed) reader.old.value reader.new.value bytes.new spot.new result }
+{
+    match reader.take(alloc) {
+        Some(mut state) => {
+            let written = state.canonical(mode_of(packed));
+            *bytes = Bytes::of_buffer(&state.lent);
+            reader.put(state);
+            tell(written, spot)
+        }
+        None => {
+            *bytes = Bytes::of(&[]);
+            tell(Err(CallFault::Closed), spot)
+        }
+    }
+}
+
+/// Checks that the frame's message is canonical, as `is_canonical`.
+#[unsafe(no_mangle)]
+pub extern "C" fn jd_reader_check_canonical(
+    alloc: Global,
+    reader: &mut ReaderHandle,
+    spot: &mut Spot,
+) -> u32
+    ensures same { reader.new.value ≡ reader.old.value }
+    ensures told { CheckFormThrough reader.old.value spot.new result }
+{
+    match reader.take(alloc) {
+        Some(state) => {
+            let checked = state.check_canonical();
+            reader.put(state);
+            tell(checked, spot)
+        }
+        None => tell(Err(CallFault::Closed), spot),
     }
 }
 

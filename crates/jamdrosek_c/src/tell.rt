@@ -3,9 +3,9 @@
 ghost use Rattle.std.specs.Prelude.{◌≡◌};
 ghost use Rattle.jamdrosek_c.specs.Reader.{mode_of};
 ghost use Rattle.jamdrosek_c.specs.Connection.{TellsCap};
-ghost use Rattle.jamdrosek_c.specs.Tell.{Tells, TellsStep, TellsNumber, TellsNumbers, end_code, done_code};
+ghost use Rattle.jamdrosek_c.specs.Tell.{Tells, TellsEvent, TellsStep, TellsNumber, TellsNumbers, end_code, done_code};
 
-use c_handles::{CallFault, CapNumbers, MessageNumbers, NOWHERE, Spot};
+use c_handles::{CallFault, CapNumbers, EventNumbers, MessageNumbers, NOWHERE, Spot};
 use cp_frame::{FrameFault, Mode};
 
 /// All went well.
@@ -151,6 +151,22 @@ pub(crate) fn tell_number(number: Result<u32, CallFault>, out: &mut u32) -> u32
         }
         Err(fault) => {
             *out = 0;
+            fault.code()
+        }
+    }
+}
+
+/// An event, or none and the fault.
+pub(crate) fn tell_event(numbers: Result<EventNumbers, CallFault>, event: &mut EventNumbers) -> u32
+    ensures { TellsEvent numbers event.new result }
+{
+    match numbers {
+        Ok(numbers) => {
+            *event = numbers;
+            DONE
+        }
+        Err(fault) => {
+            *event = EventNumbers::NOTHING;
             fault.code()
         }
     }

@@ -8,6 +8,7 @@ pub mod Overdue
 pub mod Rosters
 pub mod Serving
 pub mod Sharing
+pub mod Summing
 pub mod Timing
 pub mod Unfailed
 pub mod Waking

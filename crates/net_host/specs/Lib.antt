@@ -7,3 +7,4 @@ pub mod Waking
 pub mod HostedConnections
 pub mod Floor
 pub mod Once
+pub mod Figures

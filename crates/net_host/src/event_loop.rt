@@ -4,6 +4,7 @@ ghost use Rattle.std.specs.Prelude.{◌≡◌, ◌<◌, ◌≤◌, ◌+◌, ℕ,
 ghost use Rattle.std.specs.VecDeque.{deque_capacity, deque_len};
 ghost use Rattle.slab.specs.Slab.{HasRoomFor, Updates, slab_len};
 ghost use Rattle.net_sockets.specs.Incoming.{Keeps};
+ghost use Rattle.net_host.specs.Figures.{SumsUp};
 ghost use Rattle.net_host.specs.Waking.{key_of};
 ghost use Rattle.net_host.specs.Timing.{IsDue, until};
 ghost use Rattle.net_host.specs.Floor.{HasOverdue, IsFirst, Rests, Rounds, Seats, Turns, floor_of, nobody, number_of, seen, waking};
@@ -11,6 +12,7 @@ ghost use Rattle.net_host.specs.Floor.{HasOverdue, IsFirst, Rests, Rounds, Seats
 use crate::allowance::Allowance;
 use crate::config::HostConfig;
 use crate::end::Ended;
+use crate::figures::{HostFigures, figures_of};
 use crate::hosted_connection::{HostedConnection, Turn, session_number};
 use crate::limits::HostLimits;
 use crate::pending::PendingConnection;
@@ -96,6 +98,13 @@ impl<S: DrivenSession, D: Socket> EventLoop<S, D> {
         ensures { result ≡ slab_len self.now.guests }
     {
         self.guests.len()
+    }
+
+    /// What the connections did that are served, and what is kept for them.
+    pub(crate) fn figures(&self) -> HostFigures
+        ensures { SumsUp S.table S.state self.now.guests result }
+    {
+        figures_of(&self.guests)
     }
 
     /// Whether one can go on at once.

@@ -4,6 +4,7 @@ ghost use Rattle.std.specs.Prelude.{◌≡◌, ◌<◌, ◌↔◌, Some, None, I
 ghost use Rattle.cp_objects.specs.Context.{time_after};
 ghost use Rattle.net_sockets.specs.Incoming.{came_of, count_of};
 ghost use Rattle.net_sockets.specs.Sockets.{flow_of_socket};
+ghost use Rattle.net_host.specs.Figures.{IsOfAll};
 ghost use Rattle.net_host.specs.Floor as floor;
 ghost use Rattle.net_host.specs.Floor.{IsFresh, LooksOn, Reports, Rests, Seats, connections_of, nobody, waking};
 ghost use Rattle.net_host.specs.Limits.{HasRoom};
@@ -15,6 +16,7 @@ ghost use Rattle.net_host.specs.declared.host.HostEvent.TheVariants as all_news;
 use crate::config::HostConfig;
 use crate::end::{End, Ended};
 use crate::event_loop::EventLoop;
+use crate::figures::HostFigures;
 use crate::limits::WhenFull;
 use crate::pending::PendingConnection;
 use crate::time::{earlier, has_come};
@@ -197,6 +199,14 @@ impl<S: DrivenSession> SessionHost<S> {
         self.event_loop.look(rt)?;
         self.alarm = Some(self.event_loop.now().saturating_add(milliseconds));
         Ok(())
+    }
+
+    /// What the connections did that are served now, and what is kept for them. It looks at each of them: so ask now and then, and not at
+    /// each event.
+    pub fn figures(&self) -> HostFigures
+        ensures { IsOfAll S.table S.state self.now result }
+    {
+        self.event_loop.figures()
     }
 
     /// Looks for news: an end of which there was none, the time that the program named, or a connection that waits. Where there is none of

@@ -2,6 +2,7 @@
 
 ghost use Rattle.std.specs.Prelude.{◌≡◌, ◌≤◌, ◌↔◌, [], IsTrue, Some, None, IfSome, IfNone, IfOk, IfErr, OnOk, OnErr, length, take};
 ghost use Rattle.cp_session.specs.Doing.{due_of};
+ghost use Rattle.cp_session.specs.State.{link_of};
 ghost use Rattle.net_sockets.specs.Reading.{Fits, came_by, ends_by};
 ghost use Rattle.net_host.specs.Feeding.{IsFed};
 ghost use Rattle.net_host.specs.HostedConnections.{Accounts, Adds, Breaks, CanTake, CanWrite, ClosesAdding, FailsAdding, FailsBy, HandsOver, HandsSome, Hears, IsOverdue, IsShort, MayHaveBytes, Minds, Proceeds, Rouses, Sends, Serves, StaysAdding, StopsShort, TakesIn, VisitsAdding, WorksAdding, end_or, heard, kept_by, new_served, served_of};
@@ -10,6 +11,7 @@ ghost use Rattle.net_host.specs.Waking.{session_of};
 use crate::allowance::Allowance;
 use crate::end::{End, Ended};
 use crate::pending::PendingConnection;
+use cp_connection::ConnectionStats;
 use cp_objects::Waker;
 use cp_session::{Budget, DrivenSession, Limit, SessionEvent};
 use mio::event::Event;
@@ -111,6 +113,13 @@ impl<S: DrivenSession, D: Socket> HostedConnection<S, D> {
         ensures { let at = served_of S.state D.flow in result ≡ kept_by S.table (at self.now) }
     {
         self.session.kept()
+    }
+
+    /// What was taken of its peer, and sent to it.
+    pub(crate) fn stats(&self) -> ConnectionStats
+        ensures { result ≡ (link_of (S.state self.now.session)).stats }
+    {
+        self.session.stats()
     }
 
     /// The number of its session, under this key.

@@ -5,6 +5,7 @@ mod allowance;
 mod config;
 mod end;
 mod event_loop;
+mod figures;
 mod host;
 mod hosted_connection;
 mod laws;
@@ -14,6 +15,7 @@ mod time;
 
 pub use config::HostConfig;
 pub use end::End;
+pub use figures::HostFigures;
 pub use host::{Host, HostEvent, SessionHost};
 pub use laws::{fails_once, keeps_within, reported_once, sleeps_past_none, wakes_its_own};
 pub use limits::{HostLimits, WhenFull};

@@ -2,6 +2,7 @@
 
 use crate::gate::{Gate, GateFault, PairGuard};
 use crate::read_buffer::{PIECE, ReadBuffer};
+use crate::tape::Tape;
 use crate::watch::Watch;
 use cp_relay::{Breach, RelayFault};
 use cp_stream::Refusal;
@@ -132,12 +133,13 @@ impl Direction {
 
     /// Takes the guard's answers, which go out between two messages, once all was written. Where this direction has
     /// ended, nobody reads them.
-    pub(crate) fn take_answers(&mut self, guard: &mut PairGuard) {
+    pub(crate) fn take_answers(&mut self, guard: &mut PairGuard, tape: &mut Tape) {
         if self.ended.is_some() {
             guard.answers.clear();
         } else if self.is_written() {
             mem::swap(&mut self.out, &mut guard.answers);
             guard.answers.clear();
+            self.record(tape);
         }
     }
 
@@ -217,8 +219,16 @@ impl Direction {
             Ok(left) => self.piece.leave(left),
             Err(fault) => self.ended = Some(DirectionEnd::from(fault)),
         }
+        self.record(&mut watch.tape);
         if self.out.is_empty() {
             put_larger_first(spare, &mut self.out);
+        }
+    }
+
+    /// Records what goes out, none of which was there before.
+    fn record(&self, tape: &mut Tape) {
+        if !self.out.is_empty() {
+            tape.record(!self.is_callers, &self.out);
         }
     }
 

@@ -7,6 +7,7 @@ mod pair;
 mod plan;
 mod proxy;
 mod read_buffer;
+mod tape;
 mod target;
 mod watch;
 

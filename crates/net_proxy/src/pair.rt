@@ -3,6 +3,7 @@
 use crate::direction::{Direction, DirectionEnd, is_reset};
 use crate::gate::PairGuard;
 use crate::plan::RelayPlan;
+use crate::tape::{PairTape, Tape};
 use crate::watch::{RelayedFrom, Watch};
 use cp_commands::{ACCEPTED, BROKEN, REFUSED};
 use cp_frame::FrameFault;
@@ -111,6 +112,8 @@ pub(crate) enum PairTurn {
 /// A connection that was accepted, and the one to the target.
 pub(crate) struct Pair<'r> {
     guard: Option<PairGuard<'r>>,
+    /// Its recording, if it is recorded; while it has its turn, the watch has that.
+    pub tape: Option<PairTape>,
     near: NonblockingStream,
     far: NonblockingStream,
     there: Direction,
@@ -128,6 +131,7 @@ impl<'r> Drop for Pair<'r> {
     fn drop(self) {
         let Pair {
             guard: _,
+            tape: _,
             near: _,
             far: _,
             there: _,
@@ -152,6 +156,7 @@ impl<'r> Pair<'r> {
         match directions(alloc, plan) {
             Ok((there, back)) => Ok(Pair {
                 guard: plan.guard(alloc),
+                tape: None,
                 near,
                 far,
                 there,
@@ -198,12 +203,14 @@ impl<'r> Pair<'r> {
         watch: &mut Watch<W>,
         spare: &mut Vec<u8>,
     ) -> PairTurn {
+        watch.tape.change(&mut self.tape);
         watch.turn_to(self.place(false));
         self.there.turn(&mut self.near, &mut self.far, &mut self.guard, watch, spare);
-        self.pass_answers_on();
+        self.pass_answers_on(&mut watch.tape);
         watch.turn_to(self.place(true));
         self.back.turn(&mut self.far, &mut self.near, &mut self.guard, watch, spare);
-        self.pass_answers_on();
+        self.pass_answers_on(&mut watch.tape);
+        watch.tape.change(&mut self.tape);
         self.pass_ends_on();
         if let Some(ended) = self.ended() {
             return PairTurn::Ends(ended);
@@ -228,9 +235,9 @@ impl<'r> Pair<'r> {
     }
 
     /// Has the guard's answers go back.
-    fn pass_answers_on(&mut self) {
+    fn pass_answers_on(&mut self, tape: &mut Tape) {
         if let Some(guard) = &mut self.guard {
-            self.back.take_answers(guard);
+            self.back.take_answers(guard, tape);
         }
     }
 

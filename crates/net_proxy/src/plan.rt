@@ -2,13 +2,15 @@
 
 use crate::gate::{Gate, GuardPlan, PairGuard};
 use crate::proxy::Proxy;
+use crate::tape::Tape;
 use crate::target::Target;
 use crate::watch::Watch;
-use cp_commands::{BROKEN, RelayForm, RelayRoute};
+use cp_commands::{BROKEN, RecordPlan, RelayForm, RelayRoute};
 use cp_frame::Mode;
 use cp_relay::{Filter, Output, Relay};
 use net_sockets::{Incoming, Listener};
 use std::alloc::{AllocGlobal, Global};
+use std::fs::{File, Files};
 use std::io::{self, Write};
 use std::net::Net;
 use std::time::Clock;
@@ -19,6 +21,8 @@ pub struct RelayPlan<'r> {
     pub form: RelayForm,
     /// How those that connect are guarded, if they are.
     pub guard: Option<GuardPlan<'r>>,
+    /// How they are recorded, if they are.
+    pub record: Option<RecordPlan<'r>>,
 }
 
 impl<'r> RelayPlan<'r> {
@@ -76,10 +80,9 @@ pub fn relay_port<N, W: Write + Drop, E: Write>(
     err: &mut E,
 ) -> u8
 where
-    N: Net + Clock + AllocGlobal,
+    N: Net + Clock + Files<File = File> + AllocGlobal,
 {
-    let mut watch = Watch::new(rt.alloc(), out, plan.form.shows, route.count > 1);
-    match relay(rt, route, plan, &mut watch, err) {
+    match relay(rt, route, plan, out, err) {
         Ok(status) => status,
         Err(error) => {
             let _ = writeln!(err, "device: {error}");
@@ -93,17 +96,20 @@ fn relay<N, W: Write + Drop, E: Write>(
     rt: &N,
     route: &RelayRoute,
     plan: &RelayPlan,
-    watch: &mut Watch<W>,
+    out: &mut W,
     err: &mut E,
 ) -> io::Result<u8>
 where
-    N: Net + Clock + AllocGlobal,
+    N: Net + Clock + Files<File = File> + AllocGlobal,
 {
     let target = Target::of(rt, route.target)?;
     let listener = Listener::bind(rt, route.address)?;
     let incoming = Incoming::new(listener, Some(route.count as u64));
+    let tape = Tape::new(rt, plan.record, &plan.form)?;
+    let mut watch = Watch::new(rt.alloc(), out, plan.form.shows, route.count > 1, tape);
     let mut proxy = Proxy::new(rt, plan, incoming, target)?;
-    let status = proxy.run(rt, watch, err);
+    let status = proxy.run(rt, &mut watch, err);
     drop(proxy);
+    drop(watch);
     status
 }

@@ -6,6 +6,7 @@ ghost use Rattle.net_sockets.specs.Incoming.{came_of, count_of};
 use crate::direction::DirectionEnd;
 use crate::pair::{Pair, PairEnd, PairTurn};
 use crate::plan::RelayPlan;
+use crate::tape::Tape;
 use crate::target::Target;
 use crate::watch::Watch;
 use cp_commands::ACCEPTED;
@@ -15,6 +16,7 @@ use net_sockets::{Incoming, NonblockingStream};
 use slab::Slab;
 use std::alloc::{AllocGlobal, Global};
 use std::collections::VecDeque;
+use std::fs::{File, Files};
 use std::io::{self, Write};
 use std::mem;
 use std::net::Net;
@@ -28,6 +30,9 @@ const EVENTS: usize = 256;
 
 /// The most connections that are relayed at once: two descriptors each, below the 1,024 that most systems let a process have.
 const MOST_PAIRS: usize = 480;
+
+/// The most that are relayed at once where they are recorded, with three files more each.
+const MOST_RECORDED: usize = 192;
 
 /// The most capacity that is kept for the next long frame.
 const MOST_SPARE: usize = 4_194_304;
@@ -105,12 +110,15 @@ impl<'a, 'p, 'r> Proxy<'a, 'p, 'r> {
     }
 
     /// Relays until the last connection has ended, and gives the status.
-    pub(crate) fn run<N: Net + Clock, W: Write + Drop, E: Write>(
+    pub(crate) fn run<N, W: Write + Drop, E: Write>(
         &mut self,
         rt: &N,
         watch: &mut Watch<W>,
         err: &mut E,
-    ) -> io::Result<u8> {
+    ) -> io::Result<u8>
+    where
+        N: Net + Clock + Files<File = File> + AllocGlobal,
+    {
         for _ in 0..u64::MAX {
             if self.incoming.is_full() && self.pairs.is_empty() {
                 break;
@@ -121,12 +129,15 @@ impl<'a, 'p, 'r> Proxy<'a, 'p, 'r> {
     }
 
     /// Waits for events, takes connections, and gives each pair that can go on a turn.
-    fn round<N: Net + Clock, W: Write + Drop, E: Write>(
+    fn round<N, W: Write + Drop, E: Write>(
         &mut self,
         rt: &N,
         watch: &mut Watch<W>,
         err: &mut E,
-    ) -> io::Result<()> {
+    ) -> io::Result<()>
+    where
+        N: Net + Clock + Files<File = File> + AllocGlobal,
+    {
         let wait = self.wait();
         self.poll.poll(&mut self.events, wait)?;
         let has_event = self.note_events()?;
@@ -137,8 +148,12 @@ impl<'a, 'p, 'r> Proxy<'a, 'p, 'r> {
         self.accept(rt, watch, err);
         for _ in 0..self.queue.len() {
             if let Some(key) = self.queue.pop_front() {
+                watch.tape.tick(rt)?;
                 self.turn(key, watch, err)?;
             }
+        }
+        if let Some(fault) = watch.tape.take_fault() {
+            let _ = writeln!(err, "recording ended: {fault}");
         }
         watch.end_round()
     }
@@ -181,7 +196,16 @@ impl<'a, 'p, 'r> Proxy<'a, 'p, 'r> {
     fn can_accept(&self) -> bool
         ensures { IsTrue result → came_of self.now.incoming < count_of self.now.incoming }
     {
-        self.incoming.may_accept() && self.pairs.len() < MOST_PAIRS
+        self.incoming.may_accept() && self.pairs.len() < self.most_pairs()
+    }
+
+    /// The most connections at once.
+    fn most_pairs(&self) -> usize {
+        if self.plan.record.is_some() {
+            MOST_RECORDED
+        } else {
+            MOST_PAIRS
+        }
     }
 
     /// Notes what events say of pairs. Says whether the listener had one. Nothing is closed before all are read, so no event
@@ -204,7 +228,10 @@ impl<'a, 'p, 'r> Proxy<'a, 'p, 'r> {
     }
 
     /// Takes the connections that wait.
-    fn accept<N: Net, W: Write + Drop, E: Write>(&mut self, rt: &N, watch: &Watch<W>, err: &mut E) {
+    fn accept<N, W: Write + Drop, E: Write>(&mut self, rt: &N, watch: &mut Watch<W>, err: &mut E)
+    where
+        N: Net + Clock + Files<File = File> + AllocGlobal,
+    {
         for _ in 0..u64::MAX {
             if !self.can_accept() {
                 break;
@@ -213,7 +240,7 @@ impl<'a, 'p, 'r> Proxy<'a, 'p, 'r> {
                 continue;
             };
             let number = self.incoming.admit();
-            if let Err(error) = self.admit(rt, near, number) {
+            if let Err(error) = self.admit(rt, near, number, &mut watch.tape) {
                 // A target that can't be reached counts as one that failed.
                 let end = DirectionEnd::Unwritten(error);
                 let comes_back = false;
@@ -223,7 +250,16 @@ impl<'a, 'p, 'r> Proxy<'a, 'p, 'r> {
     }
 
     /// Makes the pair of a connection. Where this fails both its streams are closed.
-    fn admit<N: Net>(&mut self, rt: &N, near: NonblockingStream, number: u64) -> io::Result<()> {
+    fn admit<N>(
+        &mut self,
+        rt: &N,
+        near: NonblockingStream,
+        number: u64,
+        tape: &mut Tape,
+    ) -> io::Result<()>
+    where
+        N: Net + Clock + Files<File = File> + AllocGlobal,
+    {
         let far = match self.target.connect(rt) {
             Ok(far) => far,
             Err(error) => {
@@ -238,6 +274,7 @@ impl<'a, 'p, 'r> Proxy<'a, 'p, 'r> {
             drop(pair);
             return registered;
         }
+        pair.tape = tape.begin(rt, number);
         self.pairs.insert(pair)?;
         Ok(())
     }
@@ -257,8 +294,7 @@ impl<'a, 'p, 'r> Proxy<'a, 'p, 'r> {
             PairTurn::More => self.queue.push_back(key)?,
             PairTurn::Waits => (),
             PairTurn::Ends(ended) => {
-                // This closes both streams.
-                drop(self.pairs.try_remove(key));
+                self.close(key, &mut watch.tape);
                 self.report(watch, err, number, ended);
             }
         }
@@ -266,6 +302,14 @@ impl<'a, 'p, 'r> Proxy<'a, 'p, 'r> {
             drop(mem::replace(&mut self.spare, Vec::new(self.alloc)));
         }
         Ok(())
+    }
+
+    /// Closes both streams of a pair, and its recording.
+    fn close(&mut self, key: usize, tape: &mut Tape) {
+        if let Some(mut pair) = self.pairs.try_remove(key) {
+            tape.end(pair.tape.take());
+            drop(pair);
+        }
     }
 
     /// Says how a connection ended, where it didn't end well.

@@ -1,6 +1,7 @@
-//! The lines of the messages that go.
+//! The lines of the messages that go, and their recordings.
 
 use crate::pair::arrow;
+use crate::tape::Tape;
 use cp_lines::push_line;
 use cp_relay::{Cause, JudgedCall, Rules, Visitor};
 use cp_rpc::MessageView;
@@ -28,10 +29,17 @@ pub(crate) struct Watch<'a, W> {
     /// The error of the writer, which fails no more.
     failed: Option<io::Error>,
     place: RelayedFrom,
+    pub tape: Tape<'a>,
 }
 
 impl<'a, W: Write + Drop> Watch<'a, W> {
-    pub(crate) fn new(alloc: Global, out: &'a mut W, shows: bool, numbers: bool) -> Watch<'a, W> {
+    pub(crate) fn new(
+        alloc: Global,
+        out: &'a mut W,
+        shows: bool,
+        numbers: bool,
+        tape: Tape<'a>,
+    ) -> Watch<'a, W> {
         Watch {
             alloc,
             out,
@@ -44,6 +52,7 @@ impl<'a, W: Write + Drop> Watch<'a, W> {
                 number: 0,
                 comes_back: false,
             },
+            tape,
         }
     }
 

@@ -1,17 +1,19 @@
 //! `notebook` of notebook.capnp, made by capnpc_rattle.
 
-ghost use Rattle.std.specs.Prelude.{◌≡◌, IfOk, OnOk, OnErr, Err, ◌↔◌, ◌≤◌, ◌^◌, length, ◌+◌, []};
+ghost use Rattle.std.specs.Prelude.{◌≡◌, IfOk, OnOk, OnErr, Err, ◌↔◌, ◌≤◌, ◌^◌, length, ◌+◌, ◌∷◌, [], true, false};
 ghost use Rattle.cp_tree.specs.Seen.{pointee_of};
 ghost use Rattle.cp_fields.specs.Numbers.{plain};
 ghost use Rattle.cp_fields.specs.Pointers.{Reads, cap_field, struct_field, text_field};
 ghost use Rattle.cp_builder.specs.declared.fault.BuildError.TheVariants.{TooLong};
 ghost use Rattle.cp_builder.specs.Drafts.{blank, text_tree, with_pointer, with_uint};
-ghost use Rattle.cp_servants.specs.Naming.{pointer_naming, with_named};
-ghost use Rattle.cp_interfaces.specs.Calls.{outgoing_call_of, request_of};
+ghost use Rattle.cp_servants.specs.Naming.{pointer_naming};
+ghost use Rattle.cp_interfaces.specs.Calls.{IsCall, MakesOf, request_of};
+ghost use Rattle.cp_interfaces.specs.Faults.{Unbuilt, Unnamed};
 ghost use Rattle.cp_interfaces.specs.Promises.{Finds, promised_cap};
 ghost use Rattle.cp_interfaces.specs.ServiceCalls.{Answers};
-ghost use Rattle.cp_interfaces.specs.ServiceCalls.{MakesOf};
+ghost use Rattle.cp_interfaces.specs.Tables.{IsFull, may_name, may_name_all, naming, none_named};
 ghost use Rattle.cp_interfaces.specs.Services.{At, at};
+ghost use Rattle.cp_interfaces.specs.declared.naming_error.NamingError.TheVariants as errors;
 ghost use Rattle.notebook.specs.Notebook.{NotebookKind, NotebookTakes, any_notebook};
 
 use crate::page::PageClient;
@@ -19,14 +21,13 @@ use crate::watcher::WatcherClient;
 use cp_builder::{BuildError, StructBuilder};
 use cp_fields::{StructReader, TextReader, WrongKind};
 use cp_interfaces::{
-    CallTarget, Caller, CapFault, CapTableBuilder, Dispatch, LaterAnswer, Lends, MethodCall,
-    MethodFault, MethodResult, NoFieldsBuilder, NoFieldsPipeline, NoFieldsReader, ObjectDispatch,
-    Pipeline, ResultPayload, Results, ServiceCall, ServiceObject, TypedClient, TypedPipeline,
-    TypedResolver, refuse,
+    CallTarget, Caller, CapFault, CapTable, CapTableBuilder, Dispatch, LaterAnswer, Lends,
+    MethodCall, MethodFault, MethodRequest, MethodResult, NamingError, NoFieldsBuilder,
+    NoFieldsPipeline, NoFieldsReader, ObjectDispatch, Pipeline, ResultPayload, Results,
+    ServiceCall, ServiceObject, TypedClient, TypedPipeline, TypedResolver, refuse,
 };
-use cp_objects::Context;
-use cp_refs::{Cap, Caps, Request};
-use cp_servants::{OutgoingCall, Reply};
+use cp_objects::{Context, SessionCap};
+use cp_servants::Reply;
 use cp_tree::Whole;
 use std::alloc::{AllocError, Global};
 
@@ -42,7 +43,7 @@ impl NotebookClient {
     pub const ID: u64 = 0x845bdbd96c36d051;
 
     /// The object that a capability stands for.
-    pub fn new(alloc: Global, cap: Cap) -> NotebookClient
+    pub fn new(alloc: Global, cap: SessionCap) -> NotebookClient
         ensures { result.target ≡ cap }
     {
         NotebookClient {
@@ -51,8 +52,9 @@ impl NotebookClient {
     }
 
     /// A call of `add @0`.
-    pub fn add_request(&self, text: &str) -> Result<Request, BuildError>
-        ensures { IfOk result (λ r. r ≡ request_of 0x845bdbd96c36d051 0 (with_pointer (blank 0 1) 0 (text_tree text.now)) []) }
+    pub fn add_request(&self, text: &str) -> Result<MethodRequest<'_>, BuildError>
+        ensures request { IfOk result (λ r. IsCall r self.now.target (request_of 0x845bdbd96c36d051 0 (with_pointer (blank 0 1) 0 (text_tree text.now)) [])) }
+        ensures long { result ≡ Err TooLong → 2 ^ 29 ≤ length text.now + 1 }
     {
         let mut params: StructBuilder<0, 1> = StructBuilder::new(self.target.alloc())?;
         params.set_pointer(0, cp_builder::text_of(self.target.alloc(), text)?);
@@ -66,22 +68,16 @@ impl NotebookClient {
         caller: &mut C,
         text: &str,
     ) -> Result<NotebookAddResultsPipeline, C::Fault>
-        ensures { MakesOf (λ p. p.at) C.sends caller.old self.now.target 0x845bdbd96c36d051 0 (with_pointer (blank 0 1) 0 (text_tree text.now)) [] result caller.new }
+        ensures { MakesOf (λ p. p.at) C.number C.sends C.Fault.From-2.from_gives (Unbuilt C.Fault.From-1.from_gives (2 ^ 29 ≤ length text.now + 1)) caller.old self.now.target 0x845bdbd96c36d051 0 (with_pointer (blank 0 1) 0 (text_tree text.now)) [] result caller.new }
     {
-        let request = self.add_request(text)?;
-        Ok(NotebookAddResultsPipeline::of(self.target.call(caller, request)?))
-    }
-
-    /// A call of `add` that an object makes. With the mark the object is told what it came to.
-    pub fn add_call(&self, text: &str, call_id: u64) -> Result<OutgoingCall, BuildError>
-        ensures { IfOk result (λ call. call ≡ outgoing_call_of self.now.target (request_of 0x845bdbd96c36d051 0 (with_pointer (blank 0 1) 0 (text_tree text.now)) []) call_id) }
-    {
-        Ok(self.target.outgoing(self.add_request(text)?, call_id)?)
+        let call = self.add_request(text)?;
+        Ok(NotebookAddResultsPipeline::of(self.target.call(caller, call.request)?))
     }
 
     /// A call of `open @1`.
-    pub fn open_request(&self, id: u32) -> Result<Request, BuildError>
-        ensures { IfOk result (λ r. r ≡ request_of 0x845bdbd96c36d051 1 (with_uint (blank 1 0) 32 0 id) []) }
+    pub fn open_request(&self, id: u32) -> Result<MethodRequest<'_>, BuildError>
+        ensures request { IfOk result (λ r. IsCall r self.now.target (request_of 0x845bdbd96c36d051 1 (with_uint (blank 1 0) 32 0 id) [])) }
+        ensures long { result ≡ Err TooLong → ⊥ }
     {
         let mut params: StructBuilder<1, 0> = StructBuilder::new(self.target.alloc())?;
         params.set_u32(0, id);
@@ -95,31 +91,25 @@ impl NotebookClient {
         caller: &mut C,
         id: u32,
     ) -> Result<NotebookOpenResultsPipeline, C::Fault>
-        ensures { MakesOf (λ p. p.at) C.sends caller.old self.now.target 0x845bdbd96c36d051 1 (with_uint (blank 1 0) 32 0 id) [] result caller.new }
+        ensures { MakesOf (λ p. p.at) C.number C.sends C.Fault.From-2.from_gives (Unbuilt C.Fault.From-1.from_gives ⊥) caller.old self.now.target 0x845bdbd96c36d051 1 (with_uint (blank 1 0) 32 0 id) [] result caller.new }
     {
-        let request = self.open_request(id)?;
-        Ok(NotebookOpenResultsPipeline::of(self.target.call(caller, request)?))
-    }
-
-    /// A call of `open` that an object makes. With the mark the object is told what it came to.
-    pub fn open_call(&self, id: u32, call_id: u64) -> Result<OutgoingCall, BuildError>
-        ensures { IfOk result (λ call. call ≡ outgoing_call_of self.now.target (request_of 0x845bdbd96c36d051 1 (with_uint (blank 1 0) 32 0 id) []) call_id) }
-    {
-        Ok(self.target.outgoing(self.open_request(id)?, call_id)?)
+        let call = self.open_request(id)?;
+        Ok(NotebookOpenResultsPipeline::of(self.target.call(caller, call.request)?))
     }
 
     /// A call of `watch @2`.
-    pub fn watch_request(&self, watcher: WatcherClient) -> Result<Request, BuildError>
-        ensures { IfOk result (λ r. r ≡ request_of 0x845bdbd96c36d051 2 (with_pointer (blank 0 1) 0 (pointer_naming [] watcher.target)) (with_named [] watcher.target)) }
+    pub fn watch_request(&self, watcher: WatcherClient) -> Result<MethodRequest<'_>, NamingError>
+        ensures request { IfOk result (λ r. IsCall r self.now.target (request_of 0x845bdbd96c36d051 2 (with_pointer (blank 0 1) 0 (pointer_naming (none_named).caps watcher.target.cap)) ((naming none_named watcher.target)).caps)) }
+        ensures long { result ≡ Err errors.TooLong → ⊥ }
+        ensures own { OnOk result (may_name_all self.now.target.session none_named (watcher.target ∷ []) ≡ true) }
+        ensures other { result ≡ Err errors.OtherSession → may_name_all self.now.target.session none_named (watcher.target ∷ []) ≡ false }
     {
         let mut params: StructBuilder<0, 1> = StructBuilder::new(self.target.alloc())?;
         let mut table = CapTableBuilder::new(self.target.alloc());
         params.set_pointer(0, table.add(watcher.target.into_cap())?);
         let content = params.into_whole();
-        Ok(
-            self.target
-                .request_naming(0x845bdbd96c36d051, 2, content, table),
-        )
+        self.target
+            .request_naming(0x845bdbd96c36d051, 2, content, table)
     }
 
     /// Tells a watcher of each note that is added from now on.
@@ -128,26 +118,16 @@ impl NotebookClient {
         caller: &mut C,
         watcher: WatcherClient,
     ) -> Result<NotebookWatchResultsPipeline, C::Fault>
-        ensures { MakesOf (λ p. p.at) C.sends caller.old self.now.target 0x845bdbd96c36d051 2 (with_pointer (blank 0 1) 0 (pointer_naming [] watcher.target)) (with_named [] watcher.target) result caller.new }
+        ensures { MakesOf (λ p. p.at) C.number C.sends C.Fault.From-2.from_gives (Unnamed C.Fault.From-2.from_gives ⊥ (may_name_all self.now.target.session none_named (watcher.target ∷ []))) caller.old self.now.target 0x845bdbd96c36d051 2 (with_pointer (blank 0 1) 0 (pointer_naming (none_named).caps watcher.target.cap)) ((naming none_named watcher.target)).caps result caller.new }
     {
-        let request = self.watch_request(watcher)?;
-        Ok(NotebookWatchResultsPipeline::of(self.target.call(caller, request)?))
-    }
-
-    /// A call of `watch` that an object makes. With the mark the object is told what it came to.
-    pub fn watch_call(
-        &self,
-        watcher: WatcherClient,
-        call_id: u64,
-    ) -> Result<OutgoingCall, BuildError>
-        ensures { IfOk result (λ call. call ≡ outgoing_call_of self.now.target (request_of 0x845bdbd96c36d051 2 (with_pointer (blank 0 1) 0 (pointer_naming [] watcher.target)) (with_named [] watcher.target)) call_id) }
-    {
-        Ok(self.target.outgoing(self.watch_request(watcher)?, call_id)?)
+        let call = self.watch_request(watcher)?;
+        Ok(NotebookWatchResultsPipeline::of(self.target.call(caller, call.request)?))
     }
 
     /// A call of `next @3`.
-    pub fn next_request(&self) -> Result<Request, BuildError>
-        ensures { IfOk result (λ r. r ≡ request_of 0x845bdbd96c36d051 3 (blank 0 0) []) }
+    pub fn next_request(&self) -> Result<MethodRequest<'_>, BuildError>
+        ensures request { IfOk result (λ r. IsCall r self.now.target (request_of 0x845bdbd96c36d051 3 (blank 0 0) [])) }
+        ensures long { result ≡ Err TooLong → ⊥ }
     {
         let params: StructBuilder<0, 0> = StructBuilder::new(self.target.alloc())?;
         let content = params.into_whole();
@@ -156,17 +136,10 @@ impl NotebookClient {
 
     /// The page of the note that is added next. Calls of it wait for that note.
     pub fn next<C: Caller>(&self, caller: &mut C) -> Result<NotebookNextResultsPipeline, C::Fault>
-        ensures { MakesOf (λ p. p.at) C.sends caller.old self.now.target 0x845bdbd96c36d051 3 (blank 0 0) [] result caller.new }
+        ensures { MakesOf (λ p. p.at) C.number C.sends C.Fault.From-2.from_gives (Unbuilt C.Fault.From-1.from_gives ⊥) caller.old self.now.target 0x845bdbd96c36d051 3 (blank 0 0) [] result caller.new }
     {
-        let request = self.next_request()?;
-        Ok(NotebookNextResultsPipeline::of(self.target.call(caller, request)?))
-    }
-
-    /// A call of `next` that an object makes. With the mark the object is told what it came to.
-    pub fn next_call(&self, call_id: u64) -> Result<OutgoingCall, BuildError>
-        ensures { IfOk result (λ call. call ≡ outgoing_call_of self.now.target (request_of 0x845bdbd96c36d051 3 (blank 0 0) []) call_id) }
-    {
-        Ok(self.target.outgoing(self.next_request()?, call_id)?)
+        let call = self.next_request()?;
+        Ok(NotebookNextResultsPipeline::of(self.target.call(caller, call.request)?))
     }
 }
 
@@ -233,7 +206,7 @@ pub trait NotebookServer: ServiceObject {
         call: &mut NotebookAddCall<'_>,
         context: &mut Context<Self::Makes>,
     ) -> MethodResult
-        ensures { Answers (λ p. p.body) (λ d. d.body) (λ d. []) notebook_kind.on_add (at self.old context.old) call.old call.new result (at self.new context.new) };
+        ensures { Answers (λ p. p.body) (λ d. d.body) (λ d. none_named) notebook_kind.on_add (at self.old context.old) call.old call.new result (at self.new context.new) };
 
     /// Makes an object for a note. It goes once its client drops it.
     fn open_(
@@ -249,7 +222,7 @@ pub trait NotebookServer: ServiceObject {
         call: &mut NotebookWatchCall<'_>,
         context: &mut Context<Self::Makes>,
     ) -> MethodResult
-        ensures { Answers (λ p. p.body) (λ d. d.body) (λ d. []) notebook_kind.on_watch (at self.old context.old) call.old call.new result (at self.new context.new) };
+        ensures { Answers (λ p. p.body) (λ d. d.body) (λ d. none_named) notebook_kind.on_watch (at self.old context.old) call.old call.new result (at self.new context.new) };
 
     /// The page of the note that is added next. Calls of it wait for that note.
     fn next(
@@ -371,7 +344,7 @@ impl NotebookAddResultsBuilder {
 impl Results for NotebookAddResultsBuilder {
     ghost content = { λ d. d.body };
 
-    ghost names = { λ d. [] };
+    ghost names = { λ d. none_named };
 
     fn into_parts(self, alloc: Global) -> (Whole, CapTableBuilder) {
         (self.body.into_whole(), CapTableBuilder::new(alloc))
@@ -423,8 +396,8 @@ impl<'a> NotebookOpenResultsReader<'a> {
     }
 
     /// `page @0`, of those that a table has.
-    pub fn page_client(&self, alloc: Global, caps: &Caps) -> Result<PageClient, CapFault>
-        ensures { Finds result (λ c. c.target) (cap_field (pointee_of self.now.body 0)) caps.now }
+    pub fn page_client(&self, alloc: Global, caps: CapTable<'_>) -> Result<PageClient, CapFault>
+        ensures { Finds result (λ c. c.target) (cap_field (pointee_of self.now.body 0)) caps.entry }
     {
         let place = self.page()?;
         Ok(PageClient {
@@ -446,7 +419,7 @@ impl NotebookOpenResultsBuilder {
     /// A struct whose fields are all as by default.
     pub fn new(alloc: Global) -> Result<NotebookOpenResultsBuilder, AllocError>
         ensures blank { IfOk result (λ d. d.body ≡ blank 0 1) }
-        ensures names { IfOk result (λ d. d.table ≡ []) }
+        ensures names { IfOk result (λ d. d.table ≡ none_named) }
     {
         Ok(NotebookOpenResultsBuilder {
             body: StructBuilder::new(alloc)?,
@@ -455,11 +428,13 @@ impl NotebookOpenResultsBuilder {
     }
 
     /// Sets `page`.
-    pub fn set_page(&mut self, value: PageClient) -> Result<(), BuildError>
-        ensures set { OnOk result (self.new.body ≡ with_pointer self.old.body 0 (pointer_naming self.old.table value.target)) }
-        ensures added { OnOk result (self.new.table ≡ with_named self.old.table value.target) }
+    pub fn set_page(&mut self, value: PageClient) -> Result<(), NamingError>
+        ensures set { OnOk result (self.new.body ≡ with_pointer self.old.body 0 (pointer_naming self.old.table.caps value.target.cap)) }
+        ensures added { OnOk result (self.new.table ≡ naming self.old.table value.target) }
         ensures left { OnErr result (self.new ≡ self.old) }
-        ensures full { result ≡ Err TooLong ↔ 2 ^ 32 ≤ length self.old.table + 1 }
+        ensures full { result ≡ Err errors.TooLong ↔ IsFull self.old.table }
+        ensures own { OnOk result (may_name self.old.table value.target ≡ true) }
+        ensures other { result ≡ Err errors.OtherSession → may_name self.old.table value.target ≡ false }
     {
         let pointer = self.table.add(value.target.into_cap())?;
         self.body.set_pointer(0, pointer);
@@ -538,8 +513,12 @@ impl<'a> NotebookWatchParamsReader<'a> {
     }
 
     /// `watcher @0`, of those that a table has.
-    pub fn watcher_client(&self, alloc: Global, caps: &Caps) -> Result<WatcherClient, CapFault>
-        ensures { Finds result (λ c. c.target) (cap_field (pointee_of self.now.body 0)) caps.now }
+    pub fn watcher_client(
+        &self,
+        alloc: Global,
+        caps: CapTable<'_>,
+    ) -> Result<WatcherClient, CapFault>
+        ensures { Finds result (λ c. c.target) (cap_field (pointee_of self.now.body 0)) caps.entry }
     {
         let place = self.watcher()?;
         Ok(WatcherClient {
@@ -576,8 +555,8 @@ impl<'a> NotebookNextResultsReader<'a> {
     }
 
     /// `page @0`, of those that a table has.
-    pub fn page_client(&self, alloc: Global, caps: &Caps) -> Result<PageClient, CapFault>
-        ensures { Finds result (λ c. c.target) (cap_field (pointee_of self.now.body 0)) caps.now }
+    pub fn page_client(&self, alloc: Global, caps: CapTable<'_>) -> Result<PageClient, CapFault>
+        ensures { Finds result (λ c. c.target) (cap_field (pointee_of self.now.body 0)) caps.entry }
     {
         let place = self.page()?;
         Ok(PageClient {
@@ -599,7 +578,7 @@ impl NotebookNextResultsBuilder {
     /// A struct whose fields are all as by default.
     pub fn new(alloc: Global) -> Result<NotebookNextResultsBuilder, AllocError>
         ensures blank { IfOk result (λ d. d.body ≡ blank 0 1) }
-        ensures names { IfOk result (λ d. d.table ≡ []) }
+        ensures names { IfOk result (λ d. d.table ≡ none_named) }
     {
         Ok(NotebookNextResultsBuilder {
             body: StructBuilder::new(alloc)?,
@@ -608,11 +587,13 @@ impl NotebookNextResultsBuilder {
     }
 
     /// Sets `page`.
-    pub fn set_page(&mut self, value: PageClient) -> Result<(), BuildError>
-        ensures set { OnOk result (self.new.body ≡ with_pointer self.old.body 0 (pointer_naming self.old.table value.target)) }
-        ensures added { OnOk result (self.new.table ≡ with_named self.old.table value.target) }
+    pub fn set_page(&mut self, value: PageClient) -> Result<(), NamingError>
+        ensures set { OnOk result (self.new.body ≡ with_pointer self.old.body 0 (pointer_naming self.old.table.caps value.target.cap)) }
+        ensures added { OnOk result (self.new.table ≡ naming self.old.table value.target) }
         ensures left { OnErr result (self.new ≡ self.old) }
-        ensures full { result ≡ Err TooLong ↔ 2 ^ 32 ≤ length self.old.table + 1 }
+        ensures full { result ≡ Err errors.TooLong ↔ IsFull self.old.table }
+        ensures own { OnOk result (may_name self.old.table value.target ≡ true) }
+        ensures other { result ≡ Err errors.OtherSession → may_name self.old.table value.target ≡ false }
     {
         let pointer = self.table.add(value.target.into_cap())?;
         self.body.set_pointer(0, pointer);

@@ -6,9 +6,10 @@ ghost use Rattle.cp_fields.specs.Pointers.{text_field};
 ghost use Rattle.cp_builder.specs.declared.fault.BuildError.TheVariants.{TooLong};
 ghost use Rattle.cp_builder.specs.Copies.{Sets};
 ghost use Rattle.cp_builder.specs.Drafts.{blank};
-ghost use Rattle.cp_interfaces.specs.Calls.{outgoing_call_of, request_of};
+ghost use Rattle.cp_interfaces.specs.Calls.{IsCall, MakesOf, request_of};
+ghost use Rattle.cp_interfaces.specs.Faults.{Unbuilt};
 ghost use Rattle.cp_interfaces.specs.ServiceCalls.{Answers};
-ghost use Rattle.cp_interfaces.specs.ServiceCalls.{MakesOf};
+ghost use Rattle.cp_interfaces.specs.Tables.{none_named};
 ghost use Rattle.cp_interfaces.specs.Services.{At, at};
 ghost use Rattle.notebook.specs.Page.{PageKind, PageTakes, any_page};
 
@@ -16,12 +17,11 @@ use cp_builder::{BuildError, FieldValue, StructBuilder};
 use cp_fields::{StructReader, TextReader, WrongKind};
 use cp_interfaces::{
     CallTarget, Caller, CapTableBuilder, Dispatch, LaterAnswer, Lends, MethodCall, MethodFault,
-    MethodResult, NoFieldsReader, ObjectDispatch, Results, ServiceCall, ServiceObject, TypedClient,
-    TypedPipeline, TypedResolver, refuse,
+    MethodRequest, MethodResult, NoFieldsReader, ObjectDispatch, Results, ServiceCall,
+    ServiceObject, TypedClient, TypedPipeline, TypedResolver, refuse,
 };
-use cp_objects::Context;
-use cp_refs::{Cap, Request};
-use cp_servants::{OutgoingCall, Reply};
+use cp_objects::{Context, SessionCap};
+use cp_servants::Reply;
 use cp_tree::Whole;
 use std::alloc::{AllocError, Global};
 
@@ -37,7 +37,7 @@ impl PageClient {
     pub const ID: u64 = 0xd22af05f2861ac0c;
 
     /// The object that a capability stands for.
-    pub fn new(alloc: Global, cap: Cap) -> PageClient
+    pub fn new(alloc: Global, cap: SessionCap) -> PageClient
         ensures { result.target ≡ cap }
     {
         PageClient {
@@ -46,8 +46,9 @@ impl PageClient {
     }
 
     /// A call of `read @0`.
-    pub fn read_request(&self) -> Result<Request, BuildError>
-        ensures { IfOk result (λ r. r ≡ request_of 0xd22af05f2861ac0c 0 (blank 0 0) []) }
+    pub fn read_request(&self) -> Result<MethodRequest<'_>, BuildError>
+        ensures request { IfOk result (λ r. IsCall r self.now.target (request_of 0xd22af05f2861ac0c 0 (blank 0 0) [])) }
+        ensures long { result ≡ Err TooLong → ⊥ }
     {
         let params: StructBuilder<0, 0> = StructBuilder::new(self.target.alloc())?;
         let content = params.into_whole();
@@ -56,17 +57,10 @@ impl PageClient {
 
     /// The text of the note.
     pub fn read<C: Caller>(&self, caller: &mut C) -> Result<PageReadResultsPipeline, C::Fault>
-        ensures { MakesOf (λ p. p.at) C.sends caller.old self.now.target 0xd22af05f2861ac0c 0 (blank 0 0) [] result caller.new }
+        ensures { MakesOf (λ p. p.at) C.number C.sends C.Fault.From-2.from_gives (Unbuilt C.Fault.From-1.from_gives ⊥) caller.old self.now.target 0xd22af05f2861ac0c 0 (blank 0 0) [] result caller.new }
     {
-        let request = self.read_request()?;
-        Ok(PageReadResultsPipeline::of(self.target.call(caller, request)?))
-    }
-
-    /// A call of `read` that an object makes. With the mark the object is told what it came to.
-    pub fn read_call(&self, call_id: u64) -> Result<OutgoingCall, BuildError>
-        ensures { IfOk result (λ call. call ≡ outgoing_call_of self.now.target (request_of 0xd22af05f2861ac0c 0 (blank 0 0) []) call_id) }
-    {
-        Ok(self.target.outgoing(self.read_request()?, call_id)?)
+        let call = self.read_request()?;
+        Ok(PageReadResultsPipeline::of(self.target.call(caller, call.request)?))
     }
 }
 
@@ -99,7 +93,7 @@ pub trait PageServer: ServiceObject {
         call: &mut PageReadCall<'_>,
         context: &mut Context<Self::Makes>,
     ) -> MethodResult
-        ensures { Answers (λ p. p.body) (λ d. d.body) (λ d. []) page_kind.on_read (at self.old context.old) call.old call.new result (at self.new context.new) };
+        ensures { Answers (λ p. p.body) (λ d. d.body) (λ d. none_named) page_kind.on_read (at self.old context.old) call.old call.new result (at self.new context.new) };
 }
 
 /// An object of `interface Page`, as a connection serves it.
@@ -186,7 +180,7 @@ impl PageReadResultsBuilder {
 impl Results for PageReadResultsBuilder {
     ghost content = { λ d. d.body };
 
-    ghost names = { λ d. [] };
+    ghost names = { λ d. none_named };
 
     fn into_parts(self, alloc: Global) -> (Whole, CapTableBuilder) {
         (self.body.into_whole(), CapTableBuilder::new(alloc))

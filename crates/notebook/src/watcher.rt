@@ -1,25 +1,26 @@
 //! `watcher` of notebook.capnp, made by capnpc_rattle.
 
-ghost use Rattle.std.specs.Prelude.{◌≡◌, IfOk, []};
+ghost use Rattle.std.specs.Prelude.{◌≡◌, IfOk, Err, ◌≤◌, ◌^◌, length, ◌+◌, []};
 ghost use Rattle.cp_tree.specs.Seen.{pointee_of};
 ghost use Rattle.cp_fields.specs.Pointers.{text_field};
+ghost use Rattle.cp_builder.specs.declared.fault.BuildError.TheVariants.{TooLong};
 ghost use Rattle.cp_builder.specs.Drafts.{blank, text_tree, with_pointer};
-ghost use Rattle.cp_interfaces.specs.Calls.{outgoing_call_of, request_of};
+ghost use Rattle.cp_interfaces.specs.Calls.{IsCall, MakesOf, request_of};
+ghost use Rattle.cp_interfaces.specs.Faults.{Unbuilt};
 ghost use Rattle.cp_interfaces.specs.ServiceCalls.{Answers};
-ghost use Rattle.cp_interfaces.specs.ServiceCalls.{MakesOf};
+ghost use Rattle.cp_interfaces.specs.Tables.{none_named};
 ghost use Rattle.cp_interfaces.specs.Services.{At, at};
 ghost use Rattle.notebook.specs.Watcher.{WatcherKind, WatcherTakes, any_watcher};
 
 use cp_builder::{BuildError, StructBuilder};
 use cp_fields::{StructReader, TextReader, WrongKind};
 use cp_interfaces::{
-    CallTarget, Caller, Dispatch, LaterAnswer, MethodCall, MethodFault, MethodResult,
-    NoFieldsBuilder, NoFieldsPipeline, NoFieldsReader, ObjectDispatch, ServiceCall, ServiceObject,
-    TypedClient, TypedResolver, refuse,
+    CallTarget, Caller, Dispatch, LaterAnswer, MethodCall, MethodFault, MethodRequest,
+    MethodResult, NoFieldsBuilder, NoFieldsPipeline, NoFieldsReader, ObjectDispatch, ServiceCall,
+    ServiceObject, TypedClient, TypedResolver, refuse,
 };
-use cp_objects::Context;
-use cp_refs::{Cap, Request};
-use cp_servants::{OutgoingCall, Reply};
+use cp_objects::{Context, SessionCap};
+use cp_servants::Reply;
 use std::alloc::{AllocError, Global};
 
 /// `interface Watcher`.
@@ -34,7 +35,7 @@ impl WatcherClient {
     pub const ID: u64 = 0x80a0c5d36bb2c9a2;
 
     /// The object that a capability stands for.
-    pub fn new(alloc: Global, cap: Cap) -> WatcherClient
+    pub fn new(alloc: Global, cap: SessionCap) -> WatcherClient
         ensures { result.target ≡ cap }
     {
         WatcherClient {
@@ -43,8 +44,9 @@ impl WatcherClient {
     }
 
     /// A call of `added @0`.
-    pub fn added_request(&self, text: &str) -> Result<Request, BuildError>
-        ensures { IfOk result (λ r. r ≡ request_of 0x80a0c5d36bb2c9a2 0 (with_pointer (blank 0 1) 0 (text_tree text.now)) []) }
+    pub fn added_request(&self, text: &str) -> Result<MethodRequest<'_>, BuildError>
+        ensures request { IfOk result (λ r. IsCall r self.now.target (request_of 0x80a0c5d36bb2c9a2 0 (with_pointer (blank 0 1) 0 (text_tree text.now)) [])) }
+        ensures long { result ≡ Err TooLong → 2 ^ 29 ≤ length text.now + 1 }
     {
         let mut params: StructBuilder<0, 1> = StructBuilder::new(self.target.alloc())?;
         params.set_pointer(0, cp_builder::text_of(self.target.alloc(), text)?);
@@ -58,17 +60,10 @@ impl WatcherClient {
         caller: &mut C,
         text: &str,
     ) -> Result<WatcherAddedResultsPipeline, C::Fault>
-        ensures { MakesOf (λ p. p.at) C.sends caller.old self.now.target 0x80a0c5d36bb2c9a2 0 (with_pointer (blank 0 1) 0 (text_tree text.now)) [] result caller.new }
+        ensures { MakesOf (λ p. p.at) C.number C.sends C.Fault.From-2.from_gives (Unbuilt C.Fault.From-1.from_gives (2 ^ 29 ≤ length text.now + 1)) caller.old self.now.target 0x80a0c5d36bb2c9a2 0 (with_pointer (blank 0 1) 0 (text_tree text.now)) [] result caller.new }
     {
-        let request = self.added_request(text)?;
-        Ok(WatcherAddedResultsPipeline::of(self.target.call(caller, request)?))
-    }
-
-    /// A call of `added` that an object makes. With the mark the object is told what it came to.
-    pub fn added_call(&self, text: &str, call_id: u64) -> Result<OutgoingCall, BuildError>
-        ensures { IfOk result (λ call. call ≡ outgoing_call_of self.now.target (request_of 0x80a0c5d36bb2c9a2 0 (with_pointer (blank 0 1) 0 (text_tree text.now)) []) call_id) }
-    {
-        Ok(self.target.outgoing(self.added_request(text)?, call_id)?)
+        let call = self.added_request(text)?;
+        Ok(WatcherAddedResultsPipeline::of(self.target.call(caller, call.request)?))
     }
 }
 
@@ -105,7 +100,7 @@ pub trait WatcherServer: ServiceObject {
         call: &mut WatcherAddedCall<'_>,
         context: &mut Context<Self::Makes>,
     ) -> MethodResult
-        ensures { Answers (λ p. p.body) (λ d. d.body) (λ d. []) watcher_kind.on_added (at self.old context.old) call.old call.new result (at self.new context.new) };
+        ensures { Answers (λ p. p.body) (λ d. d.body) (λ d. none_named) watcher_kind.on_added (at self.old context.old) call.old call.new result (at self.new context.new) };
 }
 
 /// An object of `interface Watcher`, as a connection serves it.

@@ -18,6 +18,10 @@ pub struct Echo {}
 
 impl ServiceObject for Echo {
     type Makes = Served;
+
+    fn has_more(&self) -> bool {
+        false
+    }
 }
 
 impl FriendServer for Echo {
@@ -41,10 +45,11 @@ impl<'a, R: Read + Drop, W: Write + Drop> Directing<'a, R, W> {
     /// Calls the peer's directory.
     pub fn new(alloc: Global, client: &'a mut Calling<R, W>) -> anyhow::Result<Directing<'a, R, W>> {
         let cap = client.bootstrap()?.cap(alloc);
+        let root = client.own(cap);
         Ok(Directing {
             alloc,
             client,
-            directory: DirectoryClient::new(alloc, cap),
+            directory: DirectoryClient::new(alloc, root),
         })
     }
 
@@ -68,7 +73,7 @@ impl<'a, R: Read + Drop, W: Write + Drop> Directing<'a, R, W> {
     /// Has a watcher told of each person that is added.
     fn watch_by(&mut self, watcher: Cap) -> anyhow::Result<String> {
         let alloc = self.alloc;
-        let watcher = WatcherClient::new(alloc, watcher);
+        let watcher = WatcherClient::new(alloc, self.client.own(watcher));
         let promise = self.directory.watch(self.client, watcher)?;
         let came = came(self.client, promise.question())?;
         let _ = promise.results(&came)?;
@@ -77,13 +82,13 @@ impl<'a, R: Read + Drop, W: Write + Drop> Directing<'a, R, W> {
 
     /// Adds a person for whom an object of this end's speaks.
     pub fn add(&mut self) -> anyhow::Result<String> {
-        let friend = FriendClient::new(self.alloc, Cap::Object(1));
+        let friend = FriendClient::new(self.alloc, self.client.own(Cap::Object(1)));
         self.add_person("Ada", 36, friend)
     }
 
     /// Adds a person for whom nobody speaks: the capability is null.
     pub fn alone(&mut self) -> anyhow::Result<String> {
-        let nobody = FriendClient::new(self.alloc, Cap::None);
+        let nobody = FriendClient::new(self.alloc, self.client.own(Cap::None));
         self.add_person("Alan", 41, nobody)
     }
 

@@ -76,10 +76,11 @@ impl<'a, R: Read + Drop, W: Write + Drop> Evaluating<'a, R, W> {
         client: &'a mut Calling<R, W>,
     ) -> anyhow::Result<Evaluating<'a, R, W>> {
         let cap = client.bootstrap()?.cap(alloc);
+        let root = client.own(cap);
         Ok(Evaluating {
             alloc,
             client,
-            calculator: CalculatorClient::new(alloc, cap),
+            calculator: CalculatorClient::new(alloc, root),
         })
     }
 
@@ -164,7 +165,7 @@ impl<'a, R: Read + Drop, W: Write + Drop> Evaluating<'a, R, W> {
     /// 2 ^ (4 + 5), by a function of this end's.
     pub fn own_functions(&mut self) -> anyhow::Result<f64> {
         let add = self.operator(Operator::Add)?;
-        let power = FunctionClient::new(self.alloc, Cap::Object(2));
+        let power = FunctionClient::new(self.alloc, self.client.own(Cap::Object(2)));
         let mut maker = Maker::new(self.alloc);
         let (a, b, c) = (maker.number(2.0)?, maker.number(4.0)?, maker.number(5.0)?);
         let sum = maker.call(&add, b, c)?;
@@ -196,7 +197,7 @@ impl<'a, R: Read + Drop, W: Write + Drop> Evaluating<'a, R, W> {
     pub fn no_value(&mut self) -> anyhow::Result<f64> {
         let add = self.operator(Operator::Add)?;
         let mut maker = Maker::new(self.alloc);
-        let nothing = ValueClient::new(self.alloc, Cap::None);
+        let nothing = ValueClient::new(self.alloc, self.client.own(Cap::None));
         let (nothing, three) = (maker.value(&nothing)?, maker.number(3.0)?);
         let sum = maker.call(&add, nothing, three)?;
         let value = self.evaluate(maker, sum)?;
@@ -206,7 +207,7 @@ impl<'a, R: Read + Drop, W: Write + Drop> Evaluating<'a, R, W> {
     /// A function that is none.
     pub fn no_function(&mut self) -> anyhow::Result<f64> {
         let mut maker = Maker::new(self.alloc);
-        let nothing = FunctionClient::new(self.alloc, Cap::None);
+        let nothing = FunctionClient::new(self.alloc, self.client.own(Cap::None));
         let (one, two) = (maker.number(1.0)?, maker.number(2.0)?);
         let called = maker.call(&nothing, one, two)?;
         let value = self.evaluate(maker, called)?;
@@ -215,7 +216,7 @@ impl<'a, R: Read + Drop, W: Write + Drop> Evaluating<'a, R, W> {
 
     /// A value that is none.
     pub fn null(&mut self) -> anyhow::Result<f64> {
-        let value = ValueClient::new(self.alloc, Cap::None);
+        let value = ValueClient::new(self.alloc, self.client.own(Cap::None));
         self.read(&value)
     }
 }

@@ -30,6 +30,10 @@ impl Function {
 
 impl ServiceObject for Function {
     type Makes = Served;
+
+    fn has_more(&self) -> bool {
+        false
+    }
 }
 
 impl FunctionServer for Function {

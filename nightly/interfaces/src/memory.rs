@@ -57,8 +57,9 @@ fn ask<R: Read + Drop, W: Write + Drop>(
     alloc: Global,
     client: &mut Calling<R, W>,
 ) -> anyhow::Result<DirectoryFindResultsPipeline> {
-    let directory = DirectoryClient::new(alloc, client.bootstrap()?.cap(alloc));
-    directory.watch(client, WatcherClient::new(alloc, Cap::Object(0)))?;
+    let root = client.bootstrap()?.cap(alloc);
+    let directory = DirectoryClient::new(alloc, client.own(root));
+    directory.watch(client, WatcherClient::new(alloc, client.own(Cap::Object(0))))?;
     add(alloc, client, &directory)?;
     Ok(directory.find(client, "Ada")?)
 }

@@ -9,9 +9,9 @@ use calculator::{
 };
 use jamdrosek::client::{Cap, Outcome};
 use jamdrosek::interfaces::{
-    MethodFault, MethodResult, ResultPayload, ServiceObject, failed, payload_of,
+    CapTable, MethodFault, MethodResult, ResultPayload, ServiceObject, failed, payload_of,
 };
-use jamdrosek::server::{Either, Caps, Objects, Context};
+use jamdrosek::server::{Context, Either, Objects};
 use std::alloc::Global;
 
 /// The most parts that an expression may have.
@@ -87,7 +87,7 @@ impl Reckoner {
         let Ok(request) = function.call_request(&numbers) else {
             return self.fail(job, "too many params", context);
         };
-        context.send(function.target.outgoing(request, job.call_id)?)?;
+        context.send(request.outgoing(job.call_id)?)?;
         self.jobs.push(job)?;
         Ok(())
     }
@@ -129,7 +129,7 @@ impl Reckoner {
 fn steps_of(
     alloc: Global,
     expression: ExpressionReader<'_>,
-    caps: &Caps,
+    caps: CapTable<'_>,
 ) -> Result<Vec<Step>, MethodFault> {
     let mut steps = Vec::new(alloc);
     let mut left = vec![in alloc; expression]?;
@@ -156,6 +156,10 @@ fn steps_of(
 impl ServiceObject for Reckoner {
     type Makes = Served;
 
+    fn has_more(&self) -> bool {
+        false
+    }
+
     fn on_response(&mut self, call_id: u64, outcome: Outcome, context: &mut Context<Served>) -> MethodResult {
         let Some(job) = self.take(call_id) else {
             return Ok(());
@@ -165,7 +169,7 @@ impl ServiceObject for Reckoner {
                 let fault = MethodFault::Fails(exception);
                 Ok(job.call.fail(context, fault)?)
             }
-            other => match payload_of(other) {
+            other => match payload_of(context.session(), other) {
                 Ok(came) => self.came(job, &came, context),
                 Err(_) => self.fail(job, "canceled", context),
             },
@@ -192,7 +196,7 @@ impl ReckonerServer for Reckoner {
         context: &mut Context<Served>,
     ) -> MethodResult {
         let place = Cap::Object(u32::from(call.params.operator().number()).saturating_add(1));
-        let function = FunctionClient::new(context.alloc(), place);
+        let function = FunctionClient::new(context.alloc(), context.own(place));
         Ok(call.results.set_function(function)?)
     }
 }

@@ -39,8 +39,7 @@ impl Shelf {
         for watcher in &self.watchers {
             let mut params = WatcherAddedParamsBuilder::new(context.alloc())?;
             params.set_person(built(context.alloc(), name, age)?);
-            let request = watcher.added_request(params);
-            context.send(watcher.target.outgoing(request, 0)?)?;
+            context.send(watcher.added_request(params).outgoing(0)?)?;
         }
         Ok(())
     }
@@ -56,6 +55,10 @@ fn built(alloc: Global, name: &str, age: u8) -> Result<PersonBuilder, MethodFaul
 
 impl ServiceObject for Shelf {
     type Makes = Served;
+
+    fn has_more(&self) -> bool {
+        false
+    }
 }
 
 impl NamedServer for Shelf {

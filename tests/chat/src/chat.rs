@@ -1,30 +1,31 @@
 //! `chat` of chat.capnp, made by capnpc_rattle.
 
-ghost use Rattle.std.specs.Prelude.{◌≡◌, IfOk, OnOk, OnErr, Err, ◌↔◌, ◌≤◌, ◌^◌, length, ◌+◌, []};
+ghost use Rattle.std.specs.Prelude.{◌≡◌, IfOk, OnOk, OnErr, Err, ◌↔◌, ◌≤◌, ◌^◌, length, ◌+◌, ◌∷◌, [], true, false};
 ghost use Rattle.cp_tree.specs.Seen.{pointee_of};
 ghost use Rattle.cp_fields.specs.Pointers.{Reads, cap_field, struct_field, text_field};
 ghost use Rattle.cp_builder.specs.declared.fault.BuildError.TheVariants.{TooLong};
 ghost use Rattle.cp_builder.specs.Drafts.{blank, text_tree, with_pointer};
-ghost use Rattle.cp_servants.specs.Naming.{pointer_naming, with_named};
-ghost use Rattle.cp_interfaces.specs.Calls.{outgoing_call_of, request_of};
+ghost use Rattle.cp_servants.specs.Naming.{pointer_naming};
+ghost use Rattle.cp_interfaces.specs.Calls.{IsCall, MakesOf, request_of};
+ghost use Rattle.cp_interfaces.specs.Faults.{Unnamed};
 ghost use Rattle.cp_interfaces.specs.Promises.{Finds, promised_cap};
 ghost use Rattle.cp_interfaces.specs.ServiceCalls.{Answers};
-ghost use Rattle.cp_interfaces.specs.ServiceCalls.{MakesOf};
+ghost use Rattle.cp_interfaces.specs.Tables.{IsFull, may_name, may_name_all, naming, none_named};
 ghost use Rattle.cp_interfaces.specs.Services.{At, at};
+ghost use Rattle.cp_interfaces.specs.declared.naming_error.NamingError.TheVariants as errors;
 ghost use Rattle.chat.specs.Chat.{ChatKind, ChatTakes, any_chat};
 
 use crate::listener::ListenerClient;
 use crate::member_::MemberClient;
-use cp_builder::{BuildError, StructBuilder};
+use cp_builder::StructBuilder;
 use cp_fields::{StructReader, TextReader, WrongKind};
 use cp_interfaces::{
-    CallTarget, Caller, CapFault, CapTableBuilder, Dispatch, LaterAnswer, MethodCall, MethodFault,
-    MethodResult, ObjectDispatch, Pipeline, ResultPayload, Results, ServiceCall, ServiceObject,
-    TypedClient, TypedResolver, refuse,
+    CallTarget, Caller, CapFault, CapTable, CapTableBuilder, Dispatch, LaterAnswer, MethodCall,
+    MethodFault, MethodRequest, MethodResult, NamingError, ObjectDispatch, Pipeline, ResultPayload,
+    Results, ServiceCall, ServiceObject, TypedClient, TypedResolver, refuse,
 };
-use cp_objects::Context;
-use cp_refs::{Cap, Caps, Request};
-use cp_servants::{OutgoingCall, Reply};
+use cp_objects::{Context, SessionCap};
+use cp_servants::Reply;
 use cp_tree::Whole;
 use std::alloc::{AllocError, Global};
 
@@ -40,7 +41,7 @@ impl ChatClient {
     pub const ID: u64 = 0x9be749cc343d65aa;
 
     /// The object that a capability stands for.
-    pub fn new(alloc: Global, cap: Cap) -> ChatClient
+    pub fn new(alloc: Global, cap: SessionCap) -> ChatClient
         ensures { result.target ≡ cap }
     {
         ChatClient {
@@ -49,18 +50,23 @@ impl ChatClient {
     }
 
     /// A call of `join @0`.
-    pub fn join_request(&self, name: &str, listener: ListenerClient) -> Result<Request, BuildError>
-        ensures { IfOk result (λ r. r ≡ request_of 0x9be749cc343d65aa 0 (with_pointer (with_pointer (blank 0 2) 0 (text_tree name.now)) 1 (pointer_naming [] listener.target)) (with_named [] listener.target)) }
+    pub fn join_request(
+        &self,
+        name: &str,
+        listener: ListenerClient,
+    ) -> Result<MethodRequest<'_>, NamingError>
+        ensures request { IfOk result (λ r. IsCall r self.now.target (request_of 0x9be749cc343d65aa 0 (with_pointer (with_pointer (blank 0 2) 0 (text_tree name.now)) 1 (pointer_naming (none_named).caps listener.target.cap)) ((naming none_named listener.target)).caps)) }
+        ensures long { result ≡ Err errors.TooLong → 2 ^ 29 ≤ length name.now + 1 }
+        ensures own { OnOk result (may_name_all self.now.target.session none_named (listener.target ∷ []) ≡ true) }
+        ensures other { result ≡ Err errors.OtherSession → may_name_all self.now.target.session none_named (listener.target ∷ []) ≡ false }
     {
         let mut params: StructBuilder<0, 2> = StructBuilder::new(self.target.alloc())?;
         let mut table = CapTableBuilder::new(self.target.alloc());
         params.set_pointer(0, cp_builder::text_of(self.target.alloc(), name)?);
         params.set_pointer(1, table.add(listener.target.into_cap())?);
         let content = params.into_whole();
-        Ok(
-            self.target
-                .request_naming(0x9be749cc343d65aa, 0, content, table),
-        )
+        self.target
+            .request_naming(0x9be749cc343d65aa, 0, content, table)
     }
 
     /// Makes a member, whose listener hears all that is said from now on. Who drops it has left.
@@ -70,25 +76,10 @@ impl ChatClient {
         name: &str,
         listener: ListenerClient,
     ) -> Result<ChatJoinResultsPipeline, C::Fault>
-        ensures { MakesOf (λ p. p.at) C.sends caller.old self.now.target 0x9be749cc343d65aa 0 (with_pointer (with_pointer (blank 0 2) 0 (text_tree name.now)) 1 (pointer_naming [] listener.target)) (with_named [] listener.target) result caller.new }
+        ensures { MakesOf (λ p. p.at) C.number C.sends C.Fault.From-2.from_gives (Unnamed C.Fault.From-2.from_gives (2 ^ 29 ≤ length name.now + 1) (may_name_all self.now.target.session none_named (listener.target ∷ []))) caller.old self.now.target 0x9be749cc343d65aa 0 (with_pointer (with_pointer (blank 0 2) 0 (text_tree name.now)) 1 (pointer_naming (none_named).caps listener.target.cap)) ((naming none_named listener.target)).caps result caller.new }
     {
-        let request = self.join_request(name, listener)?;
-        Ok(ChatJoinResultsPipeline::of(self.target.call(caller, request)?))
-    }
-
-    /// A call of `join` that an object makes. With the mark the object is told what it came to.
-    pub fn join_call(
-        &self,
-        name: &str,
-        listener: ListenerClient,
-        call_id: u64,
-    ) -> Result<OutgoingCall, BuildError>
-        ensures { IfOk result (λ call. call ≡ outgoing_call_of self.now.target (request_of 0x9be749cc343d65aa 0 (with_pointer (with_pointer (blank 0 2) 0 (text_tree name.now)) 1 (pointer_naming [] listener.target)) (with_named [] listener.target)) call_id) }
-    {
-        Ok(
-            self.target
-                .outgoing(self.join_request(name, listener)?, call_id)?,
-        )
+        let call = self.join_request(name, listener)?;
+        Ok(ChatJoinResultsPipeline::of(self.target.call(caller, call.request)?))
     }
 }
 
@@ -177,8 +168,12 @@ impl<'a> ChatJoinParamsReader<'a> {
     }
 
     /// `listener @1`, of those that a table has.
-    pub fn listener_client(&self, alloc: Global, caps: &Caps) -> Result<ListenerClient, CapFault>
-        ensures { Finds result (λ c. c.target) (cap_field (pointee_of self.now.body 1)) caps.now }
+    pub fn listener_client(
+        &self,
+        alloc: Global,
+        caps: CapTable<'_>,
+    ) -> Result<ListenerClient, CapFault>
+        ensures { Finds result (λ c. c.target) (cap_field (pointee_of self.now.body 1)) caps.entry }
     {
         let place = self.listener()?;
         Ok(ListenerClient {
@@ -203,8 +198,8 @@ impl<'a> ChatJoinResultsReader<'a> {
     }
 
     /// `member @0`, of those that a table has.
-    pub fn member_client(&self, alloc: Global, caps: &Caps) -> Result<MemberClient, CapFault>
-        ensures { Finds result (λ c. c.target) (cap_field (pointee_of self.now.body 0)) caps.now }
+    pub fn member_client(&self, alloc: Global, caps: CapTable<'_>) -> Result<MemberClient, CapFault>
+        ensures { Finds result (λ c. c.target) (cap_field (pointee_of self.now.body 0)) caps.entry }
     {
         let place = self.member_()?;
         Ok(MemberClient {
@@ -226,7 +221,7 @@ impl ChatJoinResultsBuilder {
     /// A struct whose fields are all as by default.
     pub fn new(alloc: Global) -> Result<ChatJoinResultsBuilder, AllocError>
         ensures blank { IfOk result (λ d. d.body ≡ blank 0 1) }
-        ensures names { IfOk result (λ d. d.table ≡ []) }
+        ensures names { IfOk result (λ d. d.table ≡ none_named) }
     {
         Ok(ChatJoinResultsBuilder {
             body: StructBuilder::new(alloc)?,
@@ -235,11 +230,13 @@ impl ChatJoinResultsBuilder {
     }
 
     /// Sets `member`.
-    pub fn set_member(&mut self, value: MemberClient) -> Result<(), BuildError>
-        ensures set { OnOk result (self.new.body ≡ with_pointer self.old.body 0 (pointer_naming self.old.table value.target)) }
-        ensures added { OnOk result (self.new.table ≡ with_named self.old.table value.target) }
+    pub fn set_member(&mut self, value: MemberClient) -> Result<(), NamingError>
+        ensures set { OnOk result (self.new.body ≡ with_pointer self.old.body 0 (pointer_naming self.old.table.caps value.target.cap)) }
+        ensures added { OnOk result (self.new.table ≡ naming self.old.table value.target) }
         ensures left { OnErr result (self.new ≡ self.old) }
-        ensures full { result ≡ Err TooLong ↔ 2 ^ 32 ≤ length self.old.table + 1 }
+        ensures full { result ≡ Err errors.TooLong ↔ IsFull self.old.table }
+        ensures own { OnOk result (may_name self.old.table value.target ≡ true) }
+        ensures other { result ≡ Err errors.OtherSession → may_name self.old.table value.target ≡ false }
     {
         let pointer = self.table.add(value.target.into_cap())?;
         self.body.set_pointer(0, pointer);

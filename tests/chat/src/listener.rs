@@ -1,25 +1,26 @@
 //! `listener` of chat.capnp, made by capnpc_rattle.
 
-ghost use Rattle.std.specs.Prelude.{◌≡◌, IfOk, []};
+ghost use Rattle.std.specs.Prelude.{◌≡◌, IfOk, Err, ◌≤◌, ◌^◌, length, ◌+◌, ◌⊎◌, []};
 ghost use Rattle.cp_tree.specs.Seen.{pointee_of};
 ghost use Rattle.cp_fields.specs.Pointers.{text_field};
+ghost use Rattle.cp_builder.specs.declared.fault.BuildError.TheVariants.{TooLong};
 ghost use Rattle.cp_builder.specs.Drafts.{blank, text_tree, with_pointer};
-ghost use Rattle.cp_interfaces.specs.Calls.{outgoing_call_of, request_of};
+ghost use Rattle.cp_interfaces.specs.Calls.{IsCall, MakesOf, request_of};
+ghost use Rattle.cp_interfaces.specs.Faults.{Unbuilt};
 ghost use Rattle.cp_interfaces.specs.ServiceCalls.{Answers};
-ghost use Rattle.cp_interfaces.specs.ServiceCalls.{MakesOf};
+ghost use Rattle.cp_interfaces.specs.Tables.{none_named};
 ghost use Rattle.cp_interfaces.specs.Services.{At, at};
 ghost use Rattle.chat.specs.Listener.{ListenerKind, ListenerTakes, any_listener};
 
 use cp_builder::{BuildError, StructBuilder};
 use cp_fields::{StructReader, TextReader, WrongKind};
 use cp_interfaces::{
-    CallTarget, Caller, Dispatch, LaterAnswer, MethodCall, MethodFault, MethodResult,
-    NoFieldsBuilder, NoFieldsPipeline, NoFieldsReader, ObjectDispatch, ServiceCall, ServiceObject,
-    TypedClient, TypedResolver, refuse,
+    CallTarget, Caller, Dispatch, LaterAnswer, MethodCall, MethodFault, MethodRequest,
+    MethodResult, NoFieldsBuilder, NoFieldsPipeline, NoFieldsReader, ObjectDispatch, ServiceCall,
+    ServiceObject, TypedClient, TypedResolver, refuse,
 };
-use cp_objects::Context;
-use cp_refs::{Cap, Request};
-use cp_servants::{OutgoingCall, Reply};
+use cp_objects::{Context, SessionCap};
+use cp_servants::Reply;
 use std::alloc::{AllocError, Global};
 
 /// `interface Listener`.
@@ -34,7 +35,7 @@ impl ListenerClient {
     pub const ID: u64 = 0xba75a021af22dd5e;
 
     /// The object that a capability stands for.
-    pub fn new(alloc: Global, cap: Cap) -> ListenerClient
+    pub fn new(alloc: Global, cap: SessionCap) -> ListenerClient
         ensures { result.target ≡ cap }
     {
         ListenerClient {
@@ -43,8 +44,9 @@ impl ListenerClient {
     }
 
     /// A call of `heard @0`.
-    pub fn heard_request(&self, name: &str, text: &str) -> Result<Request, BuildError>
-        ensures { IfOk result (λ r. r ≡ request_of 0xba75a021af22dd5e 0 (with_pointer (with_pointer (blank 0 2) 0 (text_tree name.now)) 1 (text_tree text.now)) []) }
+    pub fn heard_request(&self, name: &str, text: &str) -> Result<MethodRequest<'_>, BuildError>
+        ensures request { IfOk result (λ r. IsCall r self.now.target (request_of 0xba75a021af22dd5e 0 (with_pointer (with_pointer (blank 0 2) 0 (text_tree name.now)) 1 (text_tree text.now)) [])) }
+        ensures long { result ≡ Err TooLong → (2 ^ 29 ≤ length name.now + 1) ⊎ (2 ^ 29 ≤ length text.now + 1) }
     {
         let mut params: StructBuilder<0, 2> = StructBuilder::new(self.target.alloc())?;
         params.set_pointer(0, cp_builder::text_of(self.target.alloc(), name)?);
@@ -60,25 +62,10 @@ impl ListenerClient {
         name: &str,
         text: &str,
     ) -> Result<ListenerHeardResultsPipeline, C::Fault>
-        ensures { MakesOf (λ p. p.at) C.sends caller.old self.now.target 0xba75a021af22dd5e 0 (with_pointer (with_pointer (blank 0 2) 0 (text_tree name.now)) 1 (text_tree text.now)) [] result caller.new }
+        ensures { MakesOf (λ p. p.at) C.number C.sends C.Fault.From-2.from_gives (Unbuilt C.Fault.From-1.from_gives ((2 ^ 29 ≤ length name.now + 1) ⊎ (2 ^ 29 ≤ length text.now + 1))) caller.old self.now.target 0xba75a021af22dd5e 0 (with_pointer (with_pointer (blank 0 2) 0 (text_tree name.now)) 1 (text_tree text.now)) [] result caller.new }
     {
-        let request = self.heard_request(name, text)?;
-        Ok(ListenerHeardResultsPipeline::of(self.target.call(caller, request)?))
-    }
-
-    /// A call of `heard` that an object makes. With the mark the object is told what it came to.
-    pub fn heard_call(
-        &self,
-        name: &str,
-        text: &str,
-        call_id: u64,
-    ) -> Result<OutgoingCall, BuildError>
-        ensures { IfOk result (λ call. call ≡ outgoing_call_of self.now.target (request_of 0xba75a021af22dd5e 0 (with_pointer (with_pointer (blank 0 2) 0 (text_tree name.now)) 1 (text_tree text.now)) []) call_id) }
-    {
-        Ok(
-            self.target
-                .outgoing(self.heard_request(name, text)?, call_id)?,
-        )
+        let call = self.heard_request(name, text)?;
+        Ok(ListenerHeardResultsPipeline::of(self.target.call(caller, call.request)?))
     }
 }
 
@@ -115,7 +102,7 @@ pub trait ListenerServer: ServiceObject {
         call: &mut ListenerHeardCall<'_>,
         context: &mut Context<Self::Makes>,
     ) -> MethodResult
-        ensures { Answers (λ p. p.body) (λ d. d.body) (λ d. []) listener_kind.on_heard (at self.old context.old) call.old call.new result (at self.new context.new) };
+        ensures { Answers (λ p. p.body) (λ d. d.body) (λ d. none_named) listener_kind.on_heard (at self.old context.old) call.old call.new result (at self.new context.new) };
 }
 
 /// An object of `interface Listener`, as a connection serves it.

@@ -1,25 +1,26 @@
 //! `member_` of chat.capnp, made by capnpc_rattle.
 
-ghost use Rattle.std.specs.Prelude.{◌≡◌, IfOk, []};
+ghost use Rattle.std.specs.Prelude.{◌≡◌, IfOk, Err, ◌≤◌, ◌^◌, length, ◌+◌, []};
 ghost use Rattle.cp_tree.specs.Seen.{pointee_of};
 ghost use Rattle.cp_fields.specs.Pointers.{text_field};
+ghost use Rattle.cp_builder.specs.declared.fault.BuildError.TheVariants.{TooLong};
 ghost use Rattle.cp_builder.specs.Drafts.{blank, text_tree, with_pointer};
-ghost use Rattle.cp_interfaces.specs.Calls.{outgoing_call_of, request_of};
+ghost use Rattle.cp_interfaces.specs.Calls.{IsCall, MakesOf, request_of};
+ghost use Rattle.cp_interfaces.specs.Faults.{Unbuilt};
 ghost use Rattle.cp_interfaces.specs.ServiceCalls.{Answers};
-ghost use Rattle.cp_interfaces.specs.ServiceCalls.{MakesOf};
+ghost use Rattle.cp_interfaces.specs.Tables.{none_named};
 ghost use Rattle.cp_interfaces.specs.Services.{At, at};
 ghost use Rattle.chat.specs.Member_.{MemberKind, MemberTakes, any_member};
 
 use cp_builder::{BuildError, StructBuilder};
 use cp_fields::{StructReader, TextReader, WrongKind};
 use cp_interfaces::{
-    CallTarget, Caller, Dispatch, LaterAnswer, MethodCall, MethodFault, MethodResult,
-    NoFieldsBuilder, NoFieldsPipeline, NoFieldsReader, ObjectDispatch, ServiceCall, ServiceObject,
-    TypedClient, TypedResolver, refuse,
+    CallTarget, Caller, Dispatch, LaterAnswer, MethodCall, MethodFault, MethodRequest,
+    MethodResult, NoFieldsBuilder, NoFieldsPipeline, NoFieldsReader, ObjectDispatch, ServiceCall,
+    ServiceObject, TypedClient, TypedResolver, refuse,
 };
-use cp_objects::Context;
-use cp_refs::{Cap, Request};
-use cp_servants::{OutgoingCall, Reply};
+use cp_objects::{Context, SessionCap};
+use cp_servants::Reply;
 use std::alloc::{AllocError, Global};
 
 /// `interface Member`.
@@ -34,7 +35,7 @@ impl MemberClient {
     pub const ID: u64 = 0xe5edd802c7f5c6ea;
 
     /// The object that a capability stands for.
-    pub fn new(alloc: Global, cap: Cap) -> MemberClient
+    pub fn new(alloc: Global, cap: SessionCap) -> MemberClient
         ensures { result.target ≡ cap }
     {
         MemberClient {
@@ -43,8 +44,9 @@ impl MemberClient {
     }
 
     /// A call of `say @0`.
-    pub fn say_request(&self, text: &str) -> Result<Request, BuildError>
-        ensures { IfOk result (λ r. r ≡ request_of 0xe5edd802c7f5c6ea 0 (with_pointer (blank 0 1) 0 (text_tree text.now)) []) }
+    pub fn say_request(&self, text: &str) -> Result<MethodRequest<'_>, BuildError>
+        ensures request { IfOk result (λ r. IsCall r self.now.target (request_of 0xe5edd802c7f5c6ea 0 (with_pointer (blank 0 1) 0 (text_tree text.now)) [])) }
+        ensures long { result ≡ Err TooLong → 2 ^ 29 ≤ length text.now + 1 }
     {
         let mut params: StructBuilder<0, 1> = StructBuilder::new(self.target.alloc())?;
         params.set_pointer(0, cp_builder::text_of(self.target.alloc(), text)?);
@@ -58,17 +60,10 @@ impl MemberClient {
         caller: &mut C,
         text: &str,
     ) -> Result<MemberSayResultsPipeline, C::Fault>
-        ensures { MakesOf (λ p. p.at) C.sends caller.old self.now.target 0xe5edd802c7f5c6ea 0 (with_pointer (blank 0 1) 0 (text_tree text.now)) [] result caller.new }
+        ensures { MakesOf (λ p. p.at) C.number C.sends C.Fault.From-2.from_gives (Unbuilt C.Fault.From-1.from_gives (2 ^ 29 ≤ length text.now + 1)) caller.old self.now.target 0xe5edd802c7f5c6ea 0 (with_pointer (blank 0 1) 0 (text_tree text.now)) [] result caller.new }
     {
-        let request = self.say_request(text)?;
-        Ok(MemberSayResultsPipeline::of(self.target.call(caller, request)?))
-    }
-
-    /// A call of `say` that an object makes. With the mark the object is told what it came to.
-    pub fn say_call(&self, text: &str, call_id: u64) -> Result<OutgoingCall, BuildError>
-        ensures { IfOk result (λ call. call ≡ outgoing_call_of self.now.target (request_of 0xe5edd802c7f5c6ea 0 (with_pointer (blank 0 1) 0 (text_tree text.now)) []) call_id) }
-    {
-        Ok(self.target.outgoing(self.say_request(text)?, call_id)?)
+        let call = self.say_request(text)?;
+        Ok(MemberSayResultsPipeline::of(self.target.call(caller, call.request)?))
     }
 }
 
@@ -101,7 +96,7 @@ pub trait MemberServer: ServiceObject {
         call: &mut MemberSayCall<'_>,
         context: &mut Context<Self::Makes>,
     ) -> MethodResult
-        ensures { Answers (λ p. p.body) (λ d. d.body) (λ d. []) member_kind.on_say (at self.old context.old) call.old call.new result (at self.new context.new) };
+        ensures { Answers (λ p. p.body) (λ d. d.body) (λ d. none_named) member_kind.on_say (at self.old context.old) call.old call.new result (at self.new context.new) };
 }
 
 /// An object of `interface Member`, as a connection serves it.

@@ -25,7 +25,8 @@ fn kept<R: Read + Drop, W: Write + Drop>(
     alloc: Global,
     client: &mut Client<R, W>,
 ) -> anyhow::Result<String> {
-    let store = StoreClient::new(alloc, client.bootstrap()?.cap(alloc));
+    let root = client.bootstrap()?.cap(alloc);
+    let store = StoreClient::new(alloc, client.own(root));
     store.put(client, "colour", "blue")?;
     let got = store.get(client, "colour")?;
     let came = client.results(got.question())?;

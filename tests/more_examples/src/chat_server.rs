@@ -65,6 +65,10 @@ pub struct Chat(Rc<RefCell<Room>>);
 
 impl ServiceObject for Chat {
     type Makes = Served;
+
+    fn has_more(&self) -> bool {
+        false
+    }
 }
 
 impl ChatServer for Chat {
@@ -120,10 +124,15 @@ impl ServiceObject for Member {
         let mut room = self.room.try_borrow_mut()?;
         room.members.insert(self.number, context.waker())?;
         for (name, text) in room.lines.iter().skip(self.told) {
-            context.send(self.listener.heard_call(name.as_str(), text.as_str(), 0)?)?;
+            let heard = self.listener.heard_request(name.as_str(), text.as_str())?;
+            context.send(heard.outgoing(0)?)?;
         }
         self.told = room.lines.len();
         Ok(None)
+    }
+
+    fn has_more(&self) -> bool {
+        false
     }
 }
 

@@ -109,7 +109,8 @@ fn join<R: Read + Drop, W: Write + Drop>(
     name: &str,
     text: Option<&str>,
 ) -> anyhow::Result<()> {
-    let chat = ChatClient::new(alloc, client.bootstrap()?.cap(alloc));
+    let root = client.bootstrap()?.cap(alloc);
+    let chat = ChatClient::new(alloc, client.own(root));
     let member = chat.join(client, name, listener)?.member_()?;
     if let Some(text) = text {
         member.say(client, text)?;
@@ -125,6 +126,10 @@ struct Ear {
 
 impl ServiceObject for Ear {
     type Makes = Hearing;
+
+    fn has_more(&self) -> bool {
+        false
+    }
 }
 
 impl ListenerServer for Ear {

@@ -69,4 +69,8 @@ impl Servant for Total {
     fn poll(&mut self) -> Result<Option<Settled>, AllocError> {
         Ok(None)
     }
+
+    fn has_more(&self) -> bool {
+        false
+    }
 }

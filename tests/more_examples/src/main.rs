@@ -1,7 +1,10 @@
-//! Runs each example on its file of `data/`, under a heading. With the word `chat` it serves a chat room, with `store` a store, which it calls
-//! with `store-client`, and with `way` and a number it serves so many calls. Those of `crates/examples` are laid out beside them, as the file `also` says.
+//! Runs each example on its file of `data/`, under a heading. With the word `chat` it serves a chat room. With `store` it serves a store,
+//! with `store-shared` one whose texts lie in Redis, and calls it with `store-client` and `store-returning`. With `again` it calls the notebook
+//! that `server` serves, with `way` and a number it serves so many calls, and with `shapes` it runs that example alone. Those of
+//! `crates/examples` are laid out beside them, as the file `also` says.
 #![tactic(auto)]
 
+mod again;
 mod book;
 mod call;
 mod chat_server;
@@ -14,9 +17,12 @@ mod notebook_client;
 mod notebook_server;
 mod notebook_test;
 mod serve;
+mod shapes;
 mod store;
 mod store_client;
+mod store_returning;
 mod store_server;
+mod store_shared;
 mod vat;
 mod view;
 mod way;
@@ -31,7 +37,11 @@ fn main(rt: HostRuntime) -> anyhow::Result<()> {
         Some(word) if word.as_str() == "client" => notebook_client::run(&rt),
         Some(word) if word.as_str() == "store" => store_server::run(&rt),
         Some(word) if word.as_str() == "store-client" => store_client::run(&rt),
+        Some(word) if word.as_str() == "again" => again::run(&rt),
+        Some(word) if word.as_str() == "store-returning" => store_returning::run(&rt),
+        Some(word) if word.as_str() == "store-shared" => store_shared::run(&rt),
         Some(word) if word.as_str() == "way" => way::run(&rt),
+        Some(word) if word.as_str() == "shapes" => shapes::run(&rt),
         _ => run_all(&rt),
     }
 }
@@ -50,6 +60,8 @@ fn run_all(rt: &HostRuntime) -> anyhow::Result<()> {
     draft::run(rt)?;
     heading(rt, "copies")?;
     copies::run(rt)?;
+    heading(rt, "shapes")?;
+    shapes::run(rt)?;
     heading(rt, "connection")?;
     connection::run(rt)?;
     heading(rt, "vat")?;

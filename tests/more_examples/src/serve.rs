@@ -45,4 +45,8 @@ impl Servant for Shelf {
     fn poll(&mut self) -> Result<Option<Settled>, AllocError> {
         Ok(None)
     }
+
+    fn has_more(&self) -> bool {
+        false
+    }
 }

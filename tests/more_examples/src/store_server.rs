@@ -15,6 +15,10 @@ pub struct Shelf(pub Rc<RefCell<BTreeMap<String, String>>>);
 
 impl ServiceObject for Shelf {
     type Makes = StoreDispatch<Shelf>;
+
+    fn has_more(&self) -> bool {
+        false
+    }
 }
 
 impl StoreServer for Shelf {

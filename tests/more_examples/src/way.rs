@@ -44,7 +44,8 @@ fn calls(alloc: Global, count: usize) -> anyhow::Result<Vec<u8>> {
 }
 
 fn call_each(alloc: Global, client: &mut Client<&[u8], Vec<u8>>, count: usize) -> anyhow::Result<()> {
-    let notebook = NotebookClient::new(alloc, client.bootstrap()?.cap(alloc));
+    let root = client.bootstrap()?.cap(alloc);
+    let notebook = NotebookClient::new(alloc, client.own(root));
     for _ in 0..count {
         notebook.add(client, "hello")?;
     }

@@ -1,14 +1,15 @@
 //! `store` of store.capnp, made by capnpc_rattle.
 
-ghost use Rattle.std.specs.Prelude.{◌≡◌, IfOk, OnOk, OnErr, Err, []};
+ghost use Rattle.std.specs.Prelude.{◌≡◌, IfOk, OnOk, OnErr, Err, ◌≤◌, ◌^◌, length, ◌+◌, ◌⊎◌, []};
 ghost use Rattle.cp_tree.specs.Seen.{pointee_of};
 ghost use Rattle.cp_fields.specs.Pointers.{text_field};
 ghost use Rattle.cp_builder.specs.declared.fault.BuildError.TheVariants.{TooLong};
 ghost use Rattle.cp_builder.specs.Copies.{Sets};
 ghost use Rattle.cp_builder.specs.Drafts.{blank, text_tree, with_pointer};
-ghost use Rattle.cp_interfaces.specs.Calls.{outgoing_call_of, request_of};
+ghost use Rattle.cp_interfaces.specs.Calls.{IsCall, MakesOf, request_of};
+ghost use Rattle.cp_interfaces.specs.Faults.{Unbuilt};
 ghost use Rattle.cp_interfaces.specs.ServiceCalls.{Answers};
-ghost use Rattle.cp_interfaces.specs.ServiceCalls.{MakesOf};
+ghost use Rattle.cp_interfaces.specs.Tables.{none_named};
 ghost use Rattle.cp_interfaces.specs.Services.{At, at};
 ghost use Rattle.store.specs.Store.{StoreKind, StoreTakes, any_store};
 
@@ -16,12 +17,11 @@ use cp_builder::{BuildError, FieldValue, StructBuilder};
 use cp_fields::{StructReader, TextReader, WrongKind};
 use cp_interfaces::{
     CallTarget, Caller, CapTableBuilder, Dispatch, LaterAnswer, Lends, MethodCall, MethodFault,
-    MethodResult, NoFieldsBuilder, NoFieldsPipeline, NoFieldsReader, ObjectDispatch, Results,
-    ServiceCall, ServiceObject, TypedClient, TypedPipeline, TypedResolver, refuse,
+    MethodRequest, MethodResult, NoFieldsBuilder, NoFieldsPipeline, NoFieldsReader, ObjectDispatch,
+    Results, ServiceCall, ServiceObject, TypedClient, TypedPipeline, TypedResolver, refuse,
 };
-use cp_objects::Context;
-use cp_refs::{Cap, Request};
-use cp_servants::{OutgoingCall, Reply};
+use cp_objects::{Context, SessionCap};
+use cp_servants::Reply;
 use cp_tree::Whole;
 use std::alloc::{AllocError, Global};
 
@@ -37,7 +37,7 @@ impl StoreClient {
     pub const ID: u64 = 0xea2f6e3bf233ec72;
 
     /// The object that a capability stands for.
-    pub fn new(alloc: Global, cap: Cap) -> StoreClient
+    pub fn new(alloc: Global, cap: SessionCap) -> StoreClient
         ensures { result.target ≡ cap }
     {
         StoreClient {
@@ -46,8 +46,9 @@ impl StoreClient {
     }
 
     /// A call of `put @0`.
-    pub fn put_request(&self, key: &str, value: &str) -> Result<Request, BuildError>
-        ensures { IfOk result (λ r. r ≡ request_of 0xea2f6e3bf233ec72 0 (with_pointer (with_pointer (blank 0 2) 0 (text_tree key.now)) 1 (text_tree value.now)) []) }
+    pub fn put_request(&self, key: &str, value: &str) -> Result<MethodRequest<'_>, BuildError>
+        ensures request { IfOk result (λ r. IsCall r self.now.target (request_of 0xea2f6e3bf233ec72 0 (with_pointer (with_pointer (blank 0 2) 0 (text_tree key.now)) 1 (text_tree value.now)) [])) }
+        ensures long { result ≡ Err TooLong → (2 ^ 29 ≤ length key.now + 1) ⊎ (2 ^ 29 ≤ length value.now + 1) }
     {
         let mut params: StructBuilder<0, 2> = StructBuilder::new(self.target.alloc())?;
         params.set_pointer(0, cp_builder::text_of(self.target.alloc(), key)?);
@@ -63,25 +64,16 @@ impl StoreClient {
         key: &str,
         value: &str,
     ) -> Result<StorePutResultsPipeline, C::Fault>
-        ensures { MakesOf (λ p. p.at) C.sends caller.old self.now.target 0xea2f6e3bf233ec72 0 (with_pointer (with_pointer (blank 0 2) 0 (text_tree key.now)) 1 (text_tree value.now)) [] result caller.new }
+        ensures { MakesOf (λ p. p.at) C.number C.sends C.Fault.From-2.from_gives (Unbuilt C.Fault.From-1.from_gives ((2 ^ 29 ≤ length key.now + 1) ⊎ (2 ^ 29 ≤ length value.now + 1))) caller.old self.now.target 0xea2f6e3bf233ec72 0 (with_pointer (with_pointer (blank 0 2) 0 (text_tree key.now)) 1 (text_tree value.now)) [] result caller.new }
     {
-        let request = self.put_request(key, value)?;
-        Ok(StorePutResultsPipeline::of(self.target.call(caller, request)?))
-    }
-
-    /// A call of `put` that an object makes. With the mark the object is told what it came to.
-    pub fn put_call(&self, key: &str, value: &str, call_id: u64) -> Result<OutgoingCall, BuildError>
-        ensures { IfOk result (λ call. call ≡ outgoing_call_of self.now.target (request_of 0xea2f6e3bf233ec72 0 (with_pointer (with_pointer (blank 0 2) 0 (text_tree key.now)) 1 (text_tree value.now)) []) call_id) }
-    {
-        Ok(
-            self.target
-                .outgoing(self.put_request(key, value)?, call_id)?,
-        )
+        let call = self.put_request(key, value)?;
+        Ok(StorePutResultsPipeline::of(self.target.call(caller, call.request)?))
     }
 
     /// A call of `get @1`.
-    pub fn get_request(&self, key: &str) -> Result<Request, BuildError>
-        ensures { IfOk result (λ r. r ≡ request_of 0xea2f6e3bf233ec72 1 (with_pointer (blank 0 1) 0 (text_tree key.now)) []) }
+    pub fn get_request(&self, key: &str) -> Result<MethodRequest<'_>, BuildError>
+        ensures request { IfOk result (λ r. IsCall r self.now.target (request_of 0xea2f6e3bf233ec72 1 (with_pointer (blank 0 1) 0 (text_tree key.now)) [])) }
+        ensures long { result ≡ Err TooLong → 2 ^ 29 ≤ length key.now + 1 }
     {
         let mut params: StructBuilder<0, 1> = StructBuilder::new(self.target.alloc())?;
         params.set_pointer(0, cp_builder::text_of(self.target.alloc(), key)?);
@@ -95,17 +87,10 @@ impl StoreClient {
         caller: &mut C,
         key: &str,
     ) -> Result<StoreGetResultsPipeline, C::Fault>
-        ensures { MakesOf (λ p. p.at) C.sends caller.old self.now.target 0xea2f6e3bf233ec72 1 (with_pointer (blank 0 1) 0 (text_tree key.now)) [] result caller.new }
+        ensures { MakesOf (λ p. p.at) C.number C.sends C.Fault.From-2.from_gives (Unbuilt C.Fault.From-1.from_gives (2 ^ 29 ≤ length key.now + 1)) caller.old self.now.target 0xea2f6e3bf233ec72 1 (with_pointer (blank 0 1) 0 (text_tree key.now)) [] result caller.new }
     {
-        let request = self.get_request(key)?;
-        Ok(StoreGetResultsPipeline::of(self.target.call(caller, request)?))
-    }
-
-    /// A call of `get` that an object makes. With the mark the object is told what it came to.
-    pub fn get_call(&self, key: &str, call_id: u64) -> Result<OutgoingCall, BuildError>
-        ensures { IfOk result (λ call. call ≡ outgoing_call_of self.now.target (request_of 0xea2f6e3bf233ec72 1 (with_pointer (blank 0 1) 0 (text_tree key.now)) []) call_id) }
-    {
-        Ok(self.target.outgoing(self.get_request(key)?, call_id)?)
+        let call = self.get_request(key)?;
+        Ok(StoreGetResultsPipeline::of(self.target.call(caller, call.request)?))
     }
 }
 
@@ -144,7 +129,7 @@ pub trait StoreServer: ServiceObject {
         call: &mut StorePutCall<'_>,
         context: &mut Context<Self::Makes>,
     ) -> MethodResult
-        ensures { Answers (λ p. p.body) (λ d. d.body) (λ d. []) store_kind.on_put (at self.old context.old) call.old call.new result (at self.new context.new) };
+        ensures { Answers (λ p. p.body) (λ d. d.body) (λ d. none_named) store_kind.on_put (at self.old context.old) call.old call.new result (at self.new context.new) };
 
     /// The text of a key, or none.
     fn get(
@@ -152,7 +137,7 @@ pub trait StoreServer: ServiceObject {
         call: &mut StoreGetCall<'_>,
         context: &mut Context<Self::Makes>,
     ) -> MethodResult
-        ensures { Answers (λ p. p.body) (λ d. d.body) (λ d. []) store_kind.on_get (at self.old context.old) call.old call.new result (at self.new context.new) };
+        ensures { Answers (λ p. p.body) (λ d. d.body) (λ d. none_named) store_kind.on_get (at self.old context.old) call.old call.new result (at self.new context.new) };
 }
 
 /// An object of `interface Store`, as a connection serves it.
@@ -291,7 +276,7 @@ impl StoreGetResultsBuilder {
 impl Results for StoreGetResultsBuilder {
     ghost content = { λ d. d.body };
 
-    ghost names = { λ d. [] };
+    ghost names = { λ d. none_named };
 
     fn into_parts(self, alloc: Global) -> (Whole, CapTableBuilder) {
         (self.body.into_whole(), CapTableBuilder::new(alloc))

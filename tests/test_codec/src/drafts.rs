@@ -42,7 +42,9 @@ fn expect_object(rt: &impl Abort, object: &Object) {
 
 #[test]
 fn fields_are_set(rt: HostRuntime) {
-    let object = sample(&rt, rt.alloc()).into_object();
+    let draft = sample(&rt, rt.alloc());
+    check!(&rt; draft.u16(1) == 0x8001);
+    let object = draft.into_object();
     expect_object(&rt, &object);
     drop(object);
 }

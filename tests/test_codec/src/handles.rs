@@ -7,6 +7,7 @@ use c_handles::{
     CallFault, MessageNumbers, MethodNumbers, MethodRules, NOWHERE, ReaderState, RelayState, Spot,
     Verdict, check_all,
 };
+use cp_canonical::CanonicalFault;
 use cp_frame::{FrameFault, Mode};
 use cp_reading::TreeFault;
 use cp_relay::{Output, RelayFault, RelayCause};
@@ -22,11 +23,14 @@ const AT: Place = Place {
     word: 30,
 };
 
-/// G3 at the root.
-const OUT_OF_BOUNDS: CallFault = CallFault::Refused(Refusal::Tree(TreeFault::OutOfBounds(Place {
+/// The root's word.
+const FIRST_WORD: Place = Place {
     segment: 0,
     word: 0,
-})));
+};
+
+/// G3 at the root.
+const OUT_OF_BOUNDS: CallFault = CallFault::Refused(Refusal::Tree(TreeFault::OutOfBounds(FIRST_WORD)));
 
 /// Faults, their numbers, and what is to blame.
 const NUMBERS: &[(CallFault, u32, (usize, usize, u32))] = &[
@@ -82,6 +86,16 @@ const NUMBERS: &[(CallFault, u32, (usize, usize, u32))] = &[
         404,
         (0, 0, 0),
     ),
+    (
+        CallFault::NotCanonical(CanonicalFault::Capability(7)),
+        601,
+        (0, 0, 7),
+    ),
+    (
+        CallFault::NotCanonical(CanonicalFault::Difference(AT)),
+        602,
+        (2, 30, 0),
+    ),
 ];
 
 #[test]
@@ -136,6 +150,9 @@ fn frames_in_pieces(rt: HostRuntime) {
     expect_bytes(&rt, &reader.lent, &TWO_SEGMENTS);
     check!(&rt; reader.recut(Mode::Plain, 100) == Ok(()));
     expect_bytes(&rt, &reader.lent, &FINISH);
+    check!(&rt; reader.canonical(Mode::Plain) == Ok(()));
+    expect_bytes(&rt, &reader.lent, &FINISH);
+    check!(&rt; reader.check_canonical() == Err(CallFault::NotCanonical(CanonicalFault::Difference(FIRST_WORD))));
     check!(&rt; reader.recut(Mode::Packed, 100) == Ok(()));
     expect_bytes(&rt, &reader.lent, &PACKED);
     let mut out = [0xeeu8; 4];

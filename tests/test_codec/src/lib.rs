@@ -1,4 +1,4 @@
-//! Tests of the codec, over its libraries: cp_words, cp_tree, cp_reading, cp_writing, cp_packed, cp_frame, cp_fields, cp_builder, cp_rpc,
+//! Tests of the codec, over its libraries: cp_words, cp_tree, cp_reading, cp_writing, cp_canonical, cp_packed, cp_frame, cp_fields, cp_builder, cp_rpc,
 //! cp_stream and cp_relay, and of cp_tables, cp_refs and cp_vat_machine. They are one crate, since what std and these libraries say is read anew for each. What holds a message, a
 //! tree or a reader lets it go by `drop`: where one goes at the end of its scope, each function proves anew what that does.
 #![tactic(auto)]
@@ -11,6 +11,8 @@ macro_rules! check {
     };
 }
 
+#[cfg(test)]
+mod canonical;
 #[cfg(test)]
 mod checks;
 #[cfg(test)]

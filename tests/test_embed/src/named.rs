@@ -10,7 +10,7 @@ use crate::connection::{
     jd_connection_wrote,
 };
 use crate::reader::{
-    jd_reader_check, jd_reader_close, jd_reader_copy, jd_reader_end, jd_reader_message,
+    jd_reader_canonical, jd_reader_check, jd_reader_check_canonical, jd_reader_close, jd_reader_copy, jd_reader_end, jd_reader_message,
     jd_reader_needs, jd_reader_next, jd_reader_open, jd_reader_recut, jd_reader_write,
 };
 use crate::relay::{jd_relay_close, jd_relay_end, jd_relay_feed, jd_relay_open};
@@ -50,6 +50,8 @@ pub(crate) fn name_all() {
     let _ = jd_reader_check(none(), none(), none());
     let _ = jd_reader_write(none(), none(), none(), none());
     let _ = jd_reader_recut(none(), none(), none(), none(), none(), none());
+    let _ = jd_reader_canonical(none(), none(), none(), none(), none());
+    let _ = jd_reader_check_canonical(none(), none(), none());
     let _ = jd_reader_copy(none(), none(), none(), none());
     jd_reader_close(none(), none());
     let _ = jd_relay_open(none(), none(), none(), none(), none(), none(), none());

@@ -30,8 +30,8 @@ fn limits_of(nesting: Option<&str>, traversal: Option<&str>) -> Option<Limits> {
     Limits::new(number_of(nesting)?, number_of(traversal)?, 512, 8_388_608)
 }
 
-/// The command of a row: `pack`, `unpack`, `recut MODE WORDS`, `decode MODE STRUCT`, `names MODE`, `returns MODE`, or `show` or
-/// `check` with a mode and maybe limits.
+/// The command of a row: `pack`, `unpack`, `recut MODE WORDS`, `decode MODE STRUCT`, `names MODE`, `returns MODE`, or `show`,
+/// `check`, `is_canonical`, `canonical` or `flat` with a mode and maybe limits.
 pub fn plan_of<'p>(text: &str, names: &'p Names) -> Option<Plan<'p>> {
     let mut words = text.split(' ');
     let name = words.next()?;
@@ -65,6 +65,12 @@ fn shown<'p>(name: &str, mode: Mode, limits: Limits, names: &'p Names) -> Option
     match name {
         "show" => Some(Plan::Show { mode, limits }),
         "check" => Some(Plan::Check { mode, limits }),
+        "is_canonical" => Some(Plan::CheckCanonical { mode, limits }),
+        "canonical" | "flat" => Some(Plan::Canonical {
+            mode,
+            limits,
+            is_flat: name == "flat",
+        }),
         "names" | "returns" => Some(Plan::Name {
             mode,
             limits,
@@ -91,7 +97,7 @@ fn push_written(
     out: &[u8],
 ) -> Result<(), Fault> {
     match plan {
-        Plan::Pack | Plan::Unpack | Plan::Recut { .. } => {
+        Plan::Pack | Plan::Unpack | Plan::Recut { .. } | Plan::Canonical { .. } => {
             let digits = hex::encode(alloc, out)?;
             let pushed = text.push_str(digits.as_str());
             drop(digits);

@@ -11,6 +11,7 @@ mod fault;
 mod frame;
 mod guard;
 mod message;
+mod recording;
 mod row;
 mod stream;
 mod text;
@@ -29,7 +30,7 @@ const STREAMS: [(&str, &str); 3] = [
 ];
 
 /// The files of rows.
-const ROWS: [Rows; 7] = [
+const ROWS: [Rows; 8] = [
     Rows::Frames,
     Rows::Commands,
     Rows::Texts,
@@ -37,6 +38,7 @@ const ROWS: [Rows; 7] = [
     Rows::Calls,
     Rows::Messages,
     Rows::Guards,
+    Rows::Recordings,
 ];
 
 /// A file of rows.
@@ -49,6 +51,7 @@ enum Rows {
     Calls,
     Messages,
     Guards,
+    Recordings,
 }
 
 impl Rows {
@@ -61,6 +64,7 @@ impl Rows {
             Rows::Calls => "calls.txt",
             Rows::Messages => "messages.txt",
             Rows::Guards => "guards.txt",
+            Rows::Recordings => "recordings.txt",
         }
     }
 
@@ -72,6 +76,7 @@ impl Rows {
             Rows::Json => "json.request",
             Rows::Calls => "calls.request",
             Rows::Guards => "guards.request",
+            Rows::Recordings => "recordings.request",
         }
     }
 
@@ -87,6 +92,7 @@ impl Rows {
             Rows::Calls => call::try_line(alloc, request, line),
             Rows::Messages => message::try_line(alloc, line),
             Rows::Guards => guard::try_line(alloc, request, line),
+            Rows::Recordings => recording::try_line(alloc, request, line),
         }
     }
 

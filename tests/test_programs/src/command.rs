@@ -2,3 +2,4 @@
 
 mod acting;
 mod connections;
+mod recordings;

@@ -85,7 +85,7 @@ fn pass(rt: &impl Abort, from: &mut ConnectionState, to: &mut ConnectionState) {
 /// The event that an end tells next is this one.
 fn expect_event(rt: &impl Abort, end: &mut ConnectionState, wanted: EventNumbers) {
     let event = end.next();
-    check!(rt; event == wanted);
+    check!(rt; event == Ok(wanted));
 }
 
 /// The content of the event is this frame.
@@ -132,6 +132,34 @@ fn a_call_crosses_as_numbers_and_frames(rt: HostRuntime) {
     let done = (client.finish(1), client.finish(0), client.release(0));
     check!(&rt; done == (Ok(()), Ok(()), Ok(())));
     drop(frames);
+    drop(server);
+    drop(client);
+}
+
+#[test]
+fn each_result_that_names_an_import_is_one_hold(rt: HostRuntime) {
+    let alloc = rt.alloc();
+    let (mut client, mut server) = ends(alloc);
+    let asked = (client.bootstrap(), client.bootstrap());
+    check!(&rt; asked == (Ok(0), Ok(1)));
+    pass(&rt, &mut client, &mut server);
+    pass(&rt, &mut server, &mut client);
+    expect_event(&rt, &mut client, SETTLED);
+    expect_event(&rt, &mut client, EventNumbers { caps: 1, ..RESULTS });
+    let finished = (client.finish(0), client.finish(1));
+    check!(&rt; finished == (Ok(()), Ok(())));
+    pass(&rt, &mut client, &mut server);
+    let first = client.release(0);
+    check!(&rt; first == Ok(()));
+    // The other result holds it still.
+    check!(&rt; client.connection.outgoing().is_empty());
+    let called = client.call(&IMPORT, (9, 3), &[], &[]);
+    check!(&rt; called.is_ok());
+    let second = client.release(0);
+    check!(&rt; second == Ok(()));
+    check!(&rt; !client.connection.outgoing().is_empty());
+    let third = client.release(0);
+    check!(&rt; third == Err(CallFault::Vat(VatFault::UnknownImport)));
     drop(server);
     drop(client);
 }

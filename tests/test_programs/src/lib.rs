@@ -31,4 +31,6 @@ mod services;
 #[cfg(test)]
 mod session;
 #[cfg(test)]
+mod sockets;
+#[cfg(test)]
 mod vat;

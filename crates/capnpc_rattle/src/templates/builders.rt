@@ -20,7 +20,7 @@ impl $Type$Builder {
     pub fn new(alloc: Global) -> Result<$Type$Builder, AllocError>
         ensures $if own$blank $end${ IfOk result (λ d. d.body ≡ blank $words$ $pointers$) }
 $if own$
-        ensures names { IfOk result (λ d. d.table ≡ []) }
+        ensures names { IfOk result (λ d. d.table ≡ none_named) }
 $end$
     {
         Ok($Type$Builder { body: StructBuilder::new(alloc)?$if own$, table: CapTableBuilder::new(alloc)$end$ })
@@ -56,13 +56,15 @@ impl $Type$ListBuilder {
     }
 }
 
-impl cp_interfaces::ListValue for $Type$ListBuilder {
-    ghost tree = { λ l. l.items };
+impl<'a> FieldValue<List<'a, $Type$Reader<'a>>> for $Type$ListBuilder {
+    ghost stands = { λ l t. t ≡ l.items };
 
-    ghost is_long = { λ l. ¬ (Unit {0}) };
+    ghost is_long = { λ l. ⊥ };
 
-    fn into_list(self, alloc: Global) -> Result<Whole, BuildError> {
-        let _ = alloc;
+    fn into_whole(self, _alloc: Global) -> Result<Whole, BuildError>
+        ensures value { IfOk result (λ whole. whole ≡ self.items) }
+        ensures long { result ≡ Err TooLong → ⊥ }
+    {
         Ok(self.items.into_whole())
     }
 }
@@ -90,19 +92,6 @@ impl<'a> FieldValue<$Type$Reader<'a>> for $Type$Builder {
         Ok(self.body.into_whole())
     }
 }
-
-impl<'a> FieldValue<List<'a, $Type$Reader<'a>>> for $Type$ListBuilder {
-    ghost stands = { λ l t. t ≡ l.items };
-
-    ghost is_long = { λ l. ⊥ };
-
-    fn into_whole(self, _alloc: Global) -> Result<Whole, BuildError>
-        ensures value { IfOk result (λ whole. whole ≡ self.items) }
-        ensures long { result ≡ Err TooLong → ⊥ }
-    {
-        Ok(self.items.into_whole())
-    }
-}
 $end$
 $end$
 $block results$
@@ -110,7 +99,7 @@ $block results$
 impl Results for $Type$Builder {
     ghost content = { λ d. d.body };
 
-    ghost names = { λ d. $if own$d.table$else$[]$end$ };
+    ghost names = { λ d. $if own$d.table$else$none_named$end$ };
 
     fn into_parts(self, alloc: Global) -> (Whole, CapTableBuilder) {
 $if own$
@@ -122,26 +111,69 @@ $end$
 use cp_interfaces::Results;
 use cp_interfaces::CapTableBuilder;
 $block parameters$$for args$, $value$: $if client$$client.Type$Client$else$$insert takes form$$end$$end$
-$block content$$for wraps$($if points$with_pointer$else$with_uint$end$ $end$(blank $words$ $pointers$)$for args$ $unless points$$width$ $end$$place$ $if client$(pointer_naming $for before$(with_named $end$[]$for before$ $value$.target)$end$ $value$.target)$else$$insert sets form$$end$)$end$
-$block table$$for clients$(with_named $end$[]$for clients$ $value$.target)$end$
+$block content$$for wraps$($if points$with_pointer$else$with_uint$end$ $end$(blank $words$ $pointers$)$for args$ $unless points$$width$ $end$$place$ $if client$(pointer_naming ($for before$(naming $end$none_named$for before$ $value$.target)$end$).caps $value$.target.cap)$else$$insert sets form$$end$)$end$
+$block table$$if clients$($insert named$).caps$else$[]$end$
+$block named$$for clients$(naming $end$none_named$for clients$ $value$.target)$end$
 $block about$
 
 $doc about$
 $unless about$
-/// Sets `$name$`$if member$, and chooses it in its union$end$.
+/// Sets `$name$`$if member$, and chooses it in its union$else$$if chosen$, and chooses the group that it is in$end$$end$.
 $end$
-$block old$$if member$(with_uint self.old.body 16 $tag_place$ $tag$)$else$self.old.body$end$
+$block old$$if member$(with_uint $insert within$ 16 $tag_place$ $tag$)$else$$insert within$$end$
+$block within$$if chosen$($chosen_word$_chosen self.old.body)$else$self.old.body$end$
 $block choose$
+$if chosen$
+        self.choose_$chosen$();
+$end$
 $if member$
         self.body.set_u16($tag_place$, $tag$);
 $end$
 $block setter member$
 $insert about$
     pub fn set_$joined$(&mut self)
-        ensures $if own$set $end${ self.new.body ≡ with_uint self.old.body 16 $tag_place$ $tag$ }$insert table_stays$
+        ensures $if own$set $end${ self.new.body ≡ with_uint $insert within$ 16 $tag_place$ $tag$ }$insert table_stays$
     {
-        self.body.set_u16($tag_place$, $tag$);
+$insert choose$
     }
+$block setter group$
+
+$doc about$
+$unless about$
+/// Chooses group `$name$` in its union.
+$end$
+/// All its fields are then as by default.
+    pub fn set_$joined$(&mut self)
+        ensures $if own$set $end${ self.new.body ≡ $of.word$_blank $insert within$ }$insert table_stays$
+    {
+$insert choose$
+$insert clear$
+    }
+$if cells$
+
+    /// Chooses it, unless it is chosen.
+    fn choose_$joined$(&mut self)
+        ensures $if own$set $end${ self.new.body ≡ $of.word$_chosen self.old.body }$insert table_stays$
+    {
+$if chosen$
+        self.choose_$chosen$();
+$end$
+        if self.body.u16($tag_place$) != $tag$ {
+$if chosen$
+            self.body.set_u16($tag_place$, $tag$);
+$insert clear$
+$else$
+            self.set_$joined$();
+$end$
+        }
+    }
+ghost use $here$.{$of.word$_chosen};
+$end$
+ghost use $here$.{$of.word$_blank};
+$block clear$
+$for cells$
+        self.body.$if points$set_pointer($place$, Whole::null())$else$$if bit$set_bit($place$, false)$else$set_u$width$($place$, 0)$end$$end$;
+$end$
 $block setter field$
 $if converts$
 $insert about$
@@ -156,12 +188,12 @@ $insert choose$
         Ok(())
     }
 $if of$
-use $of.from$$of.Type$Reader;
+use $of.from$$of.Type$$if of.struct$Reader$end$;
 $end$
 $else$
 $unless client$
 $insert about$
-    pub fn set_$joined$(&mut self, $insert copies kind$value: $insert takes form$)$if fails$ -> Result<(), BuildError>$end$
+    pub fn set_$joined$(&mut self, value: $insert takes form$)$if fails$ -> Result<(), BuildError>$end$
         ensures $if fails$set { OnOk result ($else$$if own$set $end${ $end$self.new.body ≡ $if points$with_pointer$else$with_uint$end$ $insert old$ $unless points$$width$ $end$$place$ $insert sets form$$insert limits kind$$unless fails$ }$end$$insert table_stays$
     {
 $if first$
@@ -185,12 +217,16 @@ $block table_stays$$if own$
 $block client_setter$
 use $from$$Type$Client;
 use cp_interfaces::CapTableBuilder;
+use cp_interfaces::NamingError;
+ghost use Rattle.cp_interfaces.specs.declared.naming_error.NamingError.TheVariants as errors;
 $if own$
-    pub fn set_$joined$(&mut self, value: $Type$Client) -> Result<(), BuildError>
-        ensures set { OnOk result (self.new.body ≡ with_pointer $insert old$ $place$ (pointer_naming self.old.table value.target)) }
-        ensures added { OnOk result (self.new.table ≡ with_named self.old.table value.target) }
+    pub fn set_$joined$(&mut self, value: $Type$Client) -> Result<(), NamingError>
+        ensures set { OnOk result (self.new.body ≡ with_pointer $insert old$ $place$ (pointer_naming self.old.table.caps value.target.cap)) }
+        ensures added { OnOk result (self.new.table ≡ naming self.old.table value.target) }
         ensures left { OnErr result (self.new ≡ self.old) }
-        ensures full { result ≡ Err TooLong ↔ 2 ^ 32 ≤ length self.old.table + 1 }
+        ensures full { result ≡ Err errors.TooLong ↔ IsFull self.old.table }
+        ensures own { OnOk result (may_name self.old.table value.target ≡ true) }
+        ensures other { result ≡ Err errors.OtherSession → may_name self.old.table value.target ≡ false }
     {
         let pointer = self.table.add(value.target.into_cap())?;
 $else$
@@ -198,11 +234,13 @@ $else$
         &mut self,
         table: &mut CapTableBuilder,
         value: $Type$Client,
-    ) -> Result<(), BuildError>
-        ensures set { OnOk result (self.new.body ≡ with_pointer $insert old$ $place$ (pointer_naming table.old value.target)) }
-        ensures added { OnOk result (table.new ≡ with_named table.old value.target) }
+    ) -> Result<(), NamingError>
+        ensures set { OnOk result (self.new.body ≡ with_pointer $insert old$ $place$ (pointer_naming table.old.caps value.target.cap)) }
+        ensures added { OnOk result (table.new ≡ naming table.old value.target) }
         ensures left { OnErr result ((self.new ≡ self.old) × (table.new ≡ table.old)) }
-        ensures full { result ≡ Err TooLong ↔ 2 ^ 32 ≤ length table.old + 1 }
+        ensures full { result ≡ Err errors.TooLong ↔ IsFull table.old }
+        ensures own { OnOk result (may_name table.old value.target ≡ true) }
+        ensures other { result ≡ Err errors.OtherSession → may_name table.old value.target ≡ false }
     {
         let pointer = table.add(value.target.into_cap())?;
 $end$
@@ -212,20 +250,26 @@ $insert choose$
     }
 "#;
 
+/// Definitions of groups that are members of unions.
+pub const GROUPS: &str = r#"
+$block chosen group$
+
+-- a struct in which group `$name$` is chosen, and its fields are as by default
+abbrev pub $of.word$_blank : Tree → Tree
+$of.word$_blank t = $for wraps$$if points$with_pointer$else$with_uint$end$ ($end$with_uint t 16 $tag_place$ $tag$$for cells$) $if points$$place$ trees.null$else$$width$ $place$ 0$end$$end$
+$if cells$
+
+-- the same, but as it is if the group is chosen
+abbrev pub $of.word$_chosen : Tree → Tree
+$of.word$_chosen t = if plain $insert of_outer$ 16 $tag_place$ == $tag$ then $insert of_outer$ else $of.word$_blank $insert of_outer$
+use Rattle.cp_tree.specs.Node as trees
+$end$
+$block of_outer$$if chosen$($chosen_word$_chosen t)$else$t$end$
+"#;
+
 /// How a field of each type is set: the type of its value, what its bits or its pointer become as definitions have it, and the
 /// code. What may fail comes before a member is chosen.
 pub const SETTERS: &str = r#"
-$block copies copied$alloc: Global, 
-$block copies slice$alloc: Global, 
-$block limits long$) }
-        ensures left { OnErr result (self.new ≡ self.old) }
-        ensures long { IfErr result (λ fault. (fault ≡ TooLong) × (2 ^ 29 ≤ length value.items)) }
-$block limits copied$) }
-        ensures left { OnErr result (self.new ≡ self.old) }
-        ensures long { result ≡ Err TooLong → 2 ^ 29 ≤ length value.now + 1 }
-$block limits slice$) }
-        ensures left { OnErr result (self.new ≡ self.old) }
-        ensures long { result ≡ Err TooLong → 2 ^ 29 ≤ length value.now }
 $block limits built$) }
         ensures left { OnErr result (self.new ≡ self.old) }
         ensures long { result ≡ Err TooLong → 2 ^ 29 ≤ length value.items.items }
@@ -293,13 +337,13 @@ $block sets numbers$($elements$_tree $value$.items)
 $block makes numbers$cp_builder::$maker$_of($value$)?
 $block takes signed_list$&[i$width$]
 $block sets signed_list$($elements$_tree (map (cast_unsigned w$width$) $value$.now))
-$block makes signed_list$cp_interfaces::signed$width$_of($alloc$, $value$)?
+$block makes signed_list$cp_builder::signed$width$_of($alloc$, $value$)?
 $block takes float_list$&[f$width$]
 $block sets float_list$($elements$_tree (map (to_bits binary$width$) $value$.now))
-$block makes float_list$cp_interfaces::float$width$_of($alloc$, $value$)?
+$block makes float_list$cp_builder::float$width$_of($alloc$, $value$)?
 $block takes enum_list$&[$of.Type$]
 $block sets enum_list$(halves_tree (map $of.word$_number $value$.now))
-$block makes enum_list$cp_interfaces::enumerants_of($alloc$, $value$)?
+$block makes enum_list$cp_builder::enumerants_of($alloc$, $value$)?
 $block cites enum_list$
 $insert cites enum$
 $block takes built$$for depth$cp_interfaces::ListsBuilder<$end$$insert list base$$for depth$>$end$

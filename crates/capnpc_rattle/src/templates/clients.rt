@@ -12,7 +12,7 @@ pub struct $Type$Client {
     /// The capability that is called.
     pub target: CallTarget,
 }
-use cp_refs::Cap;
+use cp_objects::SessionCap;
 use cp_interfaces::CallTarget;
 
 impl $Type$Client {
@@ -20,7 +20,7 @@ impl $Type$Client {
     pub const ID: u64 = $id|hex$;
 
     /// The object that a capability stands for.
-    pub fn new(alloc: Global, cap: Cap) -> $Type$Client
+    pub fn new(alloc: Global, cap: SessionCap) -> $Type$Client
         ensures { result.target ≡ cap }
     {
         $Type$Client { target: CallTarget::new(alloc, cap) }
@@ -59,8 +59,13 @@ $block client_method$
 $if plain$
 $for plain$
     /// A call of `$name$ @$number$`.
-    pub fn $name|snake$_request(&self$insert parameters$) -> Result<Request, BuildError>
-        ensures { IfOk result (λ r. r ≡ request_of $id|hex$ $number$ $insert content$ $insert table$) }
+    pub fn $name|snake$_request(&self$insert parameters$) -> Result<MethodRequest<'_>, $insert write_fault$>
+        ensures request { IfOk result (λ r. IsCall r self.now.target (request_of $id|hex$ $number$ $insert content$ $insert table$)) }
+        ensures long { result ≡ Err $if clients$errors.$end$TooLong → $insert longs$ }
+$if clients$
+        ensures own { OnOk result ($insert own$ ≡ true) }
+        ensures other { result ≡ Err errors.OtherSession → $insert own$ ≡ false }
+$end$
     {
         let $if args$mut $end$params: StructBuilder<$words$, $pointers$> = StructBuilder::new(self.target.alloc())?;
 $if clients$
@@ -76,7 +81,7 @@ $insert cites form$
 $end$
 $end$
         let content = params.into_whole();
-        Ok(self.target.request$if clients$_naming$end$($id|hex$, $number$, content$if clients$, table$end$))
+        $if clients$self.target.request_naming($id|hex$, $number$, content, table)$else$Ok(self.target.request($id|hex$, $number$, content))$end$
     }
 
 $doc about$
@@ -84,25 +89,20 @@ $unless about$
 /// Calls `$name$ @$number$`.
 $end$
     pub fn $name|method$<C: Caller>(&self, caller: &mut C$insert parameters$) -> Result<$results.Type$Pipeline, C::Fault>
-        ensures { MakesOf (λ p. p.at) C.sends caller.old self.now.target $id|hex$ $number$ $insert content$ $insert table$ result caller.new }
+        ensures { MakesOf (λ p. p.at) C.number C.sends C.Fault.From-2.from_gives $if clients$(Unnamed C.Fault.From-2.from_gives $insert argument$ ($insert own$))$else$(Unbuilt C.Fault.From-1.from_gives $insert argument$)$end$ caller.old self.now.target $id|hex$ $number$ $insert content$ $insert table$ result caller.new }
     {
-        let request = self.$name|snake$_request($for args$$if more$, $end$$value$$end$)?;
-        Ok($results.Type$Pipeline::of(self.target.call(caller, request)?))
+        let call = self.$name|snake$_request($for args$$if more$, $end$$value$$end$)?;
+        Ok($results.Type$Pipeline::of(self.target.call(caller, call.request)?))
     }
-
-    /// A call of `$name$` that an object makes. With the mark the object is told what it came to.
-    pub fn $name|snake$_call(&self$insert parameters$, call_id: u64) -> Result<OutgoingCall, BuildError>
-        ensures { IfOk result (λ call. call ≡ outgoing_call_of self.now.target (request_of $id|hex$ $number$ $insert content$ $insert table$) call_id) }
-    {
-        Ok(self.target.outgoing(self.$name|snake$_request($for args$$if more$, $end$$value$$end$)?, call_id)?)
-    }
-use cp_servants::OutgoingCall;
-ghost use Rattle.cp_interfaces.specs.ServiceCalls.{MakesOf};
+$if clients$
+use cp_interfaces::NamingError;
+ghost use Rattle.cp_interfaces.specs.declared.naming_error.NamingError.TheVariants as errors;
+$end$
 $end$
 $else$
     /// A call of `$name$ @$number$`$if params.shared$, with the table of the capabilities that its params name$end$.
-    pub fn $name|snake$_request(&self, params: $params.Type$Builder$if params.shared$, table: CapTableBuilder$end$) -> Request
-        ensures { result ≡ request_of $id|hex$ $number$ params.body $insert names params.naming$ }
+    pub fn $name|snake$_request(&self, params: $params.Type$Builder$if params.shared$, table: CapTableBuilder$end$) -> $if params.never$MethodRequest<'_>$else$Result<MethodRequest<'_>, NamingError>$end$
+        ensures { $if params.never$IsCall result self.now.target (request_of $id|hex$ $number$ params.body [])$else$IsCallIf result self.now.target (request_naming $id|hex$ $number$ params.body self.now.target.session $insert names params.naming$)$end$ }
     {
         let content = params.body.into_whole();
         self.target.request$unless params.never$_naming$end$($id|hex$, $number$, content$unless params.never$, $insert names params.naming$$end$)
@@ -113,21 +113,33 @@ $unless about$
 /// Calls `$name$ @$number$`.
 $end$
     pub fn $name|method$<C: Caller>(&self, caller: &mut C, params: $params.Type$Builder$if params.shared$, table: CapTableBuilder$end$) -> Result<$results.Type$Pipeline, C::Fault>
-        ensures { Makes (λ p. p.at) C.sends caller.old self.now.target $id|hex$ $number$ params.body $insert names params.naming$ result caller.new }
+        ensures { Makes$unless params.never$Of$end$ (λ p. p.at) C.number C.sends C.Fault.From-2.from_gives$unless params.never$ (Unnamed C.Fault.From-2.from_gives ⊥ (are_of self.now.target.session $insert names params.naming$.session))$end$ caller.old self.now.target $id|hex$ $number$ params.body $if params.never$[]$else$$insert names params.naming$.caps$end$ result caller.new }
     {
-        let request = self.$name|snake$_request(params$if params.shared$, table$end$);
-        Ok($results.Type$Pipeline::of(self.target.call(caller, request)?))
+        let call = self.$name|snake$_request(params$if params.shared$, table$end$)$unless params.never$?$end$;
+        Ok($results.Type$Pipeline::of(self.target.call(caller, call.request)?))
     }
 $if params.shared$
 use cp_interfaces::CapTableBuilder;
 $end$
 use $params.from$$params.Type$Builder;
+$if params.never$
 ghost use Rattle.cp_interfaces.specs.Calls.{Makes};
+$else$
+use cp_interfaces::NamingError;
 $end$
-use cp_refs::Request;
+$end$
 use cp_interfaces::Caller;
+use cp_interfaces::MethodRequest;
 use $results.from$$results.Type$Pipeline;
-$block names never$[]
+$block longs$$for longs$$if more$ ⊎ $end$$if several$($end$2 ^ 29 ≤ length $value$$insert size kind$$if several$)$end$$end$$unless longs$⊥$end$
+$block argument$$if longs$($end$$insert longs$$if longs$)$end$
+$block size copied$.now + 1
+$block size long$.items
+$block size slice$.now
+$block size built$.items.items
+$block own$may_name_all self.now.target.session none_named ($for clients$$value$.target ∷ $end$[])
+$block write_fault$$if clients$NamingError$else$BuildError$end$
+$block names never$none_named
 $block names own$params.table
 $block names shared$table
 $block node empty$

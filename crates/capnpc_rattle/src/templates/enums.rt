@@ -24,7 +24,7 @@ impl<'a> Element<'a> for $Type$ {
 }
 $if whole$
 
-impl cp_interfaces::Enumerant for $Type$ {
+impl cp_builder::Enumerant for $Type$ {
     ghost number = { $word$_number };
 
     fn as_number(&self) -> u16 {

@@ -8,13 +8,13 @@ $unless about$
 /// `$if group$group$else$struct$end$ $title$`.
 $end$
 #[derive(Drop)]
-pub struct $Type$$Reader$<'a> {
+pub struct $Type$Reader<'a> {
     /// The struct, by the places of its fields.
     pub body: StructReader<'a>,
 }
 $if items$
 
-impl<'a> Element<'a> for $Type$$Reader$<'a> {
+impl<'a> Element<'a> for $Type$Reader<'a> {
     ghost SIZE = { sizes.Composite };
 
     ghost read = { λ t. record { body = t } };
@@ -25,19 +25,19 @@ impl<'a> Element<'a> for $Type$$Reader$<'a> {
         cp_words::ElementSize::Composite
     }
 
-    fn of_element(item: StructReader<'a>) -> $Type$$Reader$<'a> {
-        $Type$$Reader$ { body: item }
+    fn of_element(item: StructReader<'a>) -> $Type$Reader<'a> {
+        $Type$Reader { body: item }
     }
 }
 $end$
 $if methods$
 
-impl<'a> $Type$$Reader$<'a> {$if constructor$
+impl<'a> $Type$Reader<'a> {$if constructor$
     /// The struct that a pointer stands for; null is the struct whose fields are all as by default.
-    pub fn of(at: PointerReader<'a>) -> Result<$Type$$Reader$<'a>, WrongKind>
+    pub fn of(at: PointerReader<'a>) -> Result<$Type$Reader<'a>, WrongKind>
         ensures { Reads result (λ x. x.body) (struct_field at.entry) }
     {
-        Ok($Type$$Reader$ { body: StructReader::of(at)? })
+        Ok($Type$Reader { body: StructReader::of(at)? })
     }
 $end$
 $if which$
@@ -88,16 +88,19 @@ $end$
 $for member$
 $insert member_specs$
 $end$
+$for parts$
+$insert chosen setter$
+$end$
 $block reader group$
 
 $doc about$
 $unless about$
 /// Group `$name$`.
 $end$
-    pub fn $name|method$(&self) -> $of.Type$$Reader$<'a>
+    pub fn $name|method$(&self) -> $of.Type$Reader<'a>
         ensures { result.body ≡ self.now.body }
     {
-        $of.Type$$Reader$ { body: self.body.reborrow() }
+        $of.Type$Reader { body: self.body.reborrow() }
     }
 $block reader slot$
 
@@ -115,7 +118,7 @@ $end$
         $insert code form$
     }
 $if of$
-use $of.from$$of.Type$$if of.struct$$Reader$$end$;
+use $of.from$$of.Type$$if of.struct$Reader$end$;
 $end$
 $if values$
 ghost use Rattle.$of.krate$.specs.$of.module|module$.{$of.word$_of};
@@ -123,14 +126,14 @@ $end$
 $for client$
 
     /// `$name$ @$ordinal$`, of those that a table has.
-    pub fn $name|snake$_client(&self, alloc: Global, caps: &Caps) -> Result<$Type$Client, CapFault>
-        ensures { Finds result (λ c. c.target) (cap_field (pointee_of self.now.body $place$)) caps.now }
+    pub fn $name|snake$_client(&self, alloc: Global, caps: CapTable<'_>) -> Result<$Type$Client, CapFault>
+        ensures { Finds result (λ c. c.target) (cap_field (pointee_of self.now.body $place$)) caps.entry }
     {
         let place = self.$name|method$()?;
         Ok($Type$Client { target: CallTarget::of_field(alloc, place, caps)? })
     }
 use $from$$Type$Client;
-use cp_refs::Caps;
+use cp_interfaces::CapTable;
 use cp_interfaces::CapFault;
 use cp_interfaces::CallTarget;
 use std::alloc::Global;
@@ -169,7 +172,7 @@ $end$
     Unknown(UnknownEnumerant<$last$>),
 }
 ghost use $here$.{$word$_member};
-$block holds group$$of.Type$$Reader$<'a>
+$block holds group$$of.Type$Reader<'a>
 $block holds slot$$insert type shape$
 $block member_specs$
 
@@ -203,7 +206,7 @@ $block type any$PointerReader<'a>
 $block type text$TextReader<'a>
 $block type data$DataReader<'a>
 $block type cap$Option<u32>
-$block type struct$$of.Type$$Reader$<'a>
+$block type struct$$of.Type$Reader<'a>
 $block type list$List<'a, $for inner$Result<List<'a, $end$$insert item base$$for inner$>, WrongKind>$end$>
 $block item void$()
 $block item unsigned$u$width$
@@ -215,7 +218,7 @@ $block item any$PointerReader<'a>
 $block item text$Result<TextReader<'a>, WrongKind>
 $block item data$Result<DataReader<'a>, WrongKind>
 $block item cap$Result<Option<u32>, WrongKind>
-$block item struct$$of.Type$$Reader$<'a>
+$block item struct$$of.Type$Reader<'a>
 $block value unsigned$plain $body$ $width$ $place$
 $block code unsigned$self.body.u$width$($place$)
 $block value unsigned_or$uint $body$ $width$ $place$ $default$
@@ -251,11 +254,11 @@ $block code data_or$self.body.data_or($place$, $literal|quoted$)
 $block value cap$cap_field (pointee_of $body$ $place$)
 $block code cap$self.body.cap($place$)
 $block value struct$struct_field (pointee_of $body$ $place$)
-$block code struct$Ok($of.Type$$Reader$ {
+$block code struct$Ok($of.Type$Reader {
             body: self.body.structure($place$)?,
         })
 $block value struct_or$struct_field (or_default (pointee_of $body$ $place$) $default$)
-$block code struct_or$Ok($of.Type$$Reader$ {
+$block code struct_or$Ok($of.Type$Reader {
             body: self.body.structure_or($place$, default)?,
         })
 $block value list$list_field sizes.$size$ (pointee_of $body$ $place$)

@@ -61,7 +61,6 @@ $if methods$
             }
 use cp_interfaces::MethodResult;
 use cp_interfaces::ServiceCall;
-ghost use Rattle.cp_interfaces.specs.ServiceCalls.{Answers};
 $end$
 $for family$
 $if extended$
@@ -91,7 +90,7 @@ $block bases$$for supers$$if later$ + $end$$Type$Server$end$
 $block fills never$$results.Type$Builder
 $block fills own$$results.Type$Builder
 $block fills shared$NamedResults<$results.Type$Builder>
-$block seen never$(λ d. d.body) (λ d. [])
+$block seen never$(λ d. d.body) (λ d. none_named)
 $block seen own$(λ d. d.body) (λ d. d.table)
 $block seen shared$(λ d. d.content.body) (λ d. d.table)
 $block starts never$$results.Type$Builder::new(context.alloc())?

@@ -79,7 +79,7 @@ impl<'a, R: Read + Drop, W: Write + Drop> Peer<'a, R, W> {
 
     fn export_cell(&mut self) -> anyhow::Result<Cap> {
         let cell: Box<dyn Servant> = Box::new(self.alloc, Cell::new(self.alloc))?;
-        Ok(self.client.export(ServantObject::new(cell))?)
+        Ok(self.client.export(ServantObject::new(cell))?.into_cap(0)?)
     }
 
     fn call(&mut self, request: Request) -> anyhow::Result<Question> {
@@ -137,7 +137,7 @@ impl<'a, R: Read + Drop, W: Write + Drop> Peer<'a, R, W> {
             answers: Vec::new(self.alloc),
         };
         let through: Box<dyn Servant> = Box::new(self.alloc, through)?;
-        let object = self.client.export(ServantObject::new(through))?;
+        let object = self.client.export(ServantObject::new(through))?.into_cap(0)?;
         let asked = self.call(self.content().cap(object)?.request(DESK, 0))?;
         let (last, own) = (self.held(asked)?, self.held(given)?);
         Ok(last.saturating_mul(100).saturating_add(own))

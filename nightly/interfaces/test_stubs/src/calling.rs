@@ -1,8 +1,8 @@
 //! Typed clients, and what their calls come to.
 
-use cp_builder::BuildError;
+use cp_objects::SessionCap;
 use cp_refs::{Cap, Caps, Outcome, Request, failed};
-use cp_interfaces::{Caller, NoResults, payload_of};
+use cp_interfaces::{Caller, NamingError, NoResults, payload_of};
 use cp_tree::Whole;
 use directory::{DirectoryClient, DirectoryFindResultsPipeline, FriendClient};
 use std::alloc::Global;
@@ -17,11 +17,17 @@ struct Log {
 }
 
 impl Caller for Log {
-    type Fault = BuildError;
+    type Fault = NamingError;
+
+    ghost number = { λ _. 0 };
 
     ghost sends = { λ _ _ _ _ _. Unit {0} };
 
-    fn send(&mut self, alloc: Global, cap: &Cap, request: Request) -> Result<u32, BuildError> {
+    fn session(&self) -> u64 {
+        0
+    }
+
+    fn send(&mut self, alloc: Global, cap: &Cap, request: Request) -> Result<u32, NamingError> {
         self.asked.push((cap.copy(alloc)?, request))?;
         self.last = self.last.saturating_add(1);
         Ok(self.last)
@@ -29,8 +35,8 @@ impl Caller for Log {
 }
 
 /// A call of `find` on import 7.
-fn find(alloc: Global, log: &mut Log) -> Result<DirectoryFindResultsPipeline, BuildError> {
-    DirectoryClient::new(alloc, Cap::Import(7)).find(log, "")
+fn find(alloc: Global, log: &mut Log) -> Result<DirectoryFindResultsPipeline, NamingError> {
+    DirectoryClient::new(alloc, SessionCap::new(0, Cap::Import(7))).find(log, "")
 }
 
 /// Who speaks for the person that a call will find.
@@ -60,7 +66,7 @@ fn promises_are_called_by_their_fields(rt: HostRuntime) {
     let friend = friend(&rt, &found).target.into_cap();
     check!(&rt; was_asked(&log));
     check!(&rt; found.question() == 1);
-    check!(&rt; matches!(&friend, Cap::Pipelined(1, path) if path.fields() == [0, 1].as_slice()));
+    check!(&rt; matches!(friend.cap(), Cap::Pipelined(1, path) if path.fields() == [0, 1].as_slice()));
 }
 
 /// Results that are null, without capabilities.
@@ -73,7 +79,7 @@ fn null(alloc: Global) -> Outcome {
 
 /// Whether the results that an outcome is are a struct.
 fn is_struct(outcome: Outcome) -> bool {
-    match payload_of(outcome) {
+    match payload_of(0, outcome) {
         Ok(came) => came.results().is_ok(),
         Err(_) => false,
     }
@@ -84,8 +90,8 @@ fn outcomes_are_results_or_not(rt: HostRuntime) {
     let alloc = rt.alloc();
     check!(&rt; is_struct(null(alloc)));
     let exception = failed(alloc, "no").expect(&rt, "memory");
-    let fault = payload_of(Outcome::Failed(exception)).err();
+    let fault = payload_of(0, Outcome::Failed(exception)).err();
     check!(&rt; matches!(&fault, Some(NoResults::Failed(_))));
-    let fault = payload_of(Outcome::Canceled).err();
+    let fault = payload_of(0, Outcome::Canceled).err();
     check!(&rt; matches!(&fault, Some(NoResults::Canceled)));
 }

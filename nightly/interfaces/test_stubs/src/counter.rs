@@ -15,6 +15,10 @@ pub struct Counter {
 
 impl ServiceObject for Counter {
     type Makes = Counting;
+
+    fn has_more(&self) -> bool {
+        false
+    }
 }
 
 impl WatcherServer for Counter {

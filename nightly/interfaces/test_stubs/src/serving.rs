@@ -8,12 +8,11 @@ use crate::counter::{Counter, Counting};
 use crate::shelf::{Shelf, Shelved};
 use cp_builder::BuildError;
 use cp_fields::PointerReader;
-use cp_objects::{Objects, ObjectTable, Context};
+use cp_objects::{Context, ObjectTable, Objects, SessionCap};
 use cp_refs::{Cap, Caps, Outcome, Request};
 use cp_rpc::{Exception, ExceptionKind};
 use cp_servants::{Reply, RequestView};
-use cp_interfaces::Dispatch;
-use cp_interfaces::MethodCall;
+use cp_interfaces::{Dispatch, MethodCall, NamingError};
 use cp_tree::{Tree, Whole};
 use cp_vat_machine::Ids;
 use directory::{
@@ -115,33 +114,39 @@ fn what_is_not_there_is_unimplemented(rt: HostRuntime) {
     check!(&rt; fails(&rt, alloc, find, kind, reason));
 }
 
+/// A capability of session 0.
+fn own(cap: Cap) -> SessionCap {
+    SessionCap::new(0, cap)
+}
+
 /// A client that is never asked: its requests alone are wanted.
 fn directory(alloc: Global) -> DirectoryClient {
-    DirectoryClient::new(alloc, Cap::None)
+    DirectoryClient::new(alloc, own(Cap::None))
 }
 
 /// A call of `find`.
 fn find(alloc: Global) -> Result<Request, BuildError> {
-    directory(alloc).find_request("")
+    Ok(directory(alloc).find_request("")?.request)
 }
 
 /// A call of `add`, of a person for whom import 4 speaks.
-fn add(alloc: Global) -> Result<Request, BuildError> {
+fn add(alloc: Global) -> Result<Request, NamingError> {
     let mut params = DirectoryAddParamsBuilder::new(alloc)?;
     let mut person = PersonBuilder::new(alloc)?;
-    person.set_friend(&mut params.table, FriendClient::new(alloc, Cap::Import(4)))?;
+    person.set_friend(&mut params.table, FriendClient::new(alloc, own(Cap::Import(4))))?;
     params.set_person(person);
-    Ok(directory(alloc).add_request(params))
+    Ok(directory(alloc).add_request(params)?.request)
 }
 
 /// A call of `watch`, with import 5.
-fn watch(alloc: Global) -> Result<Request, BuildError> {
-    directory(alloc).watch_request(WatcherClient::new(alloc, Cap::Import(5)))
+fn watch(alloc: Global) -> Result<Request, NamingError> {
+    let watcher = WatcherClient::new(alloc, own(Cap::Import(5)));
+    Ok(directory(alloc).watch_request(watcher)?.request)
 }
 
 /// A call of `name`.
 fn name(alloc: Global) -> Result<Request, BuildError> {
-    NamedClient::new(alloc, Cap::None).name_request()
+    Ok(NamedClient::new(alloc, own(Cap::None)).name_request()?.request)
 }
 
 /// The imports that are given up with the results of a call.
@@ -183,7 +188,8 @@ fn streams_are_called(rt: HostRuntime) {
     let added = objects.add(WatcherDispatch::new(Counter { count: 0 }));
     drop(added.expect(&rt, "memory"));
     let params = WatcherAddedParamsBuilder::new(alloc).expect(&rt, "memory");
-    let request = WatcherClient::new(alloc, Cap::None).added_request(params);
+    let watcher = WatcherClient::new(alloc, own(Cap::None));
+    let request = watcher.added_request(params).request;
     let reply = reply_of(alloc, &mut objects, &request).expect(&rt, "memory");
     check!(&rt; matches!(&reply, Some(Reply::Now { outcome: Outcome::Results { .. }, .. })));
 }

@@ -21,6 +21,10 @@ pub struct Shelf {
 
 impl ServiceObject for Shelf {
     type Makes = Shelved;
+
+    fn has_more(&self) -> bool {
+        false
+    }
 }
 
 impl NamedServer for Shelf {

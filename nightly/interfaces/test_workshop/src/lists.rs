@@ -13,7 +13,7 @@ fn came(alloc: Global, stock: StockBuilder) -> Option<ResultPayload> {
         content: stock.body.into_whole(),
         caps: Caps::new(Vec::new(alloc)),
     };
-    payload_of(outcome).ok()
+    payload_of(0, outcome).ok()
 }
 
 /// A list of these texts.
@@ -54,13 +54,13 @@ fn fill_pointers(alloc: Global, stock: &mut StockBuilder) -> Result<(), BuildErr
 
 /// Lists of numbers.
 fn fill_numbers(alloc: Global, stock: &mut StockBuilder) -> Result<(), BuildError> {
-    stock.set_signed_bytes(alloc, &[-1, 2])?;
-    stock.set_signed_halves(alloc, &[-300])?;
-    stock.set_signed_quads(alloc, &[-70_000, 7])?;
-    stock.set_signed_words(alloc, &[-1, 0, i64::MAX])?;
-    stock.set_singles(alloc, &[-1.5])?;
-    stock.set_doubles(alloc, &[0.25, -2.0])?;
-    stock.set_colours(alloc, &[Colour::Blue, Colour::Red])?;
+    stock.set_signed_bytes(vec![in alloc; -1, 2]?)?;
+    stock.set_signed_halves(vec![in alloc; -300]?)?;
+    stock.set_signed_quads(vec![in alloc; -70_000, 7]?)?;
+    stock.set_signed_words(vec![in alloc; -1, 0, i64::MAX]?)?;
+    stock.set_singles(vec![in alloc; -1.5]?)?;
+    stock.set_doubles(vec![in alloc; 0.25, -2.0]?)?;
+    stock.set_colours(vec![in alloc; Colour::Blue, Colour::Red]?)?;
     let mut matrix = ListsBuilder::new(alloc);
     matrix.push(vec![in alloc; 1.0, 0.0]?)?;
     matrix.push(vec![in alloc; 0.0, 1.0, 2.0]?)?;

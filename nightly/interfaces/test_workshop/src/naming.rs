@@ -1,34 +1,41 @@
 //! Results and params hold the table of the capabilities that they name, for their parts too.
 
-use cp_builder::BuildError;
+use cp_objects::SessionCap;
 use cp_refs::Cap;
-use cp_interfaces::{Results, CapTableBuilder};
+use cp_interfaces::{CapTableBuilder, NamingError, Results};
 use std::alloc::Global;
 use workshop::{MakerClient, MakerMakeParamsBuilder, MakerMakeResultsBuilder, ToolBuilder};
 
+/// Who calls this import of session 0.
+fn maker(alloc: Global, import: u32) -> MakerClient {
+    MakerClient::new(alloc, SessionCap::new(0, Cap::Import(import)))
+}
+
 /// Results with a tool of import 3 that import 4 owns, made by import 5.
-fn made(alloc: Global) -> Result<MakerMakeResultsBuilder, BuildError> {
+fn made(alloc: Global) -> Result<MakerMakeResultsBuilder, NamingError> {
     let mut results = MakerMakeResultsBuilder::new(alloc)?;
     let mut tool = ToolBuilder::new(alloc)?;
-    tool.set_maker(&mut results.table, MakerClient::new(alloc, Cap::Import(3)))?;
-    tool.set_owner(&mut results.table, MakerClient::new(alloc, Cap::Import(4)))?;
+    tool.set_maker(&mut results.table, maker(alloc, 3))?;
+    tool.set_owner(&mut results.table, maker(alloc, 4))?;
     results.set_tool(tool);
-    results.set_by(MakerClient::new(alloc, Cap::Import(5)))?;
+    results.set_by(maker(alloc, 5))?;
     results.set_count(1);
     Ok(results)
 }
 
 /// Params with import 7.
-fn asked(alloc: Global) -> Result<MakerMakeParamsBuilder, BuildError> {
+fn asked(alloc: Global) -> Result<MakerMakeParamsBuilder, NamingError> {
     let mut params = MakerMakeParamsBuilder::new(alloc)?;
-    params.set_for(MakerClient::new(alloc, Cap::Import(7)))?;
+    params.set_for(maker(alloc, 7))?;
     params.set_name("plane")?;
     Ok(params)
 }
 
 /// Whether a table has these imports.
 fn has(table: CapTableBuilder, imports: &[u32]) -> bool {
-    let caps = table.into_caps();
+    let Ok(caps) = table.into_caps(0) else {
+        return false;
+    };
     if caps.caps().len() != imports.len() {
         return false;
     }
@@ -52,8 +59,8 @@ fn results_have_the_table_of_their_parts(rt: HostRuntime) {
 #[test]
 fn a_request_has_the_table_of_its_params(rt: HostRuntime) {
     let alloc = rt.alloc();
-    let maker = MakerClient::new(alloc, Cap::Import(1));
     let params = asked(alloc).expect(&rt, "params");
-    let request = maker.make_request(params);
+    let maker = maker(alloc, 1);
+    let request = maker.make_request(params).expect(&rt, "a request").request;
     check!(&rt; matches!(request.caps.caps(), [Cap::Import(7)]));
 }

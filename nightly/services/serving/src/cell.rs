@@ -67,4 +67,8 @@ impl ServedObject for Cell {
         drop(outcome);
         Ok(())
     }
+
+    fn on_cancel(&mut self, _ticket: u64, _context: &mut Context<Served>) -> Result<(), AllocError> {
+        Ok(())
+    }
 }

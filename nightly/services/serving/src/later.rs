@@ -1,7 +1,6 @@
 //! What waits: calls and promises for their times, and calls for the outcomes of others.
 
-use cp_objects::Resolver;
-use cp_refs::Cap;
+use cp_objects::{Resolver, SessionCap};
 use cp_rpc::{Exception, Text};
 use cp_vat_machine::Ids;
 use std::alloc::{AllocError, Global};
@@ -29,7 +28,7 @@ pub struct Wait {
 pub struct Vow {
     pub at: u64,
     pub resolver: Resolver,
-    pub value: Cap,
+    pub value: SessionCap,
 }
 
 /// A call whose answer waits for that of another one, whose mark is its ticket.
@@ -37,7 +36,7 @@ pub struct Vow {
 pub struct Asked {
     pub ticket: u64,
     /// What is called, and kept meanwhile.
-    pub cap: Cap,
+    pub cap: SessionCap,
     /// Whether a Cell is given.
     pub gives: bool,
     pub gives_up: Ids,

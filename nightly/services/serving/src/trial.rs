@@ -57,7 +57,8 @@ impl Trial {
 
     fn cell(&self, held: u64, context: &mut Context<Served>) -> Result<Cap, AllocError> {
         let alive = self.alive.clone()?;
-        context.make(Served::Right(Cell { held, alive }))
+        let cell = context.make(Served::Right(Cell { held, alive }))?;
+        Ok(cell.into_cap(context.session())?)
     }
 
     /// How many Cells there are.
@@ -103,10 +104,10 @@ impl Trial {
         context: &mut Context<Served>,
     ) -> Result<Reply, AllocError> {
         let alloc = context.alloc();
-        let cap = first_of(alloc, request)?;
+        let cap = context.own(first_of(alloc, request)?);
         context.keep(&cap)?;
         self.asks.push_back(OutgoingCall {
-            cap: cap.copy(alloc)?,
+            cap: cap.cap().copy(alloc)?,
             request: call,
             call_id: ticket,
         })?;
@@ -143,9 +144,11 @@ impl Trial {
             Cap::None => Cap::Broken(failed(alloc, "it came to nothing")?),
             value => value,
         };
+        let value = context.own(value);
         context.keep(&value)?;
         let resolver = context.promise()?;
-        let outcome = outcome_of(alloc, PayloadBuilder::new(alloc).cap(resolver.cap()))?;
+        let promise = resolver.cap().into_cap(context.session())?;
+        let outcome = outcome_of(alloc, PayloadBuilder::new(alloc).cap(promise))?;
         self.vows.push(Vow {
             at: context.now().saturating_add(word_in(&request.content, 0)),
             resolver,
@@ -296,7 +299,7 @@ impl ServedObject for Trial {
             return Ok(());
         };
         // (An import is given up with the answer.)
-        if let Cap::Object(_) = &asked.cap {
+        if let Cap::Object(_) = asked.cap.cap() {
             context.give_up(&asked.cap)?;
         }
         let answer = match &outcome {
@@ -311,6 +314,25 @@ impl ServedObject for Trial {
             answer,
             gives_up: asked.gives_up,
         })?;
+        Ok(())
+    }
+
+    fn on_cancel(&mut self, ticket: u64, context: &mut Context<Served>) -> Result<(), AllocError> {
+        for place in 0..self.waits.len() {
+            // A Cell is still given: other calls may name it.
+            let is_that = self.waits.get(place).is_some_and(|wait| {
+                wait.ticket == ticket && matches!(wait.answer, Answer::Says(_))
+            });
+            if is_that {
+                let gives_up = self.waits.remove(place).gives_up;
+                let outcome = Outcome::Canceled;
+                return context.settle(Settled {
+                    ticket,
+                    outcome,
+                    gives_up,
+                });
+            }
+        }
         Ok(())
     }
 }

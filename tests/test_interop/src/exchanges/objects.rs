@@ -148,6 +148,10 @@ impl Servant for Asker {
         Ok(self.settled.take())
     }
 
+    fn has_more(&self) -> bool {
+        false
+    }
+
     fn next_call(&mut self) -> Result<Option<OutgoingCall>, AllocError> {
         let Some(call_id) = self.to_call.take() else {
             return Ok(None);

@@ -3,7 +3,8 @@
 use cp_builder::BuildError;
 use cp_refs::{Cap, Outcome, Request, failed};
 use cp_servants::{PayloadBuilder, data_in, outcome_of, results_of, text_in, word_in};
-use cp_interfaces::CapTableBuilder;
+use cp_interfaces::{CapTableBuilder, NamingError};
+use cp_objects::{ReferenceError, SessionCap};
 use cp_tree::{Tree, Whole};
 use std::alloc::Global;
 
@@ -54,11 +55,23 @@ fn a_null_or_broken_capability_is_a_null_pointer(rt: HostRuntime) {
 #[test]
 fn a_table_has_no_null_capability(rt: HostRuntime) {
     let mut table = CapTableBuilder::new(rt.alloc());
-    let null = table.add(Cap::None).expect(&rt, "memory");
-    let named = table.add(Cap::Import(3)).expect(&rt, "memory");
-    let caps = table.into_caps();
+    let null = table.add(SessionCap::new(7, Cap::None)).expect(&rt, "memory");
+    let named = table.add(SessionCap::new(2, Cap::Import(3))).expect(&rt, "memory");
+    let caps = table.into_caps(2).expect(&rt, "those of session 2");
     check!(&rt; matches!((null.tree(), named.tree()), (Tree::Null, Tree::Cap(0))));
     check!(&rt; matches!(caps.caps(), [Cap::Import(3)]));
+}
+
+#[test]
+fn a_table_has_capabilities_of_one_session(rt: HostRuntime) {
+    let mut table = CapTableBuilder::new(rt.alloc());
+    drop(table.add(SessionCap::new(2, Cap::Import(3))).expect(&rt, "memory"));
+    let other = table.add(SessionCap::new(1, Cap::Import(3)));
+    check!(&rt; matches!(&other, Err(NamingError::OtherSession)));
+    drop(other);
+    let caps = table.into_caps(1);
+    check!(&rt; matches!(&caps, Err(ReferenceError::OtherSession)));
+    drop(caps);
 }
 
 #[test]

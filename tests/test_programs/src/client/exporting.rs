@@ -54,6 +54,10 @@ impl Servant for Through {
         Ok(self.answer.take())
     }
 
+    fn has_more(&self) -> bool {
+        false
+    }
+
     fn next_call(&mut self) -> Result<Option<OutgoingCall>, AllocError> {
         let Some((call_id, request)) = self.next_call.take() else {
             return Ok(None);
@@ -81,6 +85,7 @@ fn call_with<R: Read + Drop, W: Write + Drop, O: ServedObject<Makes = O>>(
     object: O,
 ) -> Option<u64> {
     let cap = client.export(object).expect(rt, "a capability");
+    let cap = cap.into_cap(0).expect(rt, "one of session 0");
     let params = PayloadBuilder::new(alloc).cap(cap).expect(rt, "params");
     let desk = client.bootstrap().expect(rt, "a bootstrap");
     let question = client.call(desk.cap(alloc), params.request(1, 0));
@@ -100,7 +105,7 @@ fn serve_with<R: Read + Drop, W: Write + Drop, O: ServedObject<Makes = O>>(
 ) {
     if let Some(object) = object {
         let cap = client.export(object).expect(rt, "a capability");
-        check!(rt; matches!(cap, Cap::Object(0)));
+        check!(rt; matches!(cap.cap(), Cap::Object(0)));
         drop(cap);
     }
     check!(rt; client.serve().is_ok());

@@ -2,9 +2,10 @@
 
 use crate::client::peer::{Scene, play};
 use crate::frames::{DESK, FAILED, NEXT_SUM, SUM};
-use cp_client::{Client, CallWindow, CallError, request_of};
-use cp_objects::ServedObject;
+use cp_client::{CallError, CallWindow, Client, ClientFault, request_of};
 use cp_interfaces::{CallTarget, NoResults};
+use cp_objects::{ServedObject, SessionCap};
+use cp_refs::Cap;
 use std::alloc::Global;
 use std::io::{Read, Write};
 use std::process::Abort;
@@ -16,7 +17,7 @@ fn desk<R: Read + Drop, W: Write + Drop, O: ServedObject<Makes = O>>(
     client: &mut Client<R, W, O>,
 ) -> CallTarget {
     let desk = client.bootstrap().expect(rt, "a bootstrap");
-    CallTarget::new(alloc, desk.cap(alloc))
+    CallTarget::new(alloc, client.own(desk.cap(alloc)))
 }
 
 /// Calls method 0 of an object, in a stream.
@@ -31,7 +32,20 @@ fn send<R: Read + Drop, W: Write + Drop, O: ServedObject<Makes = O>>(
     stream.send(client, target, request)
 }
 
-/// Three calls go, two of them at once, and are waited for.
+/// Whether a call of another session's capability is refused.
+fn is_refused<R: Read + Drop, W: Write + Drop, O: ServedObject<Makes = O>>(
+    rt: &impl Abort,
+    alloc: Global,
+    stream: &mut CallWindow,
+    client: &mut Client<R, W, O>,
+) -> bool {
+    let other = CallTarget::new(alloc, SessionCap::new(7, Cap::Import(0)));
+    let fault = send(rt, alloc, stream, client, &other).err();
+    drop(other);
+    matches!(&fault, Some(CallError::Client(ClientFault::OtherSession)))
+}
+
+/// Three calls go, two of them at once, and are waited for. One of another session's capability doesn't.
 pub(crate) fn expect_in_order<R: Read + Drop, W: Write + Drop, O: ServedObject<Makes = O>>(
     rt: &impl Abort,
     alloc: Global,
@@ -42,6 +56,7 @@ pub(crate) fn expect_in_order<R: Read + Drop, W: Write + Drop, O: ServedObject<M
     for _ in 0..3 {
         check!(rt; send(rt, alloc, &mut stream, client, &target).is_ok());
     }
+    check!(rt; is_refused(rt, alloc, &mut stream, client));
     check!(rt; stream.end(client).is_ok());
     check!(rt; client.flush().is_ok());
     // A Bootstrap, and a Call and a Finish for each.

@@ -119,6 +119,33 @@ fn two_turns_of_one_connection(rt: HostRuntime) {
 }
 
 #[test]
+fn figures_of_a_connection(rt: HostRuntime) {
+    let context = SocketAddr::from((Ipv4Addr::LOCALHOST, 0));
+    let listener = Listener::bind(&rt, context).expect(&rt, "a port");
+    let address = listener
+        .address()
+        .expect(&rt, "a socket")
+        .expect(&rt, "a port");
+    let mut client = TcpStream::connect(&rt, address).expect(&rt, "a connection");
+    client.write_all(&TWO).expect(&rt, "a stream");
+    let mut host = Host::new(&rt, plan(), listener).expect(&rt, "a host");
+    let mut objects = Objects::new(rt.alloc());
+    drop(objects.add(ServantObject::new(Desk::new(rt.alloc()))).expect(&rt, "memory"));
+    check!(&rt; matches!(next_told(&rt, &mut host), Told::Connected));
+    host.admit(objects).expect(&rt, "a connection");
+    host.wake_after(&rt, 200).expect(&rt, "a clock");
+    check!(&rt; matches!(next_told(&rt, &mut host), Told::Other));
+    let figures = host.figures();
+    check!(&rt; figures.served == 1 && figures.messages == 2 && figures.bytes == 96);
+    check!(&rt; figures.sent == 2 && figures.kept > 0);
+    client.shutdown(Shutdown::Write).expect(&rt, "a stream");
+    check!(&rt; matches!(next_told(&rt, &mut host), Told::Ended));
+    check!(&rt; host.figures().served == 0 && host.figures().messages == 0);
+    drop(host);
+    expect_returns(&rt, rt.alloc(), client);
+}
+
+#[test]
 fn connections_at_once(rt: HostRuntime) {
     let limits = HostLimits {
         connections: 2,

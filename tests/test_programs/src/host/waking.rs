@@ -60,6 +60,10 @@ impl ServedObject for Bell {
         drop(outcome);
         Ok(())
     }
+
+    fn on_cancel(&mut self, _ticket: u64, _context: &mut Context<Bell>) -> Result<(), AllocError> {
+        Ok(())
+    }
 }
 
 /// The last poll's waker, where there were so many polls.

@@ -49,6 +49,10 @@ impl Servant for Counter {
     fn poll(&mut self) -> Result<Option<Settled>, AllocError> {
         Ok(None)
     }
+
+    fn has_more(&self) -> bool {
+        false
+    }
 }
 
 /// What a counter replies. That it is later follows from its relation alone.

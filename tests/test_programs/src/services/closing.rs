@@ -67,6 +67,10 @@ impl ServedObject for Mortal {
         Ok(())
     }
 
+    fn on_cancel(&mut self, _ticket: u64, _context: &mut Context<Mortal>) -> Result<(), AllocError> {
+        Ok(())
+    }
+
     fn ended(&mut self, context: &mut Context<Mortal>) -> Result<(), AllocError> {
         let object = context.waker().object;
         note(&self.gone, object)?;

@@ -127,8 +127,10 @@ impl Desk {
             _ => (None, Cap::None),
         };
         let made = context.make(self.another(target)?)?;
+        let kept = context.own(kept);
         context.keep_for(&made, &kept)?;
         drop(kept);
+        let made = made.into_cap(context.session())?;
         let results = PayloadBuilder::new(context.alloc()).cap(made);
         Ok(Reply::Now {
             outcome: outcome_of(context.alloc(), results)?,
@@ -207,6 +209,10 @@ impl ServedObject for Desk {
         Ok(())
     }
 
+    fn on_cancel(&mut self, _ticket: u64, _context: &mut Context<Desk>) -> Result<(), AllocError> {
+        Ok(())
+    }
+
     fn ended(&mut self, context: &mut Context<Desk>) -> Result<(), AllocError> {
         note_end(&self.board, context.waker().object)?;
         context.wake(Waker {
@@ -221,11 +227,12 @@ impl ServedObject for Desk {
                 Err(_) => return Err(AllocError),
             };
             let request = params.request(NOTES, 0);
-            context.send(OutgoingCall {
+            let call = context.own_call(OutgoingCall {
                 cap,
                 request,
                 call_id: 0,
-            })?;
+            });
+            context.send(call)?;
         }
         self.answer(6, context)
     }
@@ -249,6 +256,10 @@ impl Servant for Pad {
 
     fn poll(&mut self) -> Result<Option<Settled>, AllocError> {
         Ok(None)
+    }
+
+    fn has_more(&self) -> bool {
+        false
     }
 }
 

@@ -40,6 +40,12 @@ pub(crate) enum Step {
     Bootstrap,
     /// The client calls a method of an import.
     Call(u32, u16, With),
+    /// The client calls a method of what the first pointer of this question's results will be.
+    CallResult(u32, u16),
+    /// All bytes go over.
+    Carry,
+    /// The client finishes a question before its outcome, and all bytes go over.
+    Finish(u32),
     /// All bytes go over. The client takes its first event, and finishes the question.
     Take,
     /// The client drops an import, once for each result that named it, and all bytes go over.
@@ -115,6 +121,11 @@ impl<C: ObjectTable, S: ObjectTable> Ends<C, S> {
                 let request = request(rt, self.alloc, method, with);
                 asked = self.client.call(Cap::Import(import), request).ok();
             }
+            Step::CallResult(question, method) => {
+                let request = request(rt, self.alloc, method, With::Word(0));
+                let result = Cap::Pipelined(question, first_pointer(rt, self.alloc));
+                asked = self.client.call(result, request).ok();
+            }
             Step::Take => got = self.take(rt),
             Step::HandOn => woken = self.server.next_wake(),
             other => self.go_on(rt, other),
@@ -163,6 +174,11 @@ impl<C: ObjectTable, S: ObjectTable> Ends<C, S> {
             Step::Drop(import) => {
                 self.client.release(import).expect(rt, "a release");
                 while self.client.release(import).is_ok() {}
+                self.run(rt);
+            }
+            Step::Carry => self.run(rt),
+            Step::Finish(question) => {
+                self.client.finish(question).expect(rt, "a finish");
                 self.run(rt);
             }
             Step::Pass(time) => self.pass(rt, time),
@@ -256,11 +272,15 @@ fn request(rt: &impl Abort, alloc: Global, method: u16, with: With) -> Request {
         With::Import(import) => params.cap(Cap::Import(import)),
         With::Object(object) => params.cap(Cap::Object(object)),
         With::Result(question) => {
-            let path = Vec::from_array(alloc, [0]).expect(rt, "memory");
-            params.cap(Cap::Pipelined(question, Path::new(path)))
+            params.cap(Cap::Pipelined(question, first_pointer(rt, alloc)))
         }
     };
     params.expect(rt, "params").request(NOTES, method)
+}
+
+/// The path to the first pointer.
+fn first_pointer(rt: &impl Abort, alloc: Global) -> Path {
+    Path::new(Vec::from_array(alloc, [0]).expect(rt, "memory"))
 }
 
 /// The question that an event settles, and what that gave.

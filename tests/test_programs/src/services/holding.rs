@@ -67,6 +67,10 @@ impl Servant for Giver {
         Ok(None)
     }
 
+    fn has_more(&self) -> bool {
+        false
+    }
+
     fn next_call(&mut self) -> Result<Option<OutgoingCall>, AllocError> {
         let Some((import, method)) = self.next.take() else {
             return Ok(None);
@@ -92,8 +96,9 @@ impl Keeper {
     /// Gives up what it kept twice.
     fn lose(&self, context: &mut Context<Keeper>) -> Result<(), AllocError> {
         if let Some(import) = self.kept {
-            context.give_up(&Cap::Import(import))?;
-            context.give_up(&Cap::Import(import))?;
+            let cap = context.own(Cap::Import(import));
+            context.give_up(&cap)?;
+            context.give_up(&cap)?;
         }
         Ok(())
     }
@@ -144,6 +149,10 @@ impl ServedObject for Keeper {
         _outcome: Outcome,
         _context: &mut Context<Keeper>,
     ) -> Result<(), AllocError> {
+        Ok(())
+    }
+
+    fn on_cancel(&mut self, _ticket: u64, _context: &mut Context<Keeper>) -> Result<(), AllocError> {
         Ok(())
     }
 }

@@ -39,7 +39,12 @@ impl ServedObject for Slow {
         request: RequestView<'_>,
         context: &mut Context<Slow>,
     ) -> Result<Reply, AllocError> {
-        let call = MethodCall { ticket, request };
+        let session = context.session();
+        let call = MethodCall {
+            ticket,
+            session,
+            request,
+        };
         let results = NoFieldsBuilder::new(context.alloc())?;
         let mut passed = ServiceCall::new(context.alloc(), &call, (), results);
         let done = self.put_off(&mut passed, context);
@@ -76,6 +81,10 @@ impl ServedObject for Slow {
         _context: &mut Context<Slow>,
     ) -> Result<(), AllocError> {
         drop(outcome);
+        Ok(())
+    }
+
+    fn on_cancel(&mut self, _ticket: u64, _context: &mut Context<Slow>) -> Result<(), AllocError> {
         Ok(())
     }
 }

@@ -2,14 +2,16 @@
 
 ghost use Rattle.std.specs.Prelude.{ℕ};
 
-use cp_builder::BuildError;
+use cp_builder::{
+    BuildError, Enumerant, enumerants_of, float32_of, float64_of, signed8_of, signed16_of,
+    signed32_of, signed64_of,
+};
 use cp_refs::Cap;
 use cp_interfaces::{
-    CapListBuilder, DataListBuilder, Enumerant, ListsBuilder, NamedResults,
-    TextListBuilder, enumerants_of, float32_of, float64_of, signed8_of, signed16_of, signed32_of,
-    signed64_of,
+    CapListBuilder, DataListBuilder, ListsBuilder, NamedResults, TextListBuilder,
 };
-use cp_interfaces::{CallTarget, NoFieldsBuilder, Results, CapTableBuilder};
+use cp_interfaces::{CallTarget, NamingError, NoFieldsBuilder, Results, CapTableBuilder};
+use cp_objects::SessionCap;
 use cp_tree::{Tree, Whole};
 use std::alloc::Global;
 
@@ -23,9 +25,11 @@ fn count(list: Whole) -> usize {
     count
 }
 
-/// How many capabilities a table has.
+/// How many capabilities of session 0 a table has.
 fn len(table: CapTableBuilder) -> usize {
-    let caps = table.into_caps();
+    let Ok(caps) = table.into_caps(0) else {
+        return 0;
+    };
     let len = caps.caps().len();
     drop(caps);
     len
@@ -69,10 +73,11 @@ fn pictures(alloc: Global) -> Result<usize, BuildError> {
 }
 
 /// How many capabilities a list has, and its table.
-fn caps(alloc: Global) -> Result<(usize, usize), BuildError> {
+fn caps(alloc: Global) -> Result<(usize, usize), NamingError> {
     let mut table = CapTableBuilder::new(alloc);
     let mut caps = CapListBuilder::new(alloc);
-    let pushed = caps.push(&mut table, CallTarget::new(alloc, Cap::Object(4)));
+    let cap = SessionCap::new(0, Cap::Object(4));
+    let pushed = caps.push(&mut table, CallTarget::new(alloc, cap));
     let named = len(table);
     pushed?;
     Ok((count(caps.into_whole()?), named))
@@ -104,9 +109,9 @@ fn numbers(alloc: Global) -> Result<[u64; 7], BuildError> {
 }
 
 /// How many capabilities results name.
-fn named(alloc: Global) -> Result<usize, BuildError> {
+fn named(alloc: Global) -> Result<usize, NamingError> {
     let mut results = NamedResults::new(alloc, NoFieldsBuilder::new(alloc)?);
-    let added = results.table.add(Cap::Object(2));
+    let added = results.table.add(SessionCap::new(0, Cap::Object(2)));
     let (content, table) = results.into_parts(alloc);
     drop(content);
     let named = len(table);

@@ -194,7 +194,7 @@ impl Vow {
     /// Promises a page, which it makes itself after some milliseconds, if these are more than none.
     fn make(&mut self, after: u64, context: &mut Context<Served>) -> Result<Cap, AllocError> {
         let resolver = context.promise()?;
-        let cap = resolver.cap();
+        let cap = resolver.cap().into_cap(context.session())?;
         drop(mem::replace(&mut self.resolver, Some(resolver)));
         if after > 0 {
             self.at = Some(time_after(after, context)?);
@@ -205,7 +205,10 @@ impl Vow {
     /// What was promised comes to this.
     fn keep(&mut self, value: Cap, context: &mut Context<Served>) -> Result<(), AllocError> {
         match self.resolver.take() {
-            Some(resolver) => context.resolve(resolver, value),
+            Some(resolver) => {
+                let value = context.own(value);
+                Ok(context.resolve(resolver, value)?)
+            }
             None => {
                 drop(value);
                 Ok(())
@@ -222,9 +225,15 @@ impl Vow {
             return Ok(());
         }
         self.at = None;
-        let page = context.make(new_page(at))?;
+        let page = made(new_page(at), context)?;
         self.keep(page, context)
     }
+}
+
+/// Makes an object.
+fn made(object: Served, context: &mut Context<Served>) -> Result<Cap, AllocError> {
+    let cap = context.make(object)?;
+    Ok(cap.into_cap(context.session())?)
 }
 
 /// The first capability of a table.
@@ -250,9 +259,13 @@ fn join(caps: &Caps, context: &mut Context<Served>) -> Result<Reply, AllocError>
     let alloc = context.alloc();
     let page = context.make(new_keeper(first_of(alloc, caps)?))?;
     let kept = match caps.caps().first() {
-        Some(watcher) => context.keep_for(&page, watcher),
+        Some(watcher) => {
+            let watcher = context.own(watcher.copy(alloc)?);
+            context.keep_for(&page, &watcher)
+        }
         None => Ok(()),
     };
+    let page = page.into_cap(context.session())?;
     let outcome = outcome_of(alloc, PayloadBuilder::new(alloc).cap(page))?;
     match kept {
         Ok(()) => Ok(Reply::Now {
@@ -261,7 +274,7 @@ fn join(caps: &Caps, context: &mut Context<Served>) -> Result<Reply, AllocError>
         }),
         Err(error) => {
             drop(outcome);
-            Err(error)
+            Err(AllocError::from(error))
         }
     }
 }
@@ -294,7 +307,7 @@ impl Book {
         let (alloc, caps) = (context.alloc(), &request.caps);
         let word = word_in(&request.content, 0);
         match request.method {
-            OPEN => named(alloc, context.make(new_page(word))?, caps),
+            OPEN => named(alloc, made(new_page(word), context)?, caps),
             WATCH => self.watch(caps, context),
             JOIN => join(caps, context),
             ADD => {
@@ -333,7 +346,7 @@ impl Book {
         context: &mut Context<Served>,
     ) -> Result<Reply, AllocError> {
         let value = match first_of(context.alloc(), caps)? {
-            Cap::None => context.make(new_page(number))?,
+            Cap::None => made(new_page(number), context)?,
             other => other,
         };
         self.vow.keep(value, context)?;
@@ -367,7 +380,10 @@ impl Book {
         }
         self.leaves_at = None;
         match self.watcher.take() {
-            Some(import) => context.give_up(&Cap::Import(import)),
+            Some(import) => {
+                let watcher = context.own(Cap::Import(import));
+                Ok(context.give_up(&watcher)?)
+            }
             None => Ok(()),
         }
     }
@@ -400,14 +416,17 @@ impl Book {
             return Ok(());
         }
         let next_call = self.telling(context.alloc(), word)?;
-        context.send(next_call)
+        let next_call = context.own_call(next_call);
+        Ok(context.send(next_call)?)
     }
 
     /// Tells a watcher of a word and of the next one at once, and of two more when it is asked.
     fn tell_four(&mut self, word: u64, context: &mut Context<Served>) -> Result<(), AllocError> {
         let first = self.telling(context.alloc(), word)?;
+        let first = context.own_call(first);
         context.send(first)?;
         let second = self.telling(context.alloc(), word.saturating_add(1))?;
+        let second = context.own_call(second);
         context.send(second)?;
         self.next = Some(word.saturating_add(2));
         Ok(())
@@ -479,6 +498,7 @@ impl ServedObject for Book {
             return Ok(None);
         };
         let last = self.telling(context.alloc(), word.saturating_add(1))?;
+        let last = context.own_call(last);
         context.send(last)?;
         Ok(Some(self.telling(context.alloc(), word)?))
     }
@@ -491,6 +511,10 @@ impl ServedObject for Book {
     ) -> Result<(), AllocError> {
         self.heard = self.heard.saturating_add(1);
         drop(outcome);
+        Ok(())
+    }
+
+    fn on_cancel(&mut self, _ticket: u64, _context: &mut Context<Served>) -> Result<(), AllocError> {
         Ok(())
     }
 }
@@ -513,7 +537,7 @@ impl Page {
                 done(alloc, caps)
             }
             NAME => {
-                let cap = context.make(new_page(word))?;
+                let cap = made(new_page(word), context)?;
                 drop(mem::replace(&mut self.kept, Some(cap)));
                 done(alloc, caps)
             }
@@ -532,24 +556,20 @@ impl Page {
         let Some(kept) = self.kept.take() else {
             return Ok(());
         };
-        let given_up = context.give_up(&kept);
-        drop(kept);
-        given_up
+        let kept = context.own(kept);
+        Ok(context.give_up(&kept)?)
     }
 
     /// Makes a page that it keeps.
     fn keep(&mut self, number: u64, context: &mut Context<Served>) -> Result<(), AllocError> {
         let cap = context.make(new_page(number))?;
-        match context.keep(&cap) {
-            Ok(()) => {
-                drop(mem::replace(&mut self.kept, Some(cap)));
-                Ok(())
-            }
-            Err(error) => {
-                drop(cap);
-                Err(error)
-            }
+        if let Err(error) = context.keep(&cap) {
+            drop(cap);
+            return Err(AllocError::from(error));
         }
+        let cap = cap.into_cap(context.session())?;
+        drop(mem::replace(&mut self.kept, Some(cap)));
+        Ok(())
     }
 
     /// The page that it keeps or names, if there is one.
@@ -596,6 +616,10 @@ impl ServedObject for Page {
         _context: &mut Context<Served>,
     ) -> Result<(), AllocError> {
         drop(outcome);
+        Ok(())
+    }
+
+    fn on_cancel(&mut self, _ticket: u64, _context: &mut Context<Served>) -> Result<(), AllocError> {
         Ok(())
     }
 }

@@ -28,6 +28,10 @@ impl Servant for Watcher {
     fn poll(&mut self) -> Result<Option<Settled>, AllocError> {
         Ok(None)
     }
+
+    fn has_more(&self) -> bool {
+        false
+    }
 }
 
 /// The client's watcher.

@@ -72,6 +72,10 @@ impl ServedObject for Bell {
         drop(outcome);
         Ok(())
     }
+
+    fn on_cancel(&mut self, _ticket: u64, _context: &mut Context<Bell>) -> Result<(), AllocError> {
+        Ok(())
+    }
 }
 
 /// The two bells of session 7.

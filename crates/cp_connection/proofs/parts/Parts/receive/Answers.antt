@@ -11,7 +11,7 @@ returns-in_err-taken-clause-unreceived c =
     rw (p.1, p.2) ([], c.in_err-taken.ensures.unreceived)
 
 pub returns-in_default-clause-received : goal.returns-in_default-clause-received
-returns-in_default-clause-received c = inl (refl, rw c.in_default.is at c.in_ok-taken.ensures.none)
+returns-in_default-clause-received c = inl (refl, refl, rw c.in_default.is at c.in_ok-taken.ensures.none)
 
 pub returns-in_err-message-clause-unreceived : goal.returns-in_err-message-clause-unreceived
 returns-in_err-message-clause-unreceived c =
@@ -47,7 +47,7 @@ returns-clause-received c =
     let given = rw some.is at c.in_ok-taken.ensures.given in
     let reads = reads_message c.args.self.now c.next_frame.new.self c.read.new.self c.requires.keeps c.args.piece.now some.back.now some.taken some.segments given c.in_ok-message.ensures.counted _ c.in_ok-message.ensures.found in
     let count : length c.args.piece.now - length some.back.now ≡ length given.gives.front = omega (arith, ap (λ (b : List ℕ). length b) given.gives.whole, length-append given.gives.front some.back.now) in
-    rw c.reuse.ensures.stays (inr (given.gives.front, some.back.now, _, link_of c.read.new.self, given.gives.whole, count, reads, c.in_ok-take_in.ensures.acts))
+    rw c.reuse.ensures.stays (inr (given.gives.front, some.back.now, _, link_of c.read.new.self, given.gives.whole, count, reads, c.in_ok-take_in.ensures.acts, c.finished_by-finished.ensures))
 
 pub returns-clause-goes_on : goal.returns-clause-goes_on
 returns-clause-goes_on c =

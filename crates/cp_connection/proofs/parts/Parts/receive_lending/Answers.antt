@@ -13,7 +13,7 @@ returns-in_err-taken-clause-unreceived c =
     rw (p.1, p.2) ([], c.in_err-taken.ensures.unreceived)
 
 pub returns-in_default-clause-received : goal.returns-in_default-clause-received
-returns-in_default-clause-received c = (link_of c.next_frame.new.self, inl (refl, rw c.in_default.is at c.in_ok-taken.ensures.none), refl)
+returns-in_default-clause-received c = (link_of c.next_frame.new.self, inl (refl, refl, rw c.in_default.is at c.in_ok-taken.ensures.none), refl)
 
 pub returns-in_err-message-clause-unreceived : goal.returns-in_err-message-clause-unreceived
 returns-in_err-message-clause-unreceived c =
@@ -51,7 +51,7 @@ returns-clause-received c =
     let reads = reads_message c.args.self.now c.next_frame.new.self c.read.new.self c.requires.keeps c.args.piece.now some.back.now some.taken some.segments given c.in_ok-message.ensures.counted _ c.in_ok-message.ensures.found in
     let count : length c.args.piece.now - length some.back.now ≡ length given.gives.front = omega (arith, ap (λ (b : List ℕ). length b) given.gives.whole, length-append given.gives.front some.back.now) in
     let lends = c.in_ok-lent.ensures.lends in
-    (lends.0, inr (given.gives.front, some.back.now, _, link_of c.read.new.self, given.gives.whole, count, reads, lends.1), lends.2)
+    (lends.0, inr (given.gives.front, some.back.now, _, link_of c.read.new.self, given.gives.whole, count, reads, lends.1, c.finished_by-finished.ensures), lends.2)
 
 pub returns-clause-goes_on : goal.returns-clause-goes_on
 returns-clause-goes_on c =

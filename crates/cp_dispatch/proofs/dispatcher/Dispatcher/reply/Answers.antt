@@ -13,7 +13,7 @@ returns-in_ok-give_up-in-Now-clause-done g c =
     (λ answers. rw c.in-Now.is (work_of c.give_up.new.self c.args.connection.now, c.answer.new.connection, c.in_ok-give_up-in-Now.ensures c.args.connection.now, rw c.meant.ensures at answers, refl))
 
 pub returns-in-Later-clause-done : goal.returns-in-Later-clause-done
-returns-in-Later-clause-done g c = after_ok c.put.result c.put.ensures (λ put. rw (c.in-Later.is, put) refl)
+returns-in-Later-clause-done g c = after_ok c.put_off.result c.put_off.ensures (λ put. rw c.in-Later.is (put c.args.connection.now))
 
 pub returns-in-Later-clause-lives : goal.returns-in-Later-clause-lives
 returns-in-Later-clause-lives g c = lives_none c.args.connection.now

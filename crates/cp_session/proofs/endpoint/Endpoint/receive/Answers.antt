@@ -1,4 +1,5 @@
 use Rattle.std.proofs.lemmas.Result.{err_from_is_err_and}
+use Rattle.cp_connection.proofs.Finishing.{receives_of}
 use Rattle.cp_dispatch.specs.WorkOf.{work_of}
 use Rattle.cp_session.proofs.Serving.{cut_later, few_received}
 use Rattle.cp_session.proofs.endpoint.Endpoint.receive.Goals as goal
@@ -12,7 +13,7 @@ pub returns-in_err-follow-clause-cut : goal.returns-in_err-follow-clause-cut
 returns-in_err-follow-clause-cut g c =
     let p = err_from_is_err_and c.from_residual-in_err-follow.result c.from_residual-in_err-follow.ensures.1 in
     let got = c.in_ok-count.ensures.received in
-    rw (p.1, p.2) (cut_later _ c.in_ok-count.count got.1 got.4 c.follow.ensures.lives)
+    rw (p.1, p.2) (cut_later _ c.in_ok-count.count (receives_of got.4) got.8 c.follow.ensures.lives)
 
 pub returns-clause-takes : goal.returns-clause-takes
 returns-clause-takes g c = record {
@@ -24,4 +25,4 @@ returns-clause-takes g c = record {
 }
 
 pub returns-clause-few : goal.returns-clause-few
-returns-clause-few g c = few_received _ _ c.in_ok-count.ensures.received.1
+returns-clause-few g c = few_received _ _ (receives_of c.in_ok-count.ensures.received.4)

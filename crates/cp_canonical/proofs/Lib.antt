@@ -1,0 +1,15 @@
+pub mod Uses
+pub mod Cuts
+pub mod Shapes
+pub mod Rows
+pub mod OneSheet
+pub mod Masks
+pub mod Writes
+pub mod Written
+pub mod Steps
+pub mod Smaller
+pub mod Forms
+pub mod Refusals
+pub mod Tops
+pub mod Listed
+pub mod Begun

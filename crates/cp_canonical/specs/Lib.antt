@@ -1,0 +1,3 @@
+pub mod Cut
+pub mod Canonical
+pub mod Arenas

@@ -1,0 +1,4 @@
+pub mod Flowing
+pub mod Giving
+pub mod Passing
+pub mod Limiting

@@ -1,0 +1,3 @@
+pub mod Limited
+pub mod Passing
+pub mod Tries
