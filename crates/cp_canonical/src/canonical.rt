@@ -17,12 +17,13 @@ use std::alloc::Global;
 /// The words of the canonical form of a tree that is read in place (encoding specification, "Canonicalization"): the one
 /// segment of its message, without a segment table.
 pub fn canonical_of(alloc: Global, view: &View, limits: Limits) -> Result<Vec<u64>, CanonicalFault>
-    requires { Shaped view.now }
     ensures canonical { IfOk result (λ v. IsCanonicalOf view.now v.items) }
     ensures small { IfOk result (λ v. length v.items ≤ limits.frame_words) }
     ensures refused { IfErr result (IsRefusalOf limits view.now) }
 {
     let mut arena = Arena::new(alloc, limits.frame_words() as usize)?;
+    // For the proof, that the tree is shaped.
+    view.shape();
     lay(&mut arena, 0, view)?;
     let Arena { words, most: _ } = arena;
     Ok(words)

@@ -1,5 +1,5 @@
 -- What follows of a result, whichever it is.
-use Rattle.std.proofs.Common.{ℕ, ◌≡◌, ◌==◌, ◌<◌, ◌⊎◌, Bool, false, Result, Ok, Err, IfOk, IfErr, OnOk, OnErr, inl, inr, arith}
+use Rattle.std.proofs.Common.{ℕ, ◌≡◌, ◌==◌, ◌<◌, ◌⊎◌, Bool, true, false, Result, Ok, Err, IfOk, IfErr, OnOk, OnErr, inl, inr, arith}
 use Rattle.std.proofs.lemmas.Bool.Decides.{nat_tests}
 
 -- of what a call gives, what follows of four clauses at a success
@@ -24,3 +24,6 @@ some_unless n h = omega (arith, h)
 -- the same, by a test of it
 pub some_by : (n : ℕ) (none : Bool) → none ≡ (n == 0) → none ≡ false → 0 < n
 some_by n none is some = grind (arith, nat_tests)
+
+pub none_by : (n : ℕ) (none : Bool) → none ≡ (n == 0) → none ≡ true → n ≡ 0
+none_by n none is so = grind (arith, nat_tests)

@@ -2,6 +2,7 @@ pub mod Deciding
 pub mod Devices
 pub mod Beginning
 pub mod Telling
+pub mod Looking
 pub mod Writing
 pub mod Reading
 pub mod Trees

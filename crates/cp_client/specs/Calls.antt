@@ -13,9 +13,11 @@ use Rattle.cp_vat_machine.specs.declared.event.Value.TheVariants as values
 use Rattle.cp_connection.specs.declared.fault.ConnectionFault.{ConnectionFault}
 use Rattle.cp_connection.specs.declared.fault.ConnectionFault.TheVariants as faults
 use Rattle.cp_session.specs.Doing as sessions
+use Rattle.cp_session.specs.State.{State}
 use Rattle.cp_client.specs.declared.fault.ClientFault.{ClientFault}
 use Rattle.cp_client.specs.declared.fault.ClientFault.TheVariants as client_faults
 use Rattle.cp_client.specs.Conversation.{Asked, Conversation}
+use Rattle.cp_client.specs.Questions.{untaken}
 
 module _ {H : Type 0} where
   -- A call of the program's was made, and nothing else was done, but that these are the questions then.
@@ -36,9 +38,12 @@ module _ {H : Type 0} where
   abbrev pub IsUndone : Conversation H → Event → ClientFault → Conversation H → Type 0
   IsUndone old event fault new = (f : ConnectionFault) × (fault ≡ client_faults.Connection f) × Did old event (Err f) old.asked new
 
-  -- a question was given up, and its outcome isn't waited for
-  abbrev pub Finishes : Conversation H → ℕ → Conversation H → Type 0
-  Finishes old q new = Did old (events.Finish q) (Ok values.Nothing) (remove old.asked q) new
+  -- A question was given up, and its outcome isn't waited for. What an outcome named that came and wasn't given out is given back.
+  pub record Finishes (old : Conversation H) (q : ℕ) (new : Conversation H) : Type 0 where
+    pub finished : State H
+    pub finishes : sessions.FinishesQuestion q old.session finished
+    pub releases : sessions.ReleasesUntaken (untaken old.asked q) finished new.session
+    pub same : new ≡ record old { session = new.session; asked = remove old.asked q }
 
   -- The program gave an import back, and this came of it. Nothing else was done.
   abbrev pub GivesBack : Conversation H → ℕ → Result Value ConnectionFault → Conversation H → Type 0

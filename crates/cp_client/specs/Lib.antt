@@ -1,14 +1,15 @@
 pub mod Devices
 pub mod Conversation
 pub mod ConversationOf
+pub mod Questions
 pub mod Calls
 pub mod Telling
 pub mod Writing
 pub mod Reading
 pub mod Faults
 pub mod Kinds
-pub mod Questions
 pub mod Waits
+pub mod AnyOf
 pub mod Contents
 pub mod CallWindows
 pub mod Results

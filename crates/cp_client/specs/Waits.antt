@@ -1,5 +1,5 @@
 -- How a client waits.
-use Rattle.std.specs.Prelude.{◌≡◌, ◌⊎◌, ℕ, Some, None}
+use Rattle.std.specs.Prelude.{◌≡◌, ◌⊎◌, ℕ, Option, Some, None}
 use Rattle.std.specs.FinMap.{get, remove}
 use Rattle.cp_refs.specs.declared.call.Request.{Request}
 use Rattle.cp_refs.specs.declared.cap.Cap.{Cap}
@@ -24,6 +24,15 @@ module _ {H : Type 0} where
   -- a question is asked, and its outcome hasn't come
   abbrev pub IsAwaited : ℕ → Conversation H → Type 0
   IsAwaited q state = get state.asked q ≡ Some None
+
+  -- All that was told is known. Then the outcome of a question is given out, or it hasn't come.
+  abbrev pub Looks : Conversation H → ℕ → Option Outcome → Conversation H → Type 0
+  Looks old q (Some outcome) new = (known : Conversation H) × Knows old known × GivesOut known q outcome new
+  Looks old q None new = Knows old new × IsAwaited q new
+
+  -- all that was told is known, and the question isn't asked
+  abbrev pub IsNotAsked : Conversation H → ℕ → ClientFault → Conversation H → Type 0
+  IsNotAsked old q fault new = Knows old new × (fault ≡ client_faults.NotAsked) × (get new.asked q ≡ None)
 
 -- Of objects of one table.
 module _ {H : Type 0} (table : ObjectTableKind H) where

@@ -1,17 +1,20 @@
 //! A client.
 
 ghost use Rattle.std.specs.Prelude.{◌≡◌, ◌<◌, ℕ, [], None, Some, IfOk, IfErr, OnOk, OnErr, option_copied};
+ghost use Rattle.std.specs.FinMap as map;
 ghost use Rattle.cp_vat_machine.specs.declared.event.Event.TheVariants as events;
 ghost use Rattle.cp_objects.specs.Objects.{alone, objects_of};
-ghost use Rattle.cp_session.specs.Doing.{next_cap};
+ghost use Rattle.cp_session.specs.Doing.{ReleasesUntaken, next_cap};
 ghost use Rattle.cp_session.specs.State.{link_of, state_of};
 ghost use Rattle.cp_client.specs.Calls.{Asks, Exports, Finishes, HandsOn, IsUnasked, IsUndone, IsUnreleased, KeepsRest, Releases, Wakes};
 ghost use Rattle.cp_client.specs.Devices.{fresh};
 ghost use Rattle.cp_client.specs.Conversation.{beginning, new_conversation, options_of};
 ghost use Rattle.cp_client.specs.ConversationOf.{seen};
 ghost use Rattle.cp_client.specs.Reading.{Ends, GoesOn, Halts, IsClosed, IsOpen, ReadFailed, Reads, Takes};
+ghost use Rattle.cp_client.specs.Questions.{untaken};
 ghost use Rattle.cp_client.specs.Telling.{Knows, knowing};
-ghost use Rattle.cp_client.specs.Waits.{Fails, IsAnswered, IsUnanswered, Polls, ServesUntil, Steps, Stops, Waits};
+ghost use Rattle.cp_client.specs.Waits.{Fails, IsAnswered, IsNotAsked, IsUnanswered, Looks, Polls, ServesUntil, Steps, Stops, Waits};
+ghost use Rattle.cp_client.specs.AnyOf.{IsAnyNotAsked, LooksForAny, StopsForAll, WaitsForAny};
 ghost use Rattle.cp_client.specs.Writing.{Flushes, WriteFailed, WritesOn, WritesPart, WritesSome};
 ghost use Rattle.cp_client.specs.declared.fault.ClientFault.TheVariants.{Ended};
 
@@ -46,12 +49,23 @@ const NOW: u64 = 0;
 /// 3. `call` calls a capability: what a question will give, at a path by `Question::at`, an import that an outcome named, or an
 ///    object of the client's. A call is sent when the client next waits, in one go with all that was called before. `export` adds an
 ///    object, whose capability a call's table may name.
-/// 4. `wait` waits for a question's outcome, and gives it out, once. `call_and_wait` is `call`, `wait` and `finish`.
+/// 4. `wait` waits for a question's outcome, and gives it out, once. `wait_any` waits for the first of several. `call_and_wait` is `call`,
+///    `wait` and `finish`. `take_outcome` and `step` are what `wait` does in turn, for a program that has to do something in between.
 /// 5. `finish` gives a question up when none of its paths is needed any more, and `release` an import: till then the peer
 ///    keeps them. `flush` writes what is still to be sent, and `into_devices` ends the client.
 ///
+/// A typed call's results are waited for by `results`, which finishes the question too. Each other question is to be finished by the
+/// program: a client that holds 65,536 of them can ask no more (`V8 Full`).
+///
 /// Nothing is read before all that was sent is written, and before the objects gave all that they have: so an object that always
 /// says that it may give more keeps its client from reading.
+///
+/// # When it may stand still
+///
+/// Nothing is read while a write waits. So over a blocking writer, such as a `TcpStream`, a client stands still for ever if its peer, too,
+/// reads nothing before its own bytes are read: after many large calls with large results, made in one go. Over a
+/// `net_client::DuplexStream` a write takes in what comes meanwhile. Use pipes, and bytes in memory, in tests, and with peers that are known
+/// to read on.
 ///
 /// # Its objects
 ///
@@ -199,14 +213,53 @@ impl<R: Read + Drop, W: Write + Drop, S: CallingSession> SessionClient<R, W, S> 
     {
         for _ in 0..u64::MAX {
             // The outcome is looked for before anything is written: one that has come needs no writer.
-            self.note();
-            let came = self.questions.take(question.number)?;
-            if let Some(outcome) = came {
+            if let Some(outcome) = self.take_outcome(question)? {
                 return Ok(outcome);
             }
             self.step()?;
         }
         Err(ClientFault::Connection(ConnectionFault::OutOfMemory))
+    }
+
+    /// Waits for the outcome of any of these questions. Gives the first that is there, in their order, with its question. The others are
+    /// kept. It is `NotAsked` where none is given, or where one of them that is looked at isn't asked.
+    pub fn wait_any(&mut self, questions: &[Question]) -> Result<(Question, Outcome), ClientFault>
+        ensures waits { let at = seen S.state R.remaining W.contents in IfOk result (λ came. WaitsForAny S.table (at self.old) questions.now came (at self.new)) }
+        ensures stops { let at = seen S.state R.remaining W.contents in IfErr result (λ f. StopsForAll S.table (at self.old) questions.now f (at self.new)) }
+    {
+        if questions.is_empty() {
+            return Err(ClientFault::NotAsked);
+        }
+        for _ in 0..u64::MAX {
+            if let Some(came) = self.take_any(questions)? {
+                return Ok(came);
+            }
+            self.step()?;
+        }
+        Err(ClientFault::Connection(ConnectionFault::OutOfMemory))
+    }
+
+    /// Gives out the outcome of a question, once, if it has come. Nothing is read or written.
+    pub fn take_outcome(&mut self, question: Question) -> Result<Option<Outcome>, ClientFault>
+        ensures looks { let at = seen S.state R.remaining W.contents in IfOk result (λ came. Looks (at self.old) question.number came (at self.new)) }
+        ensures not_asked { let at = seen S.state R.remaining W.contents in IfErr result (λ f. IsNotAsked (at self.old) question.number f (at self.new)) }
+    {
+        self.note();
+        self.questions.take(question.number)
+    }
+
+    /// Writes all that was sent. Then the objects go on where one may give more, or else bytes of the peer are taken, up to the end of
+    /// a message: where none is left of those that were read, the reader is called once.
+    pub fn step(&mut self) -> Result<(), ClientFault>
+        ensures steps { let at = seen S.state R.remaining W.contents in OnOk result (Steps S.table (at self.old) (at self.new)) }
+        ensures fails { let at = seen S.state R.remaining W.contents in IfErr result (λ f. Fails S.table (at self.old) f (at self.new)) }
+    {
+        self.flush()?;
+        if self.session.has_more() {
+            self.poll();
+            return Ok(());
+        }
+        self.go_on()
     }
 
     /// Calls a capability, waits for the outcome, and finishes the question.
@@ -226,13 +279,14 @@ impl<R: Read + Drop, W: Write + Drop, S: CallingSession> SessionClient<R, W, S> 
         }
     }
 
-    /// Gives a question up, before or after its outcome. Refused as `Vat::finish`.
+    /// Gives a question up, before or after its outcome. What an outcome names that came and wasn't given out is given back. Refused as
+    /// `Vat::finish`.
     pub fn finish(&mut self, question: Question) -> Result<(), ClientFault>
         ensures finishes { let at = seen S.state R.remaining W.contents in OnOk result (Finishes (at self.old) question.number (at self.new)) }
         ensures undone { let at = seen S.state R.remaining W.contents in IfErr result (λ f. IsUndone (at self.old) (events.Finish question.number) f (at self.new)) }
     {
         self.session.finish(question.number)?;
-        self.questions.forget(question.number);
+        self.release_untaken(question.number);
         Ok(())
     }
 
@@ -327,6 +381,17 @@ impl<R: Read + Drop, W: Write + Drop, S: CallingSession> SessionClient<R, W, S> 
         (from.into_inner(), to.into_inner())
     }
 
+    /// A question is waited for no more. What its outcome named is given back, if that came and wasn't given out.
+    fn release_untaken(&mut self, question: u32)
+        ensures released { let at = seen S.state R.remaining W.contents in ReleasesUntaken (untaken (at self.old).asked question) (at self.old).session (at self.new).session }
+        ensures same { let at = seen S.state R.remaining W.contents in at self.new ≡ record (at self.old) { session = (at self.new).session; asked = map.remove (at self.old).asked question } }
+    {
+        match self.questions.forget(question) {
+            Some(outcome) => self.session.release_outcome(outcome),
+            None => {}
+        }
+    }
+
     /// A client that does nothing yet, over a session that does nothing yet.
     fn begin(alloc: Global, from: R, to: W, session: S, number: u64) -> SessionClient<R, W, S>
         ensures { seen S.state R.remaining W.contents result ≡ beginning (S.state session) number (fresh (R.remaining from)) (fresh (W.contents to)) }
@@ -342,17 +407,21 @@ impl<R: Read + Drop, W: Write + Drop, S: CallingSession> SessionClient<R, W, S> 
         }
     }
 
-    /// Writes all that was sent. Then the objects go on where one may give more, or else bytes of the peer are taken.
-    fn step(&mut self) -> Result<(), ClientFault>
-        ensures steps { let at = seen S.state R.remaining W.contents in OnOk result (Steps S.table (at self.old) (at self.new)) }
-        ensures fails { let at = seen S.state R.remaining W.contents in IfErr result (λ f. Fails S.table (at self.old) f (at self.new)) }
+    /// Gives out the outcome of the first of these questions that has one.
+    fn take_any(
+        &mut self,
+        questions: &[Question],
+    ) -> Result<Option<(Question, Outcome)>, ClientFault>
+        ensures looks { let at = seen S.state R.remaining W.contents in IfOk result (λ came. LooksForAny (at self.old) questions.now came (at self.new)) }
+        ensures not_asked { let at = seen S.state R.remaining W.contents in IfErr result (λ f. IsAnyNotAsked (at self.old) questions.now f (at self.new)) }
     {
-        self.flush()?;
-        if self.session.has_more() {
-            self.poll();
-            return Ok(());
+        self.note();
+        for question in questions {
+            if let Some(outcome) = self.questions.take(question.number)? {
+                return Ok(Some((*question, outcome)));
+            }
         }
-        self.go_on()
+        Ok(None)
     }
 
     /// Has the objects go on. Where memory runs out `is_open` says so, once all is written.

@@ -11,6 +11,7 @@ use cp_connection::ConnectionFault;
 use cp_interfaces::{NamingError, NoResults};
 use cp_messages::ExceptionKind;
 use cp_stream::DeviceError;
+use cp_vat_machine::VatFault;
 use std::alloc::{AllocError, AllocFailed};
 use std::error::Error;
 use std::{fmt, io};
@@ -53,8 +54,15 @@ impl ClientFault {
 }
 
 impl fmt::Display for ClientFault {
+    /// In the alternate form, `{:#}`, also what the vat's fault means, and what to do about it.
     fn fmt<W: fmt::Write>(&self, f: &mut fmt::Formatter<W>) -> fmt::Result {
         match self {
+            ClientFault::Connection(ConnectionFault::Refused(VatFault::Full)) if f.alternate() => {
+                VatFault::Full.fmt(f)?;
+                f.write_str(
+                    "; finish the questions, and release the imports, that you no longer need",
+                )
+            }
             ClientFault::Device(error) => write!(f, "a call of a device failed: {error}"),
             ClientFault::Ended => f.write_str("the peer's messages ended"),
             ClientFault::NotAsked => f.write_str("V1 UnknownQuestion"),

@@ -3,7 +3,7 @@
 ghost use Rattle.std.specs.Prelude.{◌≡◌, Some, None, IfOk, IfErr, OnOk, OnErr};
 ghost use Rattle.std.specs.FinMap as map;
 ghost use Rattle.cp_client.specs.Telling.{came};
-ghost use Rattle.cp_client.specs.Questions.{TakesOut};
+ghost use Rattle.cp_client.specs.Questions.{TakesOut, untaken};
 ghost use Rattle.cp_client.specs.declared.fault.ClientFault.TheVariants.{NotAsked};
 
 use crate::fault::ClientFault;
@@ -65,10 +65,11 @@ impl Questions {
         Ok(self.asked.remove(question).flatten())
     }
 
-    /// A question is waited for no more.
-    pub(crate) fn forget(&mut self, question: u32)
-        ensures { self.new.asked ≡ map.remove self.old.asked question }
+    /// A question is waited for no more. Gives its outcome, if that came and wasn't given out.
+    pub(crate) fn forget(&mut self, question: u32) -> Option<Outcome>
+        ensures forgotten { self.new.asked ≡ map.remove self.old.asked question }
+        ensures untaken { result ≡ untaken self.old.asked question }
     {
-        drop(self.asked.remove(question));
+        self.asked.remove(question).flatten()
     }
 }

@@ -6,6 +6,7 @@ use crate::fault::ConnectionFault;
 use crate::parts::Parts;
 use cp_frame::Mode;
 use cp_refs::{Cap, Origin, Outcome, PromiseId, Request};
+use cp_tables::Stage;
 use cp_tail_calls::{TailCalls, Trigger};
 use cp_vat::BorrowedCall;
 use cp_vat_machine::Idle;
@@ -80,6 +81,7 @@ impl Connection {
     ghost use Rattle.cp_vat_machine.specs.InUse.{is_object_used};
     ghost use Rattle.cp_refs.specs.Memory.{counted};
     ghost use Rattle.cp_vat.specs.Kept.{entries_of};
+    ghost use Rattle.cp_vat.specs.Stages.{stage_at};
     ghost use Rattle.cp_connection.specs.Contents.{event_memory, kept_contents};
     ghost use Rattle.cp_connection.specs.Link.{HasCome, new_link, new_link_with_tails};
     ghost use Rattle.cp_connection.specs.Doing.{Aborts, Acts, answered};
@@ -283,6 +285,13 @@ impl Connection {
         ensures { result ≡ is_object_used self.now.vat object }
     {
         self.parts.vat.uses_object(object)
+    }
+
+    /// How far a call is, as `Vat::stage_at` says.
+    pub fn stage_at(&self, origin: Origin) -> Option<Stage>
+        ensures { result ≡ stage_at self.now.vat origin }
+    {
+        self.parts.vat.stage_at(origin)
     }
 
     /// Why the connection ended, if it did.

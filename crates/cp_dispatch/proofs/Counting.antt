@@ -3,7 +3,7 @@ use Rattle.std.proofs.Common.{◌≡◌, ◌<◌, ◌+◌, ℕ, take, drop, get_
 use Rattle.std.proofs.Math.Seq.{drop-cons}
 use Rattle.std.proofs.lemmas.List.{take_more}
 use Rattle.cp_tables.specs.Table.{Table}
-use Rattle.cp_dispatch.specs.Holders.{held_by_one_more, held_by_more}
+use Rattle.cp_dispatch.specs.Holders.{held_by_less, held_by_one_more, held_by_more, lowered}
 
 -- the last of these imports is counted last
 counted_last : (xs : List ℕ) (i : ℕ) (held : Table ℕ) → held_by_more held (xs ++ i ∷ []) ≡ held_by_one_more (held_by_more held xs) i
@@ -24,3 +24,10 @@ module _ (items : List ℕ) (i d : ℕ) (inside : i < length items) where
       let next : i + 1 ≡ suc i = omega arith in
       ap (λ (n : ℕ). held_by_more (held_by_one_more held (get_or items i d)) (drop n items)) next
       ∙ sym (ap (λ (xs : List ℕ). held_by_more held xs) (drop-cons items i d inside))
+
+  -- one is held less before the others
+  pub lowered_before : (held : Table ℕ) → held_by_less (lowered held (get_or items i d)) (drop (i + 1) items) ≡ held_by_less held (drop i items)
+  lowered_before held =
+      let next : i + 1 ≡ suc i = omega arith in
+      ap (λ (n : ℕ). held_by_less (lowered held (get_or items i d)) (drop n items)) next
+      ∙ sym (ap (λ (xs : List ℕ). held_by_less held xs) (drop-cons items i d inside))

@@ -5,3 +5,4 @@ pub mod Working
 pub mod Awaiting
 pub mod Lending
 pub mod Dropping
+pub mod TakingOut

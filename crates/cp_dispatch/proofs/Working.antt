@@ -2,9 +2,6 @@
 use Rattle.std.proofs.Common.{◌≡◌, ◌↔◌, ◌<◌, ◌+◌, ℕ, drop, get_or, add-one, List, [], Option, Some, None, IsSome, Bool, true, false, IsTrue, ◌||◌, Result, Ok, Err, IfOk, OnOk, refl, sym, ◌∙◌, length}
 use Rattle.std.proofs.lemmas.Bool.{false≢true}
 use Rattle.std.proofs.Math.Seq.{drop-cons}
-use Rattle.std.specs.FinMap.{get, remove}
-use Rattle.cp_tables.specs.Table.{Table}
-use Rattle.cp_tables.proofs.TableLemmas.{is_remove}
 use Rattle.cp_refs.specs.declared.call.Origin.{Origin}
 use Rattle.cp_refs.specs.declared.outcome.Outcome.{Outcome}
 use Rattle.cp_vat_machine.specs.declared.event.Event.TheVariants as events
@@ -12,7 +9,7 @@ use Rattle.cp_connection.specs.Link.{Link}
 use Rattle.cp_servants.specs.declared.servant.Settled.{Settled}
 use Rattle.cp_objects.specs.ObjectTable.{ObjectTableKind}
 use Rattle.cp_dispatch.specs.declared.question_owner.QuestionOwner.{QuestionOwner}
-use Rattle.cp_dispatch.specs.Work.{Work, Answers, GivesUp, IsDone, LetsGo, TakesAwaited, TriesEach, TriesUnheld}
+use Rattle.cp_dispatch.specs.Work.{Work, Answers, GivesUp, IsDone, LetsGo, TakesAsked, TakesAwaited, TriesEach, TriesUnheld}
 use Rattle.cp_dispatch.specs.Calling.{HandsBack, to_user, to_object, Hears, MakesCalls, NotesOutcome, Settles, is_stranger, is_awaited}
 use Rattle.cp_dispatch.specs.Rounds.{PollsFrom, WorksOff, none_left}
 
@@ -66,13 +63,12 @@ module _ {H : Type 0} {table : ObjectTableKind H} where
   pub works_off_none : (old : Work) (link : Link) (objects : H) → link ≡ old.link → old.link.happened ≡ [] → WorksOff table old (record old { link = link }) objects objects
   works_off_none old link objects e none = rw e (none_left none)
 
-  pub hands_to_user : (old : Work) (asked : Table QuestionOwner) (question : ℕ) (outcome : Outcome) {new : Work} {objects : H} → get old.asked question ≡ None
-      → asked ≡ remove old.asked question → NotesOutcome question outcome (record old { asked = asked }) new → HandsBack table question outcome old new objects objects
-  hands_to_user old asked question outcome none r noted =
-      to_user none (rw (r, ← is_remove old.asked old.asked question none (λ q h. refl)) at noted) refl
+  pub hands_to_user : (old taken : Work) (question : ℕ) (outcome : Outcome) {new : Work} {objects : H} → TakesAsked question old None taken → NotesOutcome question outcome taken new
+      → HandsBack table question outcome old new objects objects
+  hands_to_user old taken question outcome takes noted = to_user takes.0 (rw takes.1 at noted) refl
 
-  pub hands_to_object : (old : Work) (asked : Table QuestionOwner) (question : ℕ) (outcome : Outcome) (owner : QuestionOwner) (link : Link) {told new : Work} {objects between others : H}
-      → get old.asked question ≡ Some owner → asked ≡ remove old.asked question → IsDone old.link (events.Finish question) link
-      → Hears table owner.number owner.call_id outcome (record old { link = link; asked = asked }) told objects between → MakesCalls table owner.number told new between others
+  pub hands_to_object : (old taken : Work) (question : ℕ) (outcome : Outcome) (owner : QuestionOwner) (link : Link) {told new : Work} {objects between others : H}
+      → TakesAsked question old (Some owner) taken → IsDone old.link (events.Finish question) link
+      → Hears table owner.number owner.call_id outcome (record taken { link = link }) told objects between → MakesCalls table owner.number told new between others
       → HandsBack table question outcome old new objects others
-  hands_to_object old asked question outcome owner link got r done heard calls = to_object owner link got done (rw r at heard) calls
+  hands_to_object old taken question outcome owner link takes done heard calls = to_object owner link takes.0 done (rw takes.1 at heard) calls

@@ -1,6 +1,6 @@
 -- The calls that objects make, and what they are told.
 use Rattle.std.specs.Prelude.{◌≡◌, ◌⊎◌, ℕ, Bool, true, false, IsSome, Option, Some, None, Ok, Err}
-use Rattle.std.specs.FinMap.{get, insert, remove}
+use Rattle.std.specs.FinMap.{get}
 use Rattle.cp_refs.specs.declared.call.Origin.{Origin}
 use Rattle.cp_refs.specs.declared.outcome.Outcome.{Outcome}
 use Rattle.cp_vat_machine.specs.InUse.{caps_of}
@@ -17,7 +17,8 @@ use Rattle.cp_dispatch.specs.declared.event.DispatchEvent.TheVariants as notices
 use Rattle.cp_servants.specs.declared.servant.OutgoingCall.{OutgoingCall}
 use Rattle.cp_servants.specs.declared.servant.Settled.{Settled}
 use Rattle.cp_servants.specs.Outcomes.{refused_call}
-use Rattle.cp_dispatch.specs.Work.{Work, Answers, GivesUp, Holds, IsDone, IsEnd, IsGiven, Notes, awaiting_no_more}
+use Rattle.cp_dispatch.specs.Work.{Work, Answers, GivesUp, Holds, IsDone, IsEnd, IsGiven, Notes, asking, asking_no_more, awaiting_no_more}
+use Rattle.cp_dispatch.specs.GivingUp.{CancelsEach}
 use Rattle.cp_dispatch.specs.PromiseRequests.{KeepsPromiseRequests}
 
 -- What an object gave settles a call that is awaited, once the object gave imports up, with what its outcome means to the vat. A ticket that isn't awaited is
@@ -58,7 +59,7 @@ module _ {H : Type 0} (table : ObjectTableKind H) where
   -- the connection had ended.
   pub data MakesCall (number : ℕ) (next_call : OutgoingCall) (old new : Work) (objects others : H) : Type 0 where
     is_made : (question : ℕ) (link : Link) → Acts old.link (events.Call next_call.cap next_call.request) (Ok (values.Question question)) link
-        → new ≡ record old { link = link; asked = insert old.asked question (record { number = number; call_id = next_call.call_id }) } → others ≡ objects → MakesCall number next_call old new objects others
+        → new ≡ asking question (record { number = number; call_id = next_call.call_id }) (record old { link = link }) → others ≡ objects → MakesCall number next_call old new objects others
     is_refused : (refusal : VatFault) (link : Link) → Acts old.link (events.Call next_call.cap next_call.request) (Err (faults.Refused refusal)) link
         → Hears number next_call.call_id refused_call (record old { link = link }) new objects others → MakesCall number next_call old new objects others
     had_ended : (fault : ConnectionFault) (link : Link) → IsEnd fault → Acts old.link (events.Call next_call.cap next_call.request) (Err fault) link
@@ -70,11 +71,11 @@ module _ {H : Type 0} (table : ObjectTableKind H) where
     settles : {old mid new : Work} {objects between others : H} (settled : Settled) (gave : Bool) → table.hands_settled (Some settled) objects between
         → Settles (λ outcome. table.means outcome between) old (Some settled) gave mid → SettlesEach mid new between others → SettlesEach old new objects others
 
-  -- The calls of the object of this number are made, as they mean to the vat, one after another, until it makes no more. Then the calls are answered that were
-  -- settled meanwhile.
+  -- The calls of the object of this number are made, as they mean to the vat, one after another, until it makes no more. Then those are finished that objects gave
+  -- up, and the calls are answered that were settled meanwhile.
   pub data MakesCalls (number : ℕ) : Work → Work → H → H → Type 0 where
-    makes_none : {old mid new : Work} {objects between others : H} → NextCall number old None mid objects between → SettlesEach mid new between others
-        → MakesCalls number old new objects others
+    makes_none : {old mid given new : Work} {objects between left others : H} → NextCall number old None mid objects between → CancelsEach table mid given between left
+        → SettlesEach given new left others → MakesCalls number old new objects others
     makes_one : {old asked mid new : Work} {objects between last others : H} (next_call : OutgoingCall) → NextCall number old (Some next_call) asked objects between
         → MakesCall number (table.means_call next_call between) asked mid between last → MakesCalls number mid new last others → MakesCalls number old new objects others
 
@@ -83,5 +84,5 @@ module _ {H : Type 0} (table : ObjectTableKind H) where
   pub data HandsBack (question : ℕ) (outcome : Outcome) (old new : Work) (objects others : H) : Type 0 where
     to_user : get old.asked question ≡ None → NotesOutcome question outcome old new → others ≡ objects → HandsBack question outcome old new objects others
     to_object : {told : Work} {between : H} (owner : QuestionOwner) (link : Link) → get old.asked question ≡ Some owner → IsDone old.link (events.Finish question) link
-        → Hears owner.number owner.call_id outcome (record old { link = link; asked = remove old.asked question }) told objects between
+        → Hears owner.number owner.call_id outcome (record (asking_no_more question owner old) { link = link }) told objects between
         → MakesCalls owner.number told new between others → HandsBack question outcome old new objects others

@@ -16,6 +16,11 @@ held_by_one_more held i = insert held i (holders held i + 1)
 abbrev pub lowered : Table ℕ → ℕ → Table ℕ
 lowered held i = if nat_lt 1 (holders held i) then insert held i (holders held i - 1) else remove held i
 
+-- each of these imports is held once less
+abbrev pub held_by_less : Table ℕ → List ℕ → Table ℕ
+held_by_less held [] = held
+held_by_less held (i ∷ more) = held_by_less (lowered held i) more
+
 -- an object more holds each of these imports
 abbrev pub held_by_more : Table ℕ → List ℕ → Table ℕ
 held_by_more held [] = held

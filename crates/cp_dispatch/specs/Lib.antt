@@ -1,6 +1,7 @@
 pub mod Holders
 pub mod Work
 pub mod PromiseRequests
+pub mod GivingUp
 pub mod Calling
 pub mod Rounds
 pub mod Idle
@@ -8,5 +9,6 @@ pub mod Canceling
 pub mod Receiving
 pub mod WorkOf
 pub mod Noticed
+pub mod Finishing
 pub mod Dropping
 pub mod Laws

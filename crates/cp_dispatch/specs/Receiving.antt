@@ -14,7 +14,7 @@ use Rattle.cp_objects.specs.ObjectTable.{ObjectTableKind}
 use Rattle.cp_servants.specs.Requests.{request_of}
 use Rattle.cp_dispatch.specs.declared.incoming.IncomingCall.{IncomingCall}
 use Rattle.cp_dispatch.specs.Rounds.{Handles, WorksOff}
-use Rattle.cp_dispatch.specs.Canceling.{Cancels}
+use Rattle.cp_dispatch.specs.Canceling.{Cancels, answer_given_up}
 use Rattle.cp_dispatch.specs.Work.{Work, Lives}
 
 -- a call that comes, as one that was delivered
@@ -28,7 +28,7 @@ module _ {H : Type 0} (table : ObjectTableKind H) where
   Receives old piece count has_ended new objects others =
       (link : Link) × (finished : Option ℕ) × (mid : Work) × (between : H) × ReceivesNaming old.link piece count finished link
       × ((has_ended ≡ true) ↔ (taken_of link.reading ≡ 0)) × WorksOff table (record old { link = link }) mid objects between
-      × Cancels table finished mid new between others × Lives link new.link
+      × Cancels table (answer_given_up finished) mid new between others × Lives link new.link
 
   -- a call that is lent is done as one that was delivered, if there is one
   abbrev pub HandlesLent : Option BorrowedCall → Work → Work → H → H → Type 0

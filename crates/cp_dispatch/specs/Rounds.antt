@@ -17,6 +17,7 @@ use Rattle.cp_servants.specs.declared.servant.Settled.{Settled}
 use Rattle.cp_servants.specs.Outcomes.{no_such_object}
 use Rattle.cp_dispatch.specs.Work.{Work, Answers, GivesUp, Holds, Notes, Replies, Releases}
 use Rattle.cp_dispatch.specs.Calling.{HandsBack, Lacks, MakesCalls, Settles}
+use Rattle.cp_dispatch.specs.GivingUp.{TellsLate}
 use Rattle.cp_dispatch.specs.PromiseRequests.{KeepsPromiseRequests}
 
 -- Of the objects of one table.
@@ -26,13 +27,13 @@ module _ {H : Type 0} (table : ObjectTableKind H) where
     by_object : Holds call.caps old new → table.calls number ticket call reply objects others → Gives number ticket call reply old new objects others
     by_none : Lacks table number objects → reply ≡ replies.Now no_such_object [] → new ≡ old → others ≡ objects → Gives number ticket call reply old new objects others
 
-  -- What an event asks is done: a call goes to its object, which did something of promises perhaps, whose reply counts, and which may make calls then; an
-  -- outcome is handed back; and that the vat closed is noted.
+  -- What an event asks is done: a call goes to its object, which did something of promises perhaps, whose reply counts, which is told where the call was given up
+  -- before, and which may make calls then; an outcome is handed back; and that the vat closed is noted.
   abbrev pub Handles : ConnectionEvent → Work → Work → H → H → Type 0
   Handles (happenings.Delivered k origin ticket call) old new objects others =
-      (reply : Reply) × (called mid : Work) × (link : Link) × (between kept : H) × Gives k ticket call reply old called objects between
+      (reply : Reply) × (called mid told : Work) × (link : Link) × (between kept after : H) × Gives k ticket call reply old called objects between
       × KeepsPromiseRequests table called.link link between kept × Replies (λ outcome. table.means outcome kept) (record called { link = link }) origin ticket reply mid
-      × MakesCalls table k mid new kept others
+      × TellsLate table origin mid told kept after × MakesCalls table k told new after others
   Handles (happenings.Settled question outcome) old new objects others = HandsBack table question outcome old new objects others
   Handles (happenings.Closed reason) old new objects others = Notes (notices.Closed reason) old new × (others ≡ objects)
 

@@ -1,5 +1,5 @@
 -- A connection, with what is still to be done for its objects.
-use Rattle.std.specs.Prelude.{◌≡◌, ◌≢◌, ℕ, ◌<◌, ◌≤◌, ◌-◌, Bool, if◌then◌else◌, List, [], ◌∷◌, ◌++◌, Option, Some, None, Result, Ok, Err}
+use Rattle.std.specs.Prelude.{◌≡◌, ◌≢◌, ℕ, ◌<◌, ◌≤◌, ◌+◌, ◌-◌, ◌*◌, ◌^◌, Bool, if◌then◌else◌, List, [], ◌∷◌, ◌++◌, Option, Some, None, Result, Ok, Err}
 use Rattle.std.specs.FinMap.{get, insert, remove, empty}
 use Rattle.cp_tables.specs.Table.{Table}
 use Rattle.cp_refs.specs.declared.call.Origin.{Origin}
@@ -25,16 +25,17 @@ use Rattle.cp_servants.specs.declared.servant.Reply.TheVariants as replies
 use Rattle.cp_servants.specs.Outcomes.{bad_outcome, named_imports}
 use Rattle.cp_dispatch.specs.Holders.{holders, held_by_more, lowered}
 
--- The connection, whether objects may call, the calls whose objects answer later, by their tickets, the tickets of those of them that the peer made and didn't
--- give up, by their answers, the calls that objects made, by their questions, how many
--- objects hold each import, how often results named each to the program, which holds it so often, the imports that objects gave up and that none of them held
--- then, and what is no object's business and wasn't taken.
+-- The connection, whether objects may call, the calls whose objects answer later, by their tickets, the tickets of those of them that weren't given up, by their
+-- origins, the calls that objects made, by their questions, those questions, by the calls' numbers, how many objects hold each import, how often results named
+-- each to the program, which holds it so often, the imports that objects gave up and that none of them held then, and what is no object's business and wasn't
+-- taken.
 pub record Work : Type 0 where
   pub link : Link
   pub may_call : Bool
   pub awaited : Table Origin
   pub owed : Table ℕ
   pub asked : Table QuestionOwner
+  pub questions : Table ℕ
   pub held : Table ℕ
   pub given : Table ℕ
   pub given_up : List ℕ
@@ -42,7 +43,7 @@ pub record Work : Type 0 where
 
 -- nothing is owed yet
 abbrev pub begun : Bool → Link → Work
-begun may_call link = record { link = link; may_call = may_call; awaited = empty; owed = empty; asked = empty; held = empty; given = empty; given_up = []; notices = [] }
+begun may_call link = record { link = link; may_call = may_call; awaited = empty; owed = empty; asked = empty; questions = empty; held = empty; given = empty; given_up = []; notices = [] }
 
 -- Of the connection nothing was done but calls of the application, and that it was asked what happened: no byte of the peer was taken, and none written.
 abbrev pub Lives : Link → Link → Type 0
@@ -100,22 +101,37 @@ pub data Answers (old : Link) (origin : Origin) (outcome : Outcome) (new : Link)
   is_replaced : (refusal : VatFault) (mid : Link) → Acts old (events.Answer origin outcome) (Err (faults.Refused refusal)) mid
       → IsDone mid (events.Answer origin bad_outcome) new → Answers old origin outcome new
 
--- the tickets of calls that are owed, by their answers, and one that is awaited too
-abbrev pub owing : Origin → ℕ → Table ℕ → Table ℕ
-owing (origins.Answer answer) ticket owed = insert owed answer ticket
-owing (origins.Own question) ticket owed = owed
+-- the key of a call that is owed: the number of its answer, and where it is the application's, the number of its question past all answers
+abbrev pub key_of : Origin → ℕ
+key_of (origins.Answer answer) = answer
+key_of (origins.Own question) = question + 2 ^ 32
 
--- those, and one that isn't awaited any more
-abbrev pub owing_no_more : Origin → Table ℕ → Table ℕ
-owing_no_more (origins.Answer answer) owed = remove owed answer
-owing_no_more (origins.Own question) owed = owed
+-- the key of a call that an object made: the number of the object, and the call's number below
+abbrev pub key_at : ℕ → ℕ → ℕ
+key_at number call_id = number * 2 ^ 64 + call_id
+
+abbrev pub key_by : QuestionOwner → ℕ
+key_by owner = key_at owner.number owner.call_id
+
+-- an object made a call, which is this question
+abbrev pub asking : ℕ → QuestionOwner → Work → Work
+asking question owner old = record old { asked = insert old.asked question owner; questions = insert old.questions (key_by owner) question }
+
+-- its outcome isn't for an object any more
+abbrev pub asking_no_more : ℕ → QuestionOwner → Work → Work
+asking_no_more question owner old = record old { asked = remove old.asked question; questions = remove old.questions (key_by owner) }
 
 -- the answer of a call is awaited
 abbrev pub awaiting : Origin → ℕ → Work → Work
-awaiting origin ticket old = record old { awaited = insert old.awaited ticket origin; owed = owing origin ticket old.owed }
+awaiting origin ticket old = record old { awaited = insert old.awaited ticket origin; owed = insert old.owed (key_of origin) ticket }
 
 abbrev pub awaiting_no_more : Origin → ℕ → Work → Work
-awaiting_no_more origin ticket old = record old { awaited = remove old.awaited ticket; owed = owing_no_more origin old.owed }
+awaiting_no_more origin ticket old = record old { awaited = remove old.awaited ticket; owed = remove old.owed (key_of origin) }
+
+-- The outcome of a question isn't for an object any more, if it was.
+abbrev pub TakesAsked : ℕ → Work → Option QuestionOwner → Work → Type 0
+TakesAsked question old (Some owner) new = (get old.asked question ≡ Some owner) × (new ≡ asking_no_more question owner old)
+TakesAsked question old None new = (get old.asked question ≡ None) × (new ≡ old)
 
 -- The answer of a call is awaited no more, if it was.
 abbrev pub TakesAwaited : ℕ → Work → Option Origin → Work → Type 0

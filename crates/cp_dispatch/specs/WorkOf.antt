@@ -10,6 +10,7 @@ work_of o link = record {
   awaited = o.awaited;
   owed = o.owed;
   asked = o.asked;
+  questions = o.questions;
   held = o.holders.counts;
   given = o.given.counts;
   given_up = o.given_up.items;

@@ -5,7 +5,7 @@ ghost use Rattle.cp_connection.specs.Link.{Link};
 ghost use Rattle.cp_servants.specs.Outcomes.{no_such_object};
 ghost use Rattle.cp_servants.specs.Requests.{request_of};
 ghost use Rattle.cp_servants.specs.declared.servant.Reply.TheVariants.{Now};
-ghost use Rattle.cp_dispatch.specs.Work.{Lives, Replies};
+ghost use Rattle.cp_dispatch.specs.Work.{Lives, Replies, TakesAsked, asking};
 ghost use Rattle.cp_dispatch.specs.Calling.{HandsBack, Hears, NotesOutcome, MakesCall, MakesCalls, NextCall, Settles, SettlesEach};
 ghost use Rattle.cp_dispatch.specs.Rounds.{Gives};
 ghost use Rattle.cp_dispatch.specs.WorkOf.{work_of};
@@ -13,6 +13,7 @@ ghost use Rattle.cp_dispatch.specs.WorkOf.{work_of};
 use crate::answers::{answer, finish};
 use crate::dispatcher::{Dispatcher, has_ended};
 use crate::event::DispatchEvent;
+use crate::keyed::key_at;
 use crate::promise_requests::with_promise_requests_kept;
 use crate::question_owner::QuestionOwner;
 use cp_connection::{Connection, ConnectionFault};
@@ -114,7 +115,7 @@ impl Dispatcher {
         ensures done { OnOk result (HandsBack H.table question outcome (work_of self.old connection.old) (work_of self.new connection.new) objects.old objects.new) }
         ensures lives { Lives connection.old connection.new }
     {
-        let Some(owner) = self.asked.remove(question) else {
+        let Some(owner) = self.take_asked(question) else {
             return self.note_outcome(question, outcome);
         };
         // An object names no question, so none of its paths is needed any more.
@@ -123,7 +124,8 @@ impl Dispatcher {
         self.make_calls(connection, objects, owner.number)
     }
 
-    /// Makes the calls that an object asks for, until it asks for no more. Then answers what objects settled meanwhile.
+    /// Makes the calls that an object asks for, until it asks for no more. Then gives up those that objects gave up, and answers what
+    /// objects settled meanwhile.
     pub(crate) fn make_calls<H: ObjectTable>(
         &mut self,
         connection: &mut Connection,
@@ -135,6 +137,7 @@ impl Dispatcher {
     {
         for _ in 0..u64::MAX {
             let Some(next_call) = self.next_call(connection, objects, number)? else {
+                self.cancel_each(connection, objects)?;
                 return self.settle_each(connection, objects);
             };
             let meant = objects.meant_call(next_call);
@@ -156,7 +159,7 @@ impl Dispatcher {
     {
         let call_id = next_call.call_id;
         let fault = match connection.call(next_call.cap, next_call.request) {
-            Ok(question) => return self.asked.put(question, QuestionOwner { number, call_id }),
+            Ok(question) => return self.ask(question, QuestionOwner { number, call_id }),
             Err(fault) => fault,
         };
         match fault {
@@ -169,6 +172,24 @@ impl Dispatcher {
             ConnectionFault::Closed => Ok(()),
             ConnectionFault::Unreadable { .. } => Ok(()),
         }
+    }
+
+    /// An object made a call, which is this question.
+    fn ask(&mut self, question: u32, owner: QuestionOwner) -> Result<(), AllocError>
+        ensures { OnOk result ((link : Link) → work_of self.new link ≡ asking question owner (work_of self.old link)) }
+    {
+        self.questions
+            .put(key_at(owner.number, owner.call_id), question)?;
+        self.asked.put(question, owner)
+    }
+
+    /// The outcome of a question isn't for an object any more. `None` says that it wasn't.
+    pub(crate) fn take_asked(&mut self, question: u32) -> Option<QuestionOwner>
+        ensures { (link : Link) → TakesAsked question (work_of self.old link) result (work_of self.new link) }
+    {
+        let owner = self.asked.remove(question)?;
+        drop(self.questions.remove(key_at(owner.number, owner.call_id)));
+        Some(owner)
     }
 
     /// The next call of an object. Where objects may not call, and once the connection ended, it makes none, and none of those that it

@@ -13,10 +13,12 @@ ghost use Rattle.cp_dispatch.specs.Noticed.{event_memory};
 ghost use Rattle.cp_dispatch.specs.Receiving.{HandlesLent, IsCutShort, Receives, delivered_by};
 ghost use Rattle.cp_dispatch.specs.WorkOf.{work_of};
 
+use crate::canceling::answer_given_up;
 use crate::event::{DispatchEvent, event_memory};
 use crate::holders::ImportHolders;
 use crate::idle::forget_unknown;
 use crate::incoming::IncomingCall;
+use crate::keyed::Keyed;
 use crate::promise_requests::with_promise_requests_kept;
 use crate::question_owner::QuestionOwner;
 use cp_connection::{Connection, ConnectionEvent, ConnectionFault};
@@ -61,7 +63,10 @@ use std::collections::VecDeque;
 /// Where the peer finishes a call that an object is to answer later, `receive` tells the object (`ServedObject::on_cancel`), once, and never
 /// after it answered. What it answers then goes to nobody but calls that the peer made on its results; the vat says `canceled`, and
 /// keeps nothing of the call from then on. A call that still waits in the vat when it is finished is delivered all the same, and its object
-/// isn't told.
+/// is told as soon as it says that it answers later.
+///
+/// An object may give up a call of its own (`Context::cancel`): the question is finished, and the object is told nothing more of it. Where the
+/// call is answered by an object here, that is told, and the calls that this one makes then are made when it is polled.
 ///
 /// # Objects that make promises
 ///
@@ -78,7 +83,8 @@ use std::collections::VecDeque;
 /// So an object may keep an import that others were given too. Made by `that_call`, it counts the holders of each import:
 /// an object holds one once for each call, and each outcome of its own calls, whose table names it. The import is
 /// released when it was given up as often. You hold one once for each outcome that named it to you, until you `give_back` it; the last
-/// of all who hold it has it released. Made by `new`, it counts none, and the first object that gives an import up releases it.
+/// of all who hold it has it released. An outcome that came for a question which you `finish` before you took it is yours to give back by
+/// `give_back_each`. Made by `new`, it counts none, and the first object that gives an import up releases it.
 ///
 /// Some imports no object is given: those of a call that fails before it reaches one, and what a promise of the peer's came
 /// to. `release_idle` releases them. It forgets promises that no object is given, too.
@@ -94,17 +100,19 @@ pub struct Dispatcher {
     /// Whether objects may call.
     pub(crate) may_call: bool,
     pub(crate) awaited: Awaited,
-    /// The tickets of those that the peer made and didn't give up, by their answers.
-    pub(crate) owed: Entries<u64>,
+    /// The tickets of those of them that weren't given up, by the keys of their origins.
+    pub(crate) owed: Keyed<u64>,
     /// The calls that objects made, by their questions.
     pub(crate) asked: Entries<QuestionOwner>,
+    /// Those questions, by the keys of the calls.
+    pub(crate) questions: Keyed<u32>,
     pub(crate) holders: ImportHolders,
     /// How often outcomes named each import to the program, which holds it so often.
     pub(crate) given: ImportHolders,
     /// The imports that objects gave up and that none held then, until they are released.
     pub(crate) given_up: Vec<u32>,
     /// What is no object's business, in order.
-    notices: VecDeque<DispatchEvent>,
+    pub(crate) notices: VecDeque<DispatchEvent>,
 }
 
 // Not derived: a crate that lets one go calls this function, and need not prove the drop of all that it holds.
@@ -116,6 +124,7 @@ impl Drop for Dispatcher {
             awaited: _,
             owed: _,
             asked: _,
+            questions: _,
             holders: _,
             given: _,
             given_up: _,
@@ -164,7 +173,7 @@ impl Dispatcher {
         // Nothing of the frame is lent any more.
         connection.reuse(frame);
         self.work_off(connection, objects)?;
-        self.cancel(connection, objects, finished)?;
+        self.cancel(connection, objects, answer_given_up(finished))?;
         Ok((count, has_ended))
     }
 
@@ -308,8 +317,9 @@ impl Dispatcher {
             alloc,
             may_call,
             awaited: Awaited::new(alloc),
-            owed: Entries::new(alloc),
+            owed: Keyed::new(alloc),
             asked: Entries::new(alloc),
+            questions: Keyed::new(alloc),
             holders: ImportHolders::new(alloc),
             given: ImportHolders::new(alloc),
             given_up: Vec::new(alloc),
@@ -417,6 +427,7 @@ impl Dispatcher {
         let said = self.reply_of(objects, object, ticket, request)?;
         let reply = with_promise_requests_kept(self.alloc, connection, objects, said)?;
         self.reply(connection, objects, origin, ticket, reply)?;
+        self.tell_late(connection, objects, origin)?;
         self.make_calls(connection, objects, object)
     }
 

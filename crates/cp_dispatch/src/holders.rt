@@ -2,7 +2,7 @@
 
 ghost use Rattle.std.specs.Prelude.{◌≡◌, ℕ, ◌<◌, ◌≤◌, ◌+◌, ◌-◌, true, false, OnOk, OnErr, take};
 ghost use Rattle.std.specs.FinMap as map;
-ghost use Rattle.cp_dispatch.specs.Holders.{holders, held_by_one_more, held_by_more, lowered};
+ghost use Rattle.cp_dispatch.specs.Holders.{holders, held_by_one_more, held_by_less, held_by_more, lowered};
 
 use cp_tables::Entries;
 use std::alloc::{AllocError, Global};
@@ -63,6 +63,15 @@ impl ImportHolders {
         }
         drop(self.counts.remove(import));
         false
+    }
+
+    /// One object less holds each of these imports.
+    pub(crate) fn lower_each(&mut self, imports: &[u32])
+        ensures { self.new.counts ≡ held_by_less self.old.counts imports.now }
+    {
+        for import in imports {
+            let _ = self.lower(*import);
+        }
     }
 
     /// One object more holds an import. A count that can't rise is refused as a failed allocation is: there is no

@@ -2,13 +2,14 @@
 use Rattle.std.specs.Prelude.{◌≡◌, ◌↔◌, ℕ, true, [], ◌∷◌, Option, Some, None, IsSome, IsTrue, ◌+◌, ◌-◌, ◌^◌, min}
 use Rattle.std.specs.FinMap.{get, len}
 use Rattle.std.specs.FinSet as set
+use Rattle.cp_objects.specs.declared.canceled_call.CanceledCall.{CanceledCall}
 use Rattle.cp_objects.specs.declared.objects.Objects.{Objects}
 use Rattle.cp_objects.specs.declared.waker.Waker.{Waker}
 use Rattle.cp_objects.specs.Objects.{ObjectsState, objects_of, Calls, Polls, NextCalls, Responds, Ends, EndsAll, HandsSettled, changing, idle_of, in_session, loose_of, promised_so, waking, woken}
 use Rattle.cp_objects.specs.Canceling.{Cancels}
 use Rattle.cp_objects.specs.ObjectTable.{ObjectTableKind}
 use Rattle.cp_objects.specs.ServedObject.{ServedObjectKind}
-use Rattle.cp_objects.specs.Members.{without_next_calls}
+use Rattle.cp_objects.specs.Members.{waiting_less, without_next_calls}
 use Rattle.cp_objects.specs.Numbers.{Numbers, IsFirst}
 use Rattle.cp_objects.specs.Promises.{HandsPromiseRequest, forgetting, has_name, keeping_promise, meant, with_next_call, with_outcome}
 
@@ -16,6 +17,11 @@ use Rattle.cp_objects.specs.Promises.{HandsPromiseRequest, forgetting, has_name,
 abbrev pub HandsOn : {A : Type 0} → Option Waker → ObjectsState A → ObjectsState A → Type 0
 HandsOn (Some waker) old new = (old.wakes ≡ waker ∷ new.wakes) × (new ≡ record old { wakes = new.wakes })
 HandsOn None old new = (old.wakes ≡ []) × (new ≡ old)
+
+-- the first of the calls that were made and given up is handed out, if there is one
+abbrev pub HandsCanceled : {A : Type 0} → Option CanceledCall → ObjectsState A → ObjectsState A → Type 0
+HandsCanceled (Some call) old new = (old.canceled ≡ call ∷ new.canceled) × (new ≡ record old { canceled = new.canceled })
+HandsCanceled None old new = (old.canceled ≡ []) × (new ≡ old)
 
 -- one is to be polled
 abbrev pub IsAwake : Numbers → Type 0
@@ -31,6 +37,8 @@ grown kind = record {
   drops_next_calls = λ number old new. objects_of new ≡ changing number without_next_calls (objects_of old);
   tells = λ number call_id outcome old new. Responds kind number call_id outcome (objects_of old) (objects_of new);
   cancels = λ ticket told old new. Cancels kind ticket told (objects_of old) (objects_of new);
+  hands_canceled = λ call old new. HandsCanceled call (objects_of old) (objects_of new);
+  waits_less = λ number old new. objects_of new ≡ changing number waiting_less (objects_of old);
   is_next = λ from next f. IsFirst from next (objects_of f).awake;
   says_more = λ more f. IsTrue more ↔ IsAwake (objects_of f).awake;
   guests = λ f. min (len (objects_of f).members + len (objects_of f).promised.names) (2 ^ 64 - 1);

@@ -10,7 +10,7 @@ IsListed from (Some number) objects = (number ≡ from) × (from < length object
 IsListed from None objects = length objects ≤ from
 
 -- What is done to the list is done to the object at a place of it. None goes, none is told its end or that a call was given up, none is woken, none makes
--- promises, and none gives imports up beside what it answers. Any may know each promise of the vat's.
+-- promises, and none gives up imports beside what it answers, or calls. Any may know each promise of the vat's.
 abbrev pub listed : {A : Type 0} → Kind A → ObjectTableKind (Vec A)
 listed kind = record {
   holds = λ number v. number < length v.items;
@@ -20,6 +20,8 @@ listed kind = record {
   drops_next_calls = λ number old new. new ≡ old;
   tells = λ number call_id outcome old new. OnResponseAt kind number call_id outcome old.items new.items;
   cancels = λ ticket told old new. (told ≡ None) × (new ≡ old);
+  hands_canceled = λ call old new. (call ≡ None) × (new ≡ old);
+  waits_less = λ number old new. new ≡ old;
   is_next = λ from next v. IsListed from next v.items;
   says_more = λ more v. AnySaysMore kind more v.items;
   guests = λ v. 0;

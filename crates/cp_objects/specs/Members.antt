@@ -1,5 +1,6 @@
 -- The objects of a connection.
-use Rattle.std.specs.Prelude.{ℕ, ◌+◌, ◌-◌, ◌^◌, Bool, true, min, nat_lt, List, [], ◌∷◌, ◌++◌, length, Option, Some, None}
+use Rattle.std.specs.Prelude.{ℕ, ◌+◌, ◌-◌, ◌^◌, ◌==◌, Bool, true, if◌then◌else◌, min, nat_lt, List, [], ◌∷◌, ◌++◌, length, Option, Some, None}
+use Rattle.std.specs.List.{list_any}
 use Rattle.std.specs.Option.{option_map_or}
 use Rattle.std.specs.FinMap.{get}
 use Rattle.cp_tables.specs.Table.{Table}
@@ -30,6 +31,23 @@ to_call next_call m = record m { next_calls = m.next_calls ++ next_call ∷ []; 
 -- The calls that it was yet to make aren't made, so it waits for no outcome of these.
 abbrev pub without_next_calls : {A : Type 0} → ObjectEntry A → ObjectEntry A
 without_next_calls m = record m { next_calls = []; asked = m.asked - length m.next_calls }
+
+-- one of these calls has this number
+abbrev pub has_call : ℕ → List OutgoingCall → Bool
+has_call call_id calls = list_any (λ call. call.call_id == call_id) calls
+
+-- the first of these calls that has this number is gone
+abbrev pub without_call : ℕ → List OutgoingCall → List OutgoingCall
+without_call call_id [] = []
+without_call call_id (call ∷ more) = if call.call_id == call_id then more else call ∷ without_call call_id more
+
+-- it waits for one outcome less
+abbrev pub waiting_less : {A : Type 0} → ObjectEntry A → ObjectEntry A
+waiting_less m = record m { asked = m.asked - 1 }
+
+-- The call of this number that it was yet to make isn't made, so it waits for no outcome of it.
+abbrev pub not_to_call : {A : Type 0} → ℕ → ObjectEntry A → ObjectEntry A
+not_to_call call_id m = record m { next_calls = without_call call_id m.next_calls; asked = m.asked - 1 }
 
 -- what it leaves as it goes: the imports that it holds, and the calls that it is yet to make
 abbrev pub departed : {A : Type 0} → ObjectEntry A → Departed

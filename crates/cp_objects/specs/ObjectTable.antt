@@ -5,12 +5,14 @@ use Rattle.cp_refs.specs.declared.outcome.Outcome.{Outcome}
 use Rattle.cp_servants.specs.declared.servant.OutgoingCall.{OutgoingCall}
 use Rattle.cp_servants.specs.declared.servant.Reply.{Reply}
 use Rattle.cp_servants.specs.declared.servant.Settled.{Settled}
+use Rattle.cp_objects.specs.declared.canceled_call.CanceledCall.{CanceledCall}
 use Rattle.cp_objects.specs.declared.departed.Departed.{Departed}
 use Rattle.cp_objects.specs.declared.promise_request.PromiseRequest.{PromiseRequest}
 use Rattle.cp_objects.specs.declared.waker.Waker.{Waker}
 
 -- Which numbers have an object. What it does to them that one is called under a ticket, is polled, says which call it makes next, makes none of those that it
--- is yet to make, and is told what its call of a number came to; and that one is told that the call of a ticket was given up, and which. Which is polled first of those from a number on, and what it says of whether one may give more
+-- is yet to make, and is told what its call of a number came to; and that one is told that the call of a ticket was given up, and which. Which
+-- call that was made is given up first, and what it does that the object of a number waits for one outcome less. Which is polled first of those from a number on, and what it says of whether one may give more
 -- though nothing more comes. How many may go, which go unless the connection refers to them, and what it does that one ends and goes, which left this, and that all do. What a call
 -- came to that wasn't settled by a poll. What it does that their session has a number, that it is a time, that those are woken whose time has come, and that one
 -- is woken; when one is to be woken first; who is to be woken elsewhere; and which imports they gave up beside what they answered. Of promises: what is to be
@@ -24,6 +26,8 @@ pub record ObjectTableKind (H : Type 0) : Type 1 where
   pub drops_next_calls : ℕ → H → H → Type 0
   pub tells : ℕ → ℕ → Outcome → H → H → Type 0
   pub cancels : ℕ → Option ℕ → H → H → Type 0
+  pub hands_canceled : Option CanceledCall → H → H → Type 0
+  pub waits_less : ℕ → H → H → Type 0
   pub is_next : ℕ → Option ℕ → H → Type 0
   pub says_more : Bool → H → Type 0
   pub guests : H → ℕ

@@ -14,6 +14,7 @@ use Rattle.cp_servants.specs.declared.servant.Reply.{Reply}
 use Rattle.cp_servants.specs.declared.servant.Reply.TheVariants as replies
 use Rattle.cp_servants.specs.declared.servant.Settled.{Settled}
 use Rattle.cp_servants.specs.Outcomes.{dropped_call, named_imports}
+use Rattle.cp_objects.specs.declared.canceled_call.CanceledCall.{CanceledCall}
 use Rattle.cp_objects.specs.declared.departed.Departed.{Departed}
 use Rattle.cp_objects.specs.declared.context.ObjectEffect.{ObjectEffect}
 use Rattle.cp_objects.specs.declared.context.ObjectEffect.TheVariants as effects
@@ -26,13 +27,14 @@ use Rattle.cp_objects.specs.Context.{ContextState, begun, context_of, without_th
 use Rattle.cp_objects.specs.ServedObject.{ServedObjectKind}
 use Rattle.cp_objects.specs.ServedObject as served_object
 use Rattle.cp_objects.specs.Counts.{those_in}
-use Rattle.cp_objects.specs.Members.{held_in, next_calls_of, departed, earlier, is_later, newborn, to_call}
+use Rattle.cp_objects.specs.Members.{has_call, held_in, next_calls_of, departed, earlier, is_later, newborn, not_to_call, to_call}
 use Rattle.cp_objects.specs.Numbers.{Numbers, is_among, is_number, local_in, without, without_each}
 use Rattle.cp_objects.specs.Promises.{Promised, adopted_each, named, none_promised, promised_of, promising, resolving, with_outcome, with_request}
 
 -- The objects by their numbers; where they are, and which number the next one gets; below which number they stay; which are to be polled; who owes the answer
 -- of which call; which objects and promises the params of such a call name; their promises; what calls came to that weren't settled by polls, in order; the
--- imports that they gave up beside what they answered, in order; who is to be woken elsewhere, in order; and the time before which none is to be woken here.
+-- imports that they gave up beside what they answered, in order; the calls that they made and gave up, in order; who is to be woken elsewhere, in order; and the
+-- time before which none is to be woken here.
 pub record ObjectsState (A : Type 0) : Type 0 where
   pub members : Table (ObjectEntry A)
   pub context : ContextState A
@@ -43,6 +45,7 @@ pub record ObjectsState (A : Type 0) : Type 0 where
   pub promised : Promised
   pub settled : List Settled
   pub given_up : List ℕ
+  pub canceled : List CanceledCall
   pub wakes : List Waker
   pub first_alarm : Option ℕ
 
@@ -57,13 +60,14 @@ objects_of f = record {
   promised = promised_of f.promises;
   settled = f.settled.items;
   given_up = f.given_up;
+  canceled = f.canceled.items;
   wakes = f.wakes.items;
   first_alarm = f.first_alarm;
 }
 
 -- no objects
 abbrev pub alone : {A : Type 0} → ObjectsState A
-alone = record { members = empty; context = begun; stays = 0; awake = set.empty; pending_answers = empty; param_caps = empty; promised = none_promised; settled = []; given_up = []; wakes = []; first_alarm = None }
+alone = record { members = empty; context = begun; stays = 0; awake = set.empty; pending_answers = empty; param_caps = empty; promised = none_promised; settled = []; given_up = []; canceled = []; wakes = []; first_alarm = None }
 
 -- the first time that is to come
 abbrev pub first_of : ℕ → Option ℕ → Option ℕ → Option ℕ
@@ -178,6 +182,12 @@ module _ {A : Type 0} where
   abbrev pub settling : Settled → ObjectsState A → ObjectsState A
   settling given state = option_map_or (λ owner. settling_for owner (giving_held (held_by owner state) given) state) (get state.pending_answers given.ticket) state
 
+  -- The object of this number gives up a call of its own. One that it is yet to make isn't made; and else it is kept that the call is to be finished.
+  abbrev pub giving_up_call : ℕ → ℕ → ObjectsState A → ObjectsState A
+  giving_up_call number call_id state =
+      if has_call call_id (next_calls_of number state.members) then changing number (not_to_call call_id) state
+      else record state { canceled = state.canceled ++ record { number = number; call_id = call_id } ∷ [] }
+
   -- what the object of this number did is done
   abbrev pub following : ℕ → ObjectEffect → ObjectsState A → ObjectsState A
   following number (effects.Keep keeper kept) state = changing keeper (λ m. record m { keeps = m.keeps ++ kept ∷ [] }) state
@@ -190,6 +200,7 @@ module _ {A : Type 0} where
       record (changing number (λ m. record m { alarm = Some time }) state) { first_alarm = Some (earlier state.first_alarm time) }
   following number (effects.Resolve promise value) state = promised_so (resolving promise value state.promised) state
   following number (effects.Call next_call) state = changing number (to_call next_call) state
+  following number (effects.Cancel call_id) state = giving_up_call number call_id state
   following number (effects.Settle given) state = settling given state
 
   abbrev pub followed : ℕ → List ObjectEffect → ObjectsState A → ObjectsState A

@@ -1,6 +1,7 @@
 //! The calls that an object is yet to make.
 
 ghost use Rattle.std.specs.Prelude.{◌≡◌, ◌≢◌, ◌∷◌, ◌++◌, [], true, false, OnOk, drop, length, slice_get};
+ghost use Rattle.cp_objects.specs.Members.{has_call, without_call};
 
 use cp_servants::OutgoingCall;
 use std::alloc::{AllocError, Global};
@@ -66,11 +67,49 @@ impl CallQueue {
         Ok(())
     }
 
+    /// Whether one has this number.
+    pub(crate) fn has(&self, call_id: u64) -> bool
+        ensures { result ≡ has_call call_id self.now }
+    {
+        has_call(&self.next_calls, call_id)
+    }
+
+    /// The first that has this number goes.
+    pub(crate) fn remove(&mut self, call_id: u64)
+        ensures { self.new ≡ without_call call_id self.old }
+    {
+        remove_call(&mut self.next_calls, call_id);
+    }
+
     /// Takes the first out, if there is one.
     pub fn pop(&mut self) -> Option<OutgoingCall>
         ensures first { result ≡ slice_get self.old 0 }
         ensures rest { self.new ≡ drop 1 self.old }
     {
         self.next_calls.pop_front()
+    }
+}
+
+/// Whether one of these calls has this number.
+fn has_call(next_calls: &VecDeque<OutgoingCall>, call_id: u64) -> bool
+    ensures { result ≡ has_call call_id next_calls.now.items }
+{
+    for place in 0..next_calls.len() {
+        if next_calls[place].call_id == call_id {
+            return true;
+        }
+    }
+    false
+}
+
+/// The first of these calls that has this number goes.
+fn remove_call(next_calls: &mut VecDeque<OutgoingCall>, call_id: u64)
+    ensures { next_calls.new.items ≡ without_call call_id next_calls.old.items }
+{
+    for place in 0..next_calls.len() {
+        if next_calls[place].call_id == call_id {
+            drop(next_calls.remove(place));
+            return;
+        }
     }
 }

@@ -44,6 +44,8 @@ pub(crate) enum ObjectEffect {
     Resolve(u32, Cap),
     /// It makes this call.
     Call(OutgoingCall),
+    /// It gives up its call of this number.
+    Cancel(u64),
     /// A call that is to be answered later comes to this.
     Settle(Settled),
 }
@@ -144,6 +146,18 @@ impl<M: Drop> Context<M> {
     {
         let call = next_call.into_call(self.this.session)?;
         Ok(self.note(ObjectEffect::Call(call))?)
+    }
+
+    /// Gives up a call that the object made itself, or sent to be made, by the call's number: as a forwarder does whose caller gave its own
+    /// up (`ServedObject::on_cancel`). One that is yet to be made isn't made. Of one that was made and isn't answered the question is
+    /// finished, once what the object does now is over: a peer is told by a Finish, and an object here by its `on_cancel`. The outcome is
+    /// told to nobody. Nothing is done where there is no such call, and where its outcome has come: that is told. Of calls of one number
+    /// that are open at once it is the first that is yet to be made, or else the one that was made last.
+    pub fn cancel(&mut self, call_id: u64) -> Result<(), AllocError>
+        ensures noted { OnOk result (context_of self.new ≡ with_effect (context_of self.old) (effects.Cancel call_id)) }
+        ensures err { OnErr result (context_of self.new ≡ context_of self.old) }
+    {
+        self.note(ObjectEffect::Cancel(call_id))
     }
 
     /// Gives a value that stands for a call of the connection which is answered later: the one of this ticket, with whose answer these

@@ -1,6 +1,8 @@
 //! Objects that grow, as those of a connection.
 
+use crate::canceled_call::CanceledCall;
 use crate::departed::Departed;
+use crate::members::wait_for_one_less;
 use crate::numbers::Numbers;
 use crate::object_table::ObjectTable;
 use crate::objects::Objects;
@@ -55,6 +57,14 @@ impl<O: ServedObject<Makes = O>> ObjectTable for Objects<O> {
 
     fn on_cancel_at(&mut self, ticket: u64) -> Result<Option<u32>, AllocError> {
         self.cancel(ticket)
+    }
+
+    fn next_canceled(&mut self) -> Option<CanceledCall> {
+        self.canceled.pop_front()
+    }
+
+    fn wait_for_one_less(&mut self, number: u32) {
+        wait_for_one_less(&mut self.members, number);
     }
 
     fn next_from(&self, number: u32) -> Option<u32> {

@@ -3,6 +3,7 @@
 
 mod alarms;
 mod call_queue;
+mod canceled_call;
 mod canceling;
 mod context;
 mod counts;
@@ -31,6 +32,7 @@ mod session_cap;
 mod waker;
 
 pub use call_queue::CallQueue;
+pub use canceled_call::CanceledCall;
 pub use context::Context;
 pub use departed::Departed;
 pub use either::Either;

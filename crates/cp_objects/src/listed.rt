@@ -1,5 +1,6 @@
 //! A list of objects that is fixed.
 
+use crate::canceled_call::CanceledCall;
 use crate::departed::Departed;
 use crate::object_table::ObjectTable;
 use crate::promise_request::PromiseRequest;
@@ -54,6 +55,12 @@ impl<O: Servant> ObjectTable for Vec<O> {
     fn on_cancel_at(&mut self, _ticket: u64) -> Result<Option<u32>, AllocError> {
         Ok(None)
     }
+
+    fn next_canceled(&mut self) -> Option<CanceledCall> {
+        None
+    }
+
+    fn wait_for_one_less(&mut self, _number: u32) {}
 
     fn next_from(&self, number: u32) -> Option<u32> {
         if self.has(number) { Some(number) } else { None }

@@ -3,7 +3,7 @@
 ghost use Rattle.std.specs.Prelude.{◌≡◌, ◌≢◌, ◌∷◌, ◌++◌, [], true, false, IfOk, OnOk, drop, slice_get};
 ghost use Rattle.cp_tables.specs.Table.{with_change};
 ghost use Rattle.cp_objects.specs.Counts.{those_in};
-ghost use Rattle.cp_objects.specs.Members.{held_in, next_calls_of, to_call, without_next_calls};
+ghost use Rattle.cp_objects.specs.Members.{has_call, held_in, next_calls_of, not_to_call, to_call, waiting_less, without_next_calls};
 ghost use Rattle.cp_objects.specs.Numbers.{is_among, without, without_each};
 
 use crate::call_queue::CallQueue;
@@ -137,6 +137,35 @@ pub(crate) fn take_next_call<O>(
     match members.get_mut(number) {
         Some(member) => member.next_calls.pop(),
         None => None,
+    }
+}
+
+/// Whether an object is yet to make a call of this number.
+pub(crate) fn is_to_call<O>(members: &Entries<ObjectEntry<O>>, number: u32, call_id: u64) -> bool
+    ensures { result ≡ has_call call_id (next_calls_of number members.now) }
+{
+    match members.get(number) {
+        Some(member) => member.next_calls.has(call_id),
+        None => false,
+    }
+}
+
+/// A call that an object is yet to make isn't made, so it waits for no outcome of it.
+pub(crate) fn drop_next_call<O>(members: &mut Entries<ObjectEntry<O>>, number: u32, call_id: u64)
+    ensures { members.new ≡ with_change members.old number (not_to_call call_id) }
+{
+    if let Some(member) = members.get_mut(number) {
+        member.next_calls.remove(call_id);
+        member.asked = member.asked.saturating_sub(1);
+    }
+}
+
+/// An object waits for one outcome less.
+pub(crate) fn wait_for_one_less<O>(members: &mut Entries<ObjectEntry<O>>, number: u32)
+    ensures { members.new ≡ with_change members.old number waiting_less }
+{
+    if let Some(member) = members.get_mut(number) {
+        member.asked = member.asked.saturating_sub(1);
     }
 }
 

@@ -4,6 +4,7 @@ ghost use Rattle.std.specs.Prelude.{◌≡◌, ◌↔◌, IsTrue, IfOk, OnOk};
 ghost use Rattle.cp_servants.specs.Requests.{request_of};
 ghost use Rattle.cp_objects.specs.ObjectTable.{ObjectTableKind};
 
+use crate::canceled_call::CanceledCall;
 use crate::departed::Departed;
 use crate::promise_request::PromiseRequest;
 use crate::waker::Waker;
@@ -59,6 +60,14 @@ pub trait ObjectTable: Drop {
     /// Tells the object that is to answer this call later that it was given up, if one is. Says which.
     fn on_cancel_at(&mut self, ticket: u64) -> Result<Option<u32>, AllocError>
         ensures { IfOk result (λ told. table.cancels ticket told self.old self.new) };
+
+    /// Takes out the first call that an object made and gave up.
+    fn next_canceled(&mut self) -> Option<CanceledCall>
+        ensures { table.hands_canceled result self.old self.new };
+
+    /// An object waits for one outcome less, as its call was given up.
+    fn wait_for_one_less(&mut self, number: u32)
+        ensures { table.waits_less number self.old self.new };
 
     /// The first object from this number on that is to be polled in a round.
     fn next_from(&self, number: u32) -> Option<u32>

@@ -12,6 +12,7 @@ ghost use Rattle.cp_objects.specs.Counts.{those_in};
 ghost use Rattle.cp_objects.specs.Members.{earlier, newborn, without_next_calls};
 ghost use Rattle.cp_objects.specs.declared.context.ObjectEffect.TheVariants as effects;
 
+use crate::canceled_call::CanceledCall;
 use crate::context::{Context, NewCap, ObjectEffect};
 use crate::departed::Departed;
 use crate::later::DroppedCall;
@@ -74,6 +75,8 @@ pub struct Objects<O> {
     pub(crate) settled: VecDeque<Settled>,
     /// The imports that objects gave up beside what they answered, in order.
     pub(crate) given_up: Numbers,
+    /// The calls that objects made and gave up, in order.
+    pub(crate) canceled: VecDeque<CanceledCall>,
     /// The objects of other sessions that are to be woken, in order.
     pub(crate) wakes: VecDeque<Waker>,
     /// No object is to be woken before this time.
@@ -96,6 +99,7 @@ impl<O: ServedObject<Makes = O>> Objects<O> {
             promises: Promises::new(alloc),
             settled: VecDeque::new(alloc),
             given_up: Numbers::new(alloc),
+            canceled: VecDeque::new(alloc),
             wakes: VecDeque::new(alloc),
             first_alarm: None,
         }
@@ -581,6 +585,7 @@ impl<O: ServedObject<Makes = O>> Objects<O> {
             }
             ObjectEffect::Resolve(promise, value) => self.promises.resolve(promise, value),
             ObjectEffect::Call(next_call) => add_next_call(&mut self.members, number, next_call),
+            ObjectEffect::Cancel(call_id) => self.give_up_call(number, call_id),
             ObjectEffect::Settle(settled) => self.settle_call(settled),
         }
     }

@@ -144,7 +144,9 @@ impl<'a> View<'a> {
     /// The tree's kind and sizes.
     #[inline(always)]
     pub fn shape(&self) -> Shape
-        ensures { result ≡ shape_of self.now }
+        ensures is { result ≡ shape_of self.now }
+        // The trees of messages are those that can be written.
+        ensures shaped { Shaped self.now }
     {
         match self.part {
             Viewed::Null => Shape::Null,

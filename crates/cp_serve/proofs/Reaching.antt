@@ -21,6 +21,7 @@ use Rattle.cp_stream.specs.declared.fault.StreamFault.TheVariants as streams
 use Rattle.cp_stream.specs.Stream.{Messages, IsFrameOf, HasFault}
 use Rattle.cp_stream.proofs.Reading.{messages_push}
 use Rattle.cp_tables.specs.Table.{Table}
+use Rattle.cp_refs.specs.declared.call.Origin.{Origin}
 use Rattle.cp_vat_machine.specs.declared.effect.Effect.{Effect}
 use Rattle.cp_vat_machine.specs.declared.event.Event.TheVariants as events
 use Rattle.cp_vat_machine.specs.declared.event.Value.TheVariants as values
@@ -46,7 +47,7 @@ use Rattle.cp_connection.proofs.Moving.{moves_received, moves_unreceived}
 use Rattle.cp_servants.specs.Servant.{Kind}
 use Rattle.cp_objects.specs.ObjectTable.{ObjectTableKind}
 use Rattle.cp_objects.specs.Listed.{listed}
-use Rattle.cp_dispatch.specs.Canceling.{Cancels}
+use Rattle.cp_dispatch.specs.Canceling.{Cancels, answer_given_up}
 use Rattle.cp_dispatch.specs.Canceling as canceling
 use Rattle.cp_dispatch.specs.Receiving.{IsCutShort, is_unreceived, ran_out}
 use Rattle.cp_dispatch.specs.Rounds as rounds
@@ -360,18 +361,18 @@ module _ {A : Type 0} {kind : Kind A} {mode : Mode} {start : List A} {held : Dev
       inr (h.0, reached_by bytes h.0 s t same ready h.1, subst (λ (w : objects.Work). IsSome w.link.fault) (sym same) h.2)
 
 -- of a list of objects none is told that a call was given up, which is owed no more
-cancels_listed : {A : Type 0} (kind : Kind A) {finished : Option ℕ} {o new : objects.Work} {seen others : Vec A} → Cancels (listed kind) finished o new seen others
+cancels_listed : {A : Type 0} (kind : Kind A) {given_up : Option Origin} {o new : objects.Work} {seen others : Vec A} → Cancels (listed kind) given_up o new seen others
     → (owed_then : Table ℕ) × (new ≡ record o { owed = owed_then }) × (others ≡ seen)
-cancels_listed kind {o = o} (canceling.finishes_none none same still) = (o.owed, same, still)
-cancels_listed kind {o = o} (canceling.is_not_owed answer is none same still) = (o.owed, same, still)
-cancels_listed kind {o = o} (canceling.is_owed answer ticket is owed_ (canceling.by_none told same)) = (remove o.owed answer, same, told.1)
-cancels_listed kind (canceling.is_owed answer ticket is owed_ (canceling.by_object called link number told kept calls works)) = none_out (sym told.0)
+cancels_listed kind {o = o} (canceling.gives_none_up none same still) = (o.owed, same, still)
+cancels_listed kind {o = o} (canceling.is_not_owed origin is none same still) = (o.owed, same, still)
+cancels_listed kind {o = o} (canceling.is_owed origin ticket is owed_ (canceling.by_none told same)) = (remove o.owed (objects.key_of origin), same, told.1)
+cancels_listed kind (canceling.is_owed origin ticket is owed_ (canceling.by_object called link number told kept calls works)) = none_out (sym told.0)
 
-cancels_none : {H : Type 0} {table : ObjectTableKind H} {finished : Option ℕ} {o new : objects.Work} {seen others : H} → finished ≡ None → Cancels table finished o new seen others
+cancels_none : {H : Type 0} {table : ObjectTableKind H} {given_up : Option Origin} {o new : objects.Work} {seen others : H} → given_up ≡ None → Cancels table given_up o new seen others
     → (new ≡ o) × (others ≡ seen)
-cancels_none e (canceling.finishes_none none same still) = (same, still)
-cancels_none e (canceling.is_not_owed answer is none same still) = (same, still)
-cancels_none e (canceling.is_owed answer ticket is owed_ told) = none_out (sym e ∙ is)
+cancels_none e (canceling.gives_none_up none same still) = (same, still)
+cancels_none e (canceling.is_not_owed origin is none same still) = (same, still)
+cancels_none e (canceling.is_owed origin ticket is owed_ told) = none_out (sym e ∙ is)
 
 -- nothing is finished where no frame ended
 finishes_nothing : (old : Server) (piece : List ℕ) (link : Link) (count : ℕ) (finished : Option ℕ) → ReceivesNaming old.connection piece count finished link → frames.taken_of link.reading ≢ 0 → finished ≡ None
@@ -414,7 +415,7 @@ module _ {A : Type 0} {kind : Kind A} (old : Server) (piece : List ℕ) (link : 
   -- either way
   pub takes_front : (count : ℕ) (back : List ℕ) (has_ended : Bool) (finished : Option ℕ) (worked : objects.Work) (mid new : Server) {seen told between : Vec A} (others : Vec A)
       → ReceivesNaming old.connection piece count finished link → ((has_ended ≡ true) ↔ (frames.taken_of link.reading ≡ 0)) → 0 < length piece → back ≡ drop count piece
-      → rounds.WorksOff (listed kind) (owed (record old { connection = link })) worked seen told → Cancels (listed kind) finished worked (owed mid) told between → mid.ready ≡ old.ready → FollowsIf kind has_ended mid new between others
+      → rounds.WorksOff (listed kind) (owed (record old { connection = link })) worked seen told → Cancels (listed kind) (answer_given_up finished) worked (owed mid) told between → mid.ready ≡ old.ready → FollowsIf kind has_ended mid new between others
       → TakesFront kind old piece back new seen.items others.items
   takes_front count back true finished worked mid new {told = told} others received ended some e works cancels ready follows =
       let after = cancels_listed kind cancels in
@@ -426,7 +427,7 @@ module _ {A : Type 0} {kind : Kind A} (old : Server) (piece : List ℕ) (link : 
       let open_ : frames.taken_of link.reading ≢ 0 = λ none. true≢false (sym (ended.1 none)) in
       let rests = serves.1.rests in
       let none : link.happened ≡ [] = no_news old piece link count (receives_of received) open_ (rests.matches.happens ∙ ap (λ (es : List Effect). happening_by es) rests.none_left) in
-      let quiet = cancels_none (finishes_nothing old piece link count finished received open_) cancels in
+      let quiet = cancels_none (ap answer_given_up (finishes_nothing old piece link count finished received open_)) cancels in
       let same = works_none none works in
       let fills = takes_none count back (receives_of received) open_ e mode start held to bytes serves in
       subst (λ (os : Vec A). Fills kind mode start held bytes piece back new os.items to) (sym (follows.1 ∙ quiet.1 ∙ same.1))

@@ -58,6 +58,7 @@ use Rattle.cp_dispatch.specs.declared.event.DispatchEvent.{DispatchEvent}
 use Rattle.cp_dispatch.specs.declared.event.DispatchEvent.TheVariants as notices
 use Rattle.cp_dispatch.specs.Work as objects
 use Rattle.cp_dispatch.specs.Calling as calling
+use Rattle.cp_dispatch.specs.GivingUp as giving_up
 use Rattle.cp_dispatch.specs.PromiseRequests as pledging
 use Rattle.cp_dispatch.specs.Rounds as rounds
 use Rattle.cp_dispatch.proofs.Holding.{holds_unnoted, gives_unnoted, gives_up_all, tries_all}
@@ -446,7 +447,7 @@ follows_replies {base = base} {w = w} {o = o} h origin ticket replies.Later r =
       record w { awaited = a },
       refl,
       subst (λ (x : objects.Work). Matches base (record w { awaited = a }) x) (sym r)
-          (owes base w o h a (insert o.awaited ticket origin) (objects.owing origin ticket o.owed) w.given_up o.given_up (ap (λ (t : Table Origin). insert t ticket origin) h.awaited) h.given_up),
+          (owes base w o h a (insert o.awaited ticket origin) (insert o.owed (objects.key_of origin) ticket) w.given_up o.given_up (ap (λ (t : Table Origin). insert t ticket origin) h.awaited) h.given_up),
     )
 
 follows_settles : {base : Link} {w : Work} {o new : objects.Work} → Matches base w o → (settled : Option Settled) (gave : Bool) → calling.Settles (λ outcome. outcome) o settled gave new
@@ -458,7 +459,7 @@ follows_settles {base = base} {w = w} {o = o} h settled gave (calling.is_awaited
     let owed : objects.Work = record taken { given_up = o.given_up ++ s.gives_up } in
     let all : mid ≡ owed = gives_up_all s.gives_up taken h.none_held gives in
     let more = follows_answers base (record w { awaited = remove w.awaited s.ticket; given_up = w.given_up ++ s.gives_up }) owed
-    (owes base w o h (remove w.awaited s.ticket) (remove o.awaited s.ticket) (objects.owing_no_more origin o.owed) (w.given_up ++ s.gives_up) (o.given_up ++ s.gives_up) (ap (λ (t : Table Origin). remove t s.ticket) h.awaited) (ap (λ (x : List ℕ). x ++ s.gives_up) h.given_up))
+    (owes base w o h (remove w.awaited s.ticket) (remove o.awaited s.ticket) (remove o.owed (objects.key_of origin)) (w.given_up ++ s.gives_up) (o.given_up ++ s.gives_up) (ap (λ (t : Table Origin). remove t s.ticket) h.awaited) (ap (λ (x : List ℕ). x ++ s.gives_up) h.given_up))
     origin s.outcome link (subst (λ (x : objects.Work). objects.Answers x.link origin s.outcome link) all answers) in (
       more.0,
       is_awaited s origin (ap (λ (t : Table Origin). get t s.ticket) (sym h.awaited) ∙ got) more.1,
@@ -477,8 +478,16 @@ module _ {A : Type 0} (kind : Kind A) where
   settles_none (calling.none_left none) = (refl, none.1)
   settles_none (calling.settles settled gave handed settles rest) = none_out (sym handed.0)
 
+  cancels_no_call : {o new : objects.Work} {seen others : Vec A} → giving_up.CancelsEach (listed kind) o new seen others → (new ≡ o) × (others ≡ seen)
+  cancels_no_call (giving_up.none_left none) = (refl, none.1)
+  cancels_no_call (giving_up.cancels call handed canceled rest) = none_out (sym handed.0)
+
   no_calls : {number : ℕ} {o new : objects.Work} {seen others : Vec A} → o.may_call ≡ false → calling.MakesCalls (listed kind) number o new seen others → (new ≡ o) × (others ≡ seen)
-  no_calls off (calling.makes_none next settled) = let none = next_none off next in let all = settles_none settled in (all.0 ∙ none.1, all.1 ∙ none.2)
+  no_calls off (calling.makes_none next canceled settled) =
+      let none = next_none off next in
+      let given = cancels_no_call canceled in
+      let all = settles_none settled in
+      (all.0 ∙ given.0 ∙ none.1, all.1 ∙ given.1 ∙ none.2)
   no_calls off (calling.makes_one next_call next made more) = none_out (sym (next_none off next).0)
 
 -- ---- objects of a list make no promises
@@ -486,6 +495,17 @@ module _ {A : Type 0} (kind : Kind A) where
 no_promise_requests : {A : Type 0} (kind : Kind A) {old new : Link} {seen others : Vec A} → pledging.KeepsPromiseRequests (listed kind) old new seen others → (new ≡ old) × (others ≡ seen)
 no_promise_requests kind (pledging.none_left none) = (refl, none.1)
 no_promise_requests kind (pledging.keeps promise_request handed kept rest) = none_out (sym handed.0)
+
+-- ---- objects of a list aren't told of calls that were given up
+
+tells_none : {A : Type 0} (kind : Kind A) {origin : Origin} {o new : objects.Work} {seen others : Vec A} → giving_up.TellsLate (listed kind) origin o new seen others
+    → (owed_then : Table ℕ) × (new ≡ record o { owed = owed_then }) × (others ≡ seen)
+tells_none kind {o = o} (giving_up.is_for_somebody waited same still) = (o.owed, same, still)
+tells_none kind {o = o} (giving_up.is_for_nobody finished (giving_up.is_not_owed none same still)) = (o.owed, same, still)
+tells_none kind {origin = origin} {o = o} (giving_up.is_for_nobody finished (giving_up.is_owed ticket told link owed_ cancels kept same)) =
+    let quiet = no_promise_requests kind kept in
+    let owed_then : Table ℕ = remove o.owed (objects.key_of origin) in
+    (owed_then, same ∙ ap (λ (l : Link). record o { link = l; owed = owed_then }) quiet.0, quiet.1 ∙ cancels.1)
 
 -- ---- effects that are worked off
 
@@ -526,16 +546,20 @@ module _ {A : Type 0} {kind : Kind A} where
   sends_off seen (effects.Closed reason ∷ more) w e h = (w, (λ next last k. k), h, subst HasNoSend (sym e) tt)
 
   -- a call that is delivered
-  delivers : {base : Link} {w : Work} {o given mid new : objects.Work} {link : Link} {seen between kept others : Vec A} (k : ℕ) (origin : Origin) (ticket : ℕ) (call : Request)
+  delivers : {base : Link} {w : Work} {o given mid told new : objects.Work} {link : Link} {seen between kept after others : Vec A} (k : ℕ) (origin : Origin) (ticket : ℕ) (call : Request)
       (reply : Reply) → Matches base w o → rounds.Gives (listed kind) k ticket call reply o given seen between → pledging.KeepsPromiseRequests (listed kind) given.link link between kept
-      → objects.Replies (λ outcome. outcome) (record given { link = link }) origin ticket reply mid → calling.MakesCalls (listed kind) k mid new kept others
+      → objects.Replies (λ outcome. outcome) (record given { link = link }) origin ticket reply mid → giving_up.TellsLate (listed kind) origin mid told kept after
+      → calling.MakesCalls (listed kind) k told new after others
       → (next : Work) × Delivers kind w seen.items k origin ticket call next others.items × Matches base next new
-  delivers {base = base} {w = w} {o = o} {given = given} {mid = mid} {seen = seen} {between = between} {others = others} k origin ticket call reply h gives pledged replied called =
+  delivers {base = base} {w = w} {o = o} {given = given} {mid = mid} {seen = seen} {between = between} {others = others} k origin ticket call reply h gives pledged replied late called =
       let quiet = no_promise_requests kind pledged in
       let is : record given { link = _ } ≡ o = ap (λ (l : Link). record given { link = l }) quiet.0 ∙ unnoted gives in
       let more = follows_replies h origin ticket reply (subst (λ (x : objects.Work). objects.Replies (λ outcome. outcome) x origin ticket reply mid) is replied) in
-      let none = no_calls kind more.2.none_call called in
-      (more.0, by more.0 more.1 (none.1 ∙ quiet.1) gives, subst (λ (x : objects.Work). Matches base more.0 x) (sym none.0) more.2)
+      let telling = tells_none kind late in
+      let here = subst (λ (x : objects.Work). Matches base more.0 x) (sym telling.1)
+      (owes base more.0 mid more.2 more.0.awaited mid.awaited telling.0 more.0.given_up mid.given_up more.2.awaited more.2.given_up) in
+      let none = no_calls kind here.none_call called in
+      (more.0, by more.0 more.1 (none.1 ∙ telling.2 ∙ quiet.1) gives, subst (λ (x : objects.Work). Matches base more.0 x) (sym none.0) here)
     where
       unnoted : rounds.Gives (listed kind) k ticket call reply o given seen between → given ≡ o
       unnoted (rounds.by_object holds changes) = holds_unnoted call.caps o h.none_call holds
@@ -572,7 +596,7 @@ module _ {base : Link} {o : objects.Work} (first : ConnectionEvent) (link : Link
         let heads : first ≡ happenings.Delivered k origin ticket call = cc (all) in
         let tails : link.happened ≡ happening_by rest = cc (all) in
         let parts = subst (λ (x : ConnectionEvent). rounds.Handles (listed kind) x (record o { link = link }) mid seen between) heads handled in
-        let done = delivers k origin ticket call parts.0 (one_taken (effects.Deliver k origin ticket call) rest e refl refl tails) parts.6 parts.7 parts.8 parts.9 in
+        let done = delivers k origin ticket call parts.0 (one_taken (effects.Deliver k origin ticket call) rest e refl refl tails) parts.8 parts.9 parts.10 parts.11 parts.12 in
         (effects.Deliver k origin ticket call, rest, done.0, e, done.1, done.2)
 
     one_settled : (q : ℕ) (outcome : Outcome) (rest : List Effect) → v.effects ≡ effects.Settled q outcome ∷ rest → Acted kind base v mid seen between

@@ -1,6 +1,9 @@
 -- Whatever is done with a session is done with its connection, and no other byte moves.
-use Rattle.std.proofs.Common.{◌≡◌, ◌∙◌, ◌++◌, ℕ, List, [], Bool, true, false, Option, Some, None, refl, sym, ap, subst, take, append-nil, inl, inr}
+use Rattle.std.proofs.Common.{◌≡◌, ◌∙◌, ◌++◌, ℕ, List, [], Bool, true, false, Option, Some, None, Ok, refl, sym, ap, subst, take, append-nil, inl, inr}
 use Rattle.cp_connection.specs.declared.fault.ConnectionFault.{ConnectionFault}
+use Rattle.cp_refs.specs.declared.outcome.Outcome.{Outcome}
+use Rattle.cp_vat_machine.specs.declared.event.Event.TheVariants as machine
+use Rattle.cp_vat_machine.specs.declared.event.Value.TheVariants as values
 use Rattle.cp_connection.specs.declared.event.ConnectionEvent.{ConnectionEvent}
 use Rattle.cp_connection.specs.Link.{Link}
 use Rattle.cp_connection.specs.declared.excess.Excess.{Excess}
@@ -12,7 +15,7 @@ use Rattle.cp_dispatch.specs.declared.event.DispatchEvent.{DispatchEvent}
 use Rattle.cp_dispatch.specs.Receiving.{IsCutShort, is_unreceived, ran_out}
 use Rattle.cp_dispatch.specs.Rounds.{HandsOver}
 use Rattle.cp_dispatch.specs.Work.{Work, Lives}
-use Rattle.cp_dispatch.proofs.Living.{lives_back, lives_none}
+use Rattle.cp_dispatch.proofs.Living.{lives_act, lives_back, lives_both, lives_none}
 use Rattle.cp_objects.specs.ObjectTable.{ObjectTableKind}
 use Rattle.cp_session.specs.declared.progress.Phase.{Phase}
 use Rattle.cp_session.specs.declared.progress.Phase.TheVariants as phases
@@ -145,6 +148,20 @@ goes_by_lives : {H : Type 0} {table : ObjectTableKind H} {now : ℕ} {old new : 
 goes_by_lives (inl passed) = passes_lives passed.1
 goes_by_lives (inr stopped) = lives_same stopped.1
 
+-- of the connection nothing is done but calls of its own where a question is finished and its outcome given back
+released_lives : {H : Type 0} {old new : State H} {outcome : Outcome} → doing.ReleasesOutcome outcome old new → Lives (link_of old) (link_of new)
+released_lives {H = H} {old = old} (doing.gives_back work back lives same) = subst (λ (s : State H). Lives (link_of old) (link_of s)) (sym same) lives
+released_lives {H = H} {old = old} (doing.runs_out_of_memory work lives same) = subst (λ (s : State H). Lives (link_of old) (link_of s)) (sym same) lives
+
+untaken_lives : {H : Type 0} (old new : State H) (untaken : Option Outcome) → doing.ReleasesUntaken untaken old new → Lives (link_of old) (link_of new)
+untaken_lives old new (Some outcome) h = released_lives h
+untaken_lives old new None h = lives_same h
+
+finished_lives : {H : Type 0} {old new : State H} (question : ℕ) → doing.FinishesQuestion question old new → Lives (link_of old) (link_of new)
+finished_lives {old = old} question h =
+    let acted = lives_act (machine.Finish question) (Ok values.Nothing) tt h.finishes.acts in
+    lives_both (subst (λ (w : Work). Lives (link_of old) w.link) (sym h.finishes.same) acted) (untaken_lives _ _ h.untaken h.releases)
+
 -- where the peer is refused the connection is aborted, if its bytes are taken
 refused_life : {H : Type 0} {table : ObjectTableKind H} {old new : State H} {now : ℕ} → doing.IsRefused table old now new → IsLife (link_of old) [] [] (link_of new)
 refused_life {H = H} {old = old} (doing.was_over over same) = life_same (life_none (link_of old)) (ap (λ (s : State H). link_of s) same)
@@ -176,6 +193,8 @@ does_life {H = H} (runs.calls call is_call did is) =
     life_of_transfer is (life_same (life_one (life.acts call.event call.result is_call did.1)) (ap (λ (s : State H). link_of s) did.2))
 does_life {H = H} (runs.gives_back import result back is) =
     life_of_transfer is (life_same (life_of (lives_back back.gives_back)) (ap (λ (s : State H). link_of s) back.same))
+does_life (runs.finishes question finished is) = life_of_transfer is (life_of (finished_lives question finished))
+does_life (runs.releases outcome released is) = life_of_transfer is (life_of (released_lives released))
 
 runs_life : {H : Type 0} {table : ObjectTableKind H} {first last : State H} {transfer : Transfer} → Runs table first transfer last → IsLife (link_of first) transfer.taken transfer.written (link_of last)
 runs_life {first = first} runs.begins = life_none (link_of first)

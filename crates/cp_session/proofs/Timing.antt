@@ -3,6 +3,7 @@ use Rattle.std.proofs.Common.{◌≡◌, ◌⊎◌, ◌∙◌, ℕ, Bool, true, 
 use Rattle.std.proofs.lemmas.Bool.{false≢true}
 use Rattle.cp_connection.specs.declared.excess.Excess.{Excess}
 use Rattle.cp_connection.specs.declared.fault.ConnectionFault.{ConnectionFault}
+use Rattle.cp_refs.specs.declared.outcome.Outcome.{Outcome}
 use Rattle.cp_objects.specs.ObjectTable.{ObjectTableKind}
 use Rattle.cp_objects.specs.Listed.{listed}
 use Rattle.cp_servants.specs.Servant.{Kind}
@@ -136,6 +137,14 @@ module _ {H : Type 0} (table : ObjectTableKind H) (stay : (objects : H) → tabl
       ∙ ended_fault (excess_by limits.Kept old.progress.phase) (record old.progress { limit = Some limits.Kept }) in
       settled_still settles (still old mid (ap (λ (s : State H). s.service.sweep) is) fault none)
 
+  released_still : {old new : State H} {outcome : Outcome} → doing.ReleasesOutcome outcome old new → SeeksNone old → SeeksNone new
+  released_still (doing.gives_back work back lives same) none = same_still same none
+  released_still {new = new} (doing.runs_out_of_memory work lives same) none = failing new _ (ap (λ (s : State H). s.progress.fault) same)
+
+  untaken_still : (old new : State H) (untaken : Option Outcome) → doing.ReleasesUntaken untaken old new → SeeksNone old → SeeksNone new
+  untaken_still old new (Some outcome) h none = released_still h none
+  untaken_still old new None h none = same_still h none
+
   done_still : {old new : State H} {transfer : Transfer} → Does table old transfer new → SeeksNone old → SeeksNone new
   done_still (runs.receives piece now count done is) none = received_still piece now count done none
   done_still (runs.fails piece now fault cut is) none = settled_still cut.settles (failing cut.mid _ (ap (λ (p : Progress). p.fault) cut.cut.progress))
@@ -152,6 +161,8 @@ module _ {H : Type 0} (table : ObjectTableKind H) (stay : (objects : H) → tabl
   done_still (runs.hands_on waker handed is) none = same_still handed.1 none
   done_still (runs.calls call is_call did is) none = same_still did.2 none
   done_still (runs.gives_back import result back is) none = same_still back.same none
+  done_still (runs.finishes question finished is) none = untaken_still _ _ finished.untaken finished.releases none
+  done_still (runs.releases outcome released is) none = released_still released none
 
   run_still : {first last : State H} {transfer : Transfer} → Runs table first transfer last → SeeksNone first → SeeksNone last
   run_still runs.begins none = none

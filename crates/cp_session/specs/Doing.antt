@@ -1,6 +1,8 @@
 -- What each call does to a session.
 use Rattle.std.specs.Prelude.{◌≡◌, ◌≢◌, ◌⊎◌, ℕ, ◌<◌, ◌≤◌, nat_lt, if◌then◌else◌, Bool, true, IsSome, is_some, ◌||◌, List, [], ◌∷◌, ◌++◌, ◌^◌, Option, Some, None, Result, length}
 use Rattle.cp_frame.specs.Reader.{taken_of}
+use Rattle.cp_refs.specs.declared.outcome.Outcome.{Outcome}
+use Rattle.cp_vat_machine.specs.InUse.{caps_of}
 use Rattle.cp_vat_machine.specs.declared.event.Event as machine
 use Rattle.cp_vat_machine.specs.declared.event.Value.{Value}
 use Rattle.cp_connection.specs.declared.fault.ConnectionFault.{ConnectionFault}
@@ -18,6 +20,8 @@ use Rattle.cp_objects.specs.Context.{next_number, own_object}
 use Rattle.cp_objects.specs.declared.session_cap.SessionCap.{SessionCap}
 use Rattle.cp_dispatch.specs.declared.event.DispatchEvent.{DispatchEvent}
 use Rattle.cp_dispatch.specs.declared.event.DispatchEvent.TheVariants as notices
+use Rattle.cp_dispatch.specs.Finishing.{GivesBackEach}
+use Rattle.cp_dispatch.specs.Finishing as own
 use Rattle.cp_dispatch.specs.Receiving.{IsCutShort}
 use Rattle.cp_dispatch.specs.Rounds.{HandsOver}
 use Rattle.cp_dispatch.specs.Work.{Work, Lives}
@@ -86,6 +90,25 @@ module _ {H : Type 0} where
     pub work : Work
     pub gives_back : works.GivesBack import old.service.work result work
     pub same : new ≡ worked old work
+
+  -- What an outcome named is given back, and nothing else is done. Where memory runs out for that nothing more is taken.
+  pub data ReleasesOutcome (outcome : Outcome) (old new : State H) : Type 0 where
+    gives_back : (work : Work) → GivesBackEach (caps_of outcome) old.service.work work → Lives (link_of old) work.link → new ≡ worked old work
+        → ReleasesOutcome outcome old new
+    runs_out_of_memory : (work : Work) → Lives (link_of old) work.link → new ≡ with_progress (worked old work) (failed old.progress faults.OutOfMemory)
+        → ReleasesOutcome outcome old new
+
+  -- the same of an outcome that wasn't taken, if there is one
+  abbrev pub ReleasesUntaken : Option Outcome → State H → State H → Type 0
+  ReleasesUntaken (Some outcome) old new = ReleasesOutcome outcome old new
+  ReleasesUntaken None old new = new ≡ old
+
+  -- A question was finished. Its outcome, where it came and wasn't handed out, never is, and what it named is given back.
+  pub record FinishesQuestion (question : ℕ) (old new : State H) : Type 0 where
+    pub untaken : Option Outcome
+    pub work : Work
+    pub finishes : own.Finishes question untaken old.service.work work
+    pub releases : ReleasesUntaken untaken (worked old work) new
 
   -- when a limit of time is met, if no byte moves before
   abbrev pub limit_of : State H → Option ℕ

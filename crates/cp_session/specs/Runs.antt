@@ -1,18 +1,20 @@
 -- What is done with a session, whatever it is.
-use Rattle.std.specs.Prelude.{◌≡◌, ℕ, List, [], ◌∷◌, ◌++◌, Option, Result, take, option_to_list}
+use Rattle.std.specs.Prelude.{◌≡◌, ℕ, List, [], ◌∷◌, ◌++◌, Option, Result, Ok, take, option_to_list}
 use Rattle.cp_vat_machine.specs.declared.event.Event as machine
 use Rattle.cp_vat_machine.specs.declared.event.Event.TheVariants as own_calls
 use Rattle.cp_vat_machine.specs.declared.event.Value.{Value}
+use Rattle.cp_vat_machine.specs.declared.event.Value.TheVariants as values
 use Rattle.cp_connection.specs.declared.fault.ConnectionFault.{ConnectionFault}
 use Rattle.cp_connection.specs.Link.{Link}
 use Rattle.cp_connection.specs.Lives.{IsCall}
+use Rattle.cp_refs.specs.declared.outcome.Outcome.{Outcome}
 use Rattle.cp_objects.specs.declared.waker.Waker.{Waker}
 use Rattle.cp_objects.specs.ObjectTable.{ObjectTableKind}
 use Rattle.cp_dispatch.specs.Receiving.{IsCutShort, is_unreceived, ran_out}
 use Rattle.cp_session.specs.declared.event.SessionEvent.{SessionEvent}
 use Rattle.cp_session.specs.declared.progress.Phase.{Phase}
 use Rattle.cp_session.specs.declared.progress.Phase.TheVariants as phases
-use Rattle.cp_session.specs.Doing.{Closes, Did, EndsBytes, EndsCut, GivesBack, HandsOn, IsRefused, IsUntaken, PollsOn, Receives, RunsOut, Tells, Ticks, Wakes, Writes}
+use Rattle.cp_session.specs.Doing.{Closes, Did, EndsBytes, EndsCut, FinishesQuestion, GivesBack, HandsOn, IsRefused, IsUntaken, PollsOn, Receives, ReleasesOutcome, RunsOut, Tells, Ticks, Wakes, Writes}
 use Rattle.cp_session.specs.State.{State, link_of}
 
 -- a call that the program made, and what it gave
@@ -21,7 +23,7 @@ pub record Call : Type 0 where
   pub result : Result Value ConnectionFault
 
 -- What one call of a session did. It was given these bytes, of which its connection took those, and dropped the others; and it was told that these were written,
--- and at these times that the peer's bytes ended. The program made these calls, woke these objects, refused the peer at these times, and said at those that time
+-- and at these times that the peer's bytes ended. The program made these calls, released these outcomes, woke these objects, refused the peer at these times, and said at those that time
 -- passed. These events were handed out, and so were these objects of other sessions, which are to be woken. All the times that it was given are these.
 pub record Transfer : Type 0 where
   pub given : List ℕ
@@ -29,6 +31,7 @@ pub record Transfer : Type 0 where
   pub written : List ℕ
   pub ended : List ℕ
   pub called : List Call
+  pub released : List Outcome
   pub roused : List ℕ
   pub refused : List ℕ
   pub ticked : List ℕ
@@ -39,7 +42,7 @@ pub record Transfer : Type 0 where
 -- nothing of all this
 abbrev pub nothing : Transfer
 nothing =
-    record { given = []; taken = []; written = []; ended = []; called = []; roused = []; refused = []; ticked = []; told = []; woken = []; times = [] }
+    record { given = []; taken = []; written = []; ended = []; called = []; released = []; roused = []; refused = []; ticked = []; told = []; woken = []; times = [] }
 
 -- a call at this time, and nothing else of all this
 abbrev pub called_at : ℕ → Transfer
@@ -57,6 +60,7 @@ both one other = record {
   written = one.written ++ other.written;
   ended = one.ended ++ other.ended;
   called = one.called ++ other.called;
+  released = one.released ++ other.released;
   roused = one.roused ++ other.roused;
   refused = one.refused ++ other.refused;
   ticked = one.ticked ++ other.ticked;
@@ -103,6 +107,10 @@ module _ {H : Type 0} (table : ObjectTableKind H) where
     calls : {transfer : Transfer} {new : State H} (call : Call) → IsCall call.event → Did old call.event call.result new → transfer ≡ record nothing { called = call ∷ [] } → Does old transfer new
     gives_back : {transfer : Transfer} {new : State H} (import : ℕ) (result : Result Value ConnectionFault) → GivesBack import old result new
         → transfer ≡ record nothing { called = record { event = own_calls.Release import; result = result } ∷ [] } → Does old transfer new
+    finishes : {transfer : Transfer} {new : State H} (question : ℕ) → FinishesQuestion question old new
+        → transfer ≡ record nothing { called = record { event = own_calls.Finish question; result = Ok values.Nothing } ∷ [] } → Does old transfer new
+    releases : {transfer : Transfer} {new : State H} (outcome : Outcome) → ReleasesOutcome outcome old new → transfer ≡ record nothing { released = outcome ∷ [] }
+        → Does old transfer new
 
   -- Calls of a session, one after another, and nothing else, which together did this.
   pub data Runs (first : State H) : Transfer → State H → Type 0 where

@@ -1,13 +1,14 @@
 //! A session, as its program calls by it.
 
+ghost use Rattle.std.specs.Prelude.{Err, IfErr, OnOk};
 ghost use Rattle.cp_vat_machine.specs.declared.event.Event.TheVariants as machine;
 ghost use Rattle.cp_vat_machine.specs.declared.event.Value.TheVariants as values;
 ghost use Rattle.cp_connection.specs.Doing.{answered};
-ghost use Rattle.cp_session.specs.Doing.{Did, GivesBack};
+ghost use Rattle.cp_session.specs.Doing.{Did, FinishesQuestion, GivesBack, ReleasesOutcome};
 
 use crate::driven::DrivenSession;
 use cp_connection::ConnectionFault;
-use cp_refs::{Cap, PromiseId, Request};
+use cp_refs::{Cap, Outcome, PromiseId, Request};
 
 /// The calls of a session's program. They may come between any two calls of its driver, and what they send goes out by `outgoing`.
 pub trait CallingSession: DrivenSession {
@@ -27,9 +28,16 @@ pub trait CallingSession: DrivenSession {
     fn resolve(&mut self, promise: PromiseId, value: Cap) -> Result<(), ConnectionFault>
         ensures { Did (Self.state self.old) (machine.Resolve promise value) (answered (λ _. values.Nothing) result) (Self.state self.new) };
 
-    /// Gives a question up. Refused as `Vat::finish`.
+    /// Gives a question up. Where its outcome came and wasn't handed out by `poll_event` it never is: it is released (`release_outcome`).
+    /// Refused as `Vat::finish`.
     fn finish(&mut self, question: u32) -> Result<(), ConnectionFault>
-        ensures { Did (Self.state self.old) (machine.Finish question) (answered (λ _. values.Nothing) result) (Self.state self.new) };
+        ensures finishes { OnOk result (FinishesQuestion question (Self.state self.old) (Self.state self.new)) }
+        ensures unfinished { IfErr result (λ fault. Did (Self.state self.old) (machine.Finish question) (Err fault) (Self.state self.new)) };
+
+    /// Gives back what an outcome named that was handed out: each import once, as `release`, but that what the vat still uses is released as
+    /// soon as it doesn't. Where memory runs out for that the session ends.
+    fn release_outcome(&mut self, outcome: Outcome)
+        ensures { ReleasesOutcome outcome (Self.state self.old) (Self.state self.new) };
 
     /// Gives an import back: once for each outcome that named it. Where another outcome did that wasn't given back, or an object holds it,
     /// nothing is sent; the last of all who hold it has it released, with its whole count. That is refused as `Vat::release`: so while

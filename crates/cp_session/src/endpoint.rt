@@ -1,18 +1,22 @@
 //! A connection, with what is done for its objects after each message.
 
-ghost use Rattle.std.specs.Prelude.{◌≡◌, ◌<◌, ◌≤◌, ◌↔◌, IsSome, IsTrue, IfOk, IfErr, OnOk, length, nat_lt, true, false};
+ghost use Rattle.std.specs.Prelude.{◌≡◌, ◌<◌, ◌≤◌, ◌↔◌, Err, IsSome, IsTrue, IfOk, IfErr, OnErr, OnOk, length, nat_lt, true, false};
+ghost use Rattle.cp_dispatch.specs.Finishing as own;
+ghost use Rattle.cp_dispatch.specs.Finishing.{GivesBackEach};
 ghost use Rattle.cp_dispatch.specs.Receiving.{IsCutShort};
 ghost use Rattle.cp_dispatch.specs.Work.{GivesBack, Lives, begun};
 ghost use Rattle.cp_dispatch.specs.WorkOf.{work_of};
-ghost use Rattle.cp_connection.specs.Doing.{answered};
+ghost use Rattle.cp_connection.specs.Doing.{Acts, answered};
 ghost use Rattle.cp_connection.specs.Link.{Link};
+ghost use Rattle.cp_vat_machine.specs.InUse.{caps_of};
+ghost use Rattle.cp_vat_machine.specs.declared.event.Event.TheVariants as machine;
 ghost use Rattle.cp_vat_machine.specs.declared.event.Value.TheVariants as values;
 ghost use Rattle.cp_frame.specs.Reader.{taken_of};
 ghost use Rattle.cp_session.specs.Kept.{kept_of};
 ghost use Rattle.cp_session.specs.Search.{IsDue, MayHoldIdle, Seeks};
 ghost use Rattle.cp_session.specs.Refusing.{Refuses};
 ghost use Rattle.cp_session.specs.Serves.{Ends, Follows, HasGiven, IsUnended, MayGive, Polls, Takes, WorksOn};
-ghost use Rattle.cp_session.specs.Service.{first_search, new_service, service_of};
+ghost use Rattle.cp_session.specs.Service.{first_search, new_service, service_of, with_link};
 ghost use Rattle.cp_session.specs.Sweep.{Sweeps, SweepsAll, SweepsInTime};
 
 use crate::options::SessionOptions;
@@ -21,6 +25,7 @@ use crate::sweep::{Sweep, has_come};
 use cp_connection::{Connection, ConnectionFault, Excess};
 use cp_dispatch::Dispatcher;
 use cp_objects::ObjectTable;
+use cp_refs::Outcome;
 use std::alloc::{AllocError, Global};
 
 /// The bytes that an entry of a vat takes at most, its content aside, and those that a promise takes.
@@ -109,6 +114,25 @@ impl Endpoint {
         ensures same { service_of self.new ≡ record (service_of self.old) { work = (service_of self.new).work } }
     {
         self.work.give_back(&mut self.connection, import)
+    }
+
+    /// Finishes a question of the program's, and takes its outcome out of the events, if it is one.
+    pub(crate) fn finish(&mut self, question: u32) -> Result<Option<Outcome>, ConnectionFault>
+        ensures finishes { IfOk result (λ untaken. own.Finishes question untaken (service_of self.old).work (service_of self.new).work) }
+        ensures unfinished { IfErr result (λ fault. Acts self.old.connection (machine.Finish question) (Err fault) self.new.connection) }
+        ensures same { OnOk result (service_of self.new ≡ record (service_of self.old) { work = (service_of self.new).work }) }
+        ensures rest { OnErr result (service_of self.new ≡ with_link (service_of self.old) self.new.connection) }
+    {
+        self.work.finish(&mut self.connection, question)
+    }
+
+    /// Gives back what an outcome named to the program.
+    pub(crate) fn give_back_each(&mut self, outcome: &Outcome) -> Result<(), AllocError>
+        ensures back { OnOk result (GivesBackEach (caps_of outcome.now) (service_of self.old).work (service_of self.new).work) }
+        ensures same { service_of self.new ≡ record (service_of self.old) { work = (service_of self.new).work } }
+        ensures lives { Lives self.old.connection self.new.connection }
+    {
+        self.work.give_back_each(&mut self.connection, outcome)
     }
 
     /// Tells the peer what is too much, if something is: the connection is aborted for that.

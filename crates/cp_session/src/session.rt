@@ -3,7 +3,7 @@
 ghost use Rattle.std.specs.Prelude.{◌≡◌, ◌↔◌, ◌≤◌, true, false, Ok, Err, Some, None, IsTrue, IfOk, IfErr, OnOk, OnErr, length};
 ghost use Rattle.cp_dispatch.specs.Work.{Lives};
 ghost use Rattle.cp_dispatch.specs.declared.event.DispatchEvent.TheVariants as notices;
-ghost use Rattle.cp_session.specs.Doing.{ActsInTime, Adds, EndsObjects, Finishes, GivesMore, GivesNone, GoesBy, GoesOn, IsCut, IsDone, IsUnfinished, IsSettled, IsStopped, IsUnsettled, IsUnworked, KeepsRest, Leaves, MayTake, PassesTime, Settles, TakesIn, alarm_of, ending_by, fault_of, knows_by, next_cap, told_of};
+ghost use Rattle.cp_session.specs.Doing.{ActsInTime, Adds, EndsObjects, Finishes, GivesMore, GivesNone, GoesBy, GoesOn, IsCut, IsDone, IsUnfinished, IsSettled, IsStopped, IsUnsettled, IsUnworked, KeepsRest, Leaves, MayTake, PassesTime, ReleasesUntaken, Settles, TakesIn, alarm_of, ending_by, fault_of, knows_by, next_cap, told_of};
 ghost use Rattle.cp_session.specs.State.{link_of, new_state, state_of};
 
 use crate::calling::CallingSession;
@@ -17,7 +17,7 @@ use crate::sweep::has_come;
 use cp_connection::{ConnectionFault, ConnectionStats};
 use cp_dispatch::DispatchEvent;
 use cp_objects::{ObjectTable, Objects, ServedObject, SessionCap, Waker};
-use cp_refs::{Cap, PromiseId, Request};
+use cp_refs::{Cap, Outcome, PromiseId, Request};
 use cp_vat_machine::Reason;
 use std::alloc::{AllocError, Global};
 
@@ -267,7 +267,16 @@ impl<H: ObjectTable> CallingSession for SessionOver<H> {
     }
 
     fn finish(&mut self, question: u32) -> Result<(), ConnectionFault> {
-        self.endpoint.connection.finish(question)
+        let untaken = self.endpoint.finish(question)?;
+        self.release_untaken(untaken);
+        Ok(())
+    }
+
+    fn release_outcome(&mut self, outcome: Outcome) {
+        match self.endpoint.give_back_each(&outcome) {
+            Ok(()) => {}
+            Err(_) => self.progress.fail(ConnectionFault::OutOfMemory),
+        }
     }
 
     fn release(&mut self, import: u32) -> Result<(), ConnectionFault> {
@@ -280,6 +289,16 @@ impl<H: ObjectTable> CallingSession for SessionOver<H> {
 }
 
 impl<H: ObjectTable> SessionOver<H> {
+    /// Gives back what an outcome named that was never handed out, if there is one.
+    fn release_untaken(&mut self, untaken: Option<Outcome>)
+        ensures { ReleasesUntaken untaken (state_of self.old) (state_of self.new) }
+    {
+        match untaken {
+            Some(outcome) => self.release_outcome(outcome),
+            None => {}
+        }
+    }
+
     /// Takes bytes up to the end of a message, at this time.
     fn take(&mut self, piece: &[u8], now: u64) -> Result<usize, ConnectionFault>
         ensures takes { IfOk result (λ count. TakesIn H.table (state_of self.old) piece.now now count (state_of self.new)) }

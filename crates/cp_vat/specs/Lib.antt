@@ -10,3 +10,4 @@ pub mod Kept
 pub mod Echoing
 pub mod Arriving
 pub mod Lending
+pub mod Stages

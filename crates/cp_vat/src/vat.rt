@@ -12,6 +12,7 @@ ghost use Rattle.cp_vat_machine.specs.declared.event.Value.TheVariants as values
 ghost use Rattle.cp_vat_laws.specs.Sizes.{AreWritable};
 ghost use Rattle.cp_vat.specs.Kept.{contents_of, entries_of};
 ghost use Rattle.cp_vat.specs.Lending.{effects_lending};
+ghost use Rattle.cp_vat.specs.Stages.{stage_at};
 ghost use Rattle.cp_vat.specs.Stepping.{answered, effects_of};
 
 use crate::borrowed_call::BorrowedCall;
@@ -159,6 +160,23 @@ impl Vat {
             Some(question.stage)
         } else {
             None
+        }
+    }
+
+    /// The stage of a call that is answered to the peer, or that the application made, whoever answers it: `Finished` says that its
+    /// outcome is for nobody any more.
+    pub fn stage_at(&self, origin: Origin) -> Option<Stage>
+        ensures { result ≡ stage_at self.now origin }
+    {
+        match origin {
+            Origin::Answer(answer) => {
+                let answer = self.core.answers.get(answer)?;
+                Some(answer.stage)
+            }
+            Origin::Own(question) => {
+                let question = self.core.questions.get(question)?;
+                Some(question.stage)
+            }
         }
     }
 

@@ -4,7 +4,9 @@
 //! before they arrive (pipelining): `Question::cap` is a bootstrap's object, and `Question::at` the capability at a path of pointer fields.
 //! Calls are sent when the client next waits, all together. `call_and_wait` calls and waits.
 //!
-//! `finish` gives a question up, and `release` an import that an outcome named; until then the peer keeps them. `flush` writes what is still
+//! `results` waits for what a typed call gave, and finishes the question. `results_kept` leaves it open, for calls of paths of the results.
+//! `finish` gives a question up, and `release` an import that an outcome named; until then the peer keeps them. A question whose results
+//! nobody takes is to be finished by the program: with 65,536 open ones no further call is made (`V8 Full`). `flush` writes what is still
 //! to be sent. `into_devices` ends the client, tells its objects so, and returns the reader and the writer.
 //!
 //! A `ClientFault` says why a call failed. `Device` has the error of the reader or of the writer; the client can go on after it, for example
@@ -21,10 +23,12 @@
 //!
 //! A `CallWindow` keeps several calls in flight, up to a window, for example those of a `-> stream` method.
 //!
+//! `wait_any` waits for the first outcome of several questions. `take_outcome` and `step` are the two halves of `wait`.
+//!
 //! The reader and the writer may be `&stream` twice, or bytes in memory. For a socket take a `DuplexStream` (net_client), which connects to an
-//! address within a limit of time, and is read while it is written. Over a `TcpStream` a client stands still where it and its peer both wait
-//! until the other reads: many large calls with large results. `reconnect` tries again after waits that grow, and `poll`, `wait_any`,
-//! `results_within` and `serve_for` limit how long a client waits.
+//! address within a limit of time, and is read while it is written, up to 1 GiB of what nobody asked for yet. Over a `TcpStream` a client
+//! stands still where it and its peer both wait until the other reads: many large calls with large results. `reconnect` tries again after
+//! waits that grow, and `poll`, `wait_any_within`, `results_within` and `serve_for` limit how long a client waits.
 
 pub use cp_builder::BuildError;
 pub use cp_client::{CallError, CallWindow, Client, ClientFault, Question, request_of, word_at};

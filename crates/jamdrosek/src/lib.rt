@@ -58,6 +58,9 @@
 //! let text = read.results(&came)?.text()?.text(alloc)?;
 //! ```
 //!
+//! `results` also finishes the question, so that the peer forgets it. A question whose results nobody takes, such as that of `add` here, stays
+//! open until `client.finish`, or the connection's end.
+//!
 //! A method takes its params as arguments if they are at most four, and values or capabilities. Else it takes a builder of them:
 //! `StoreFillParamsBuilder::new(alloc)?`, and setters such as `set_rows` on that.
 //!

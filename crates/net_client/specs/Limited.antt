@@ -1,14 +1,16 @@
 -- What a client does in a limited time.
-use Rattle.std.specs.Prelude.{◌≡◌, ◌⊎◌, ℕ, Option, Some, None}
+use Rattle.std.specs.Prelude.{◌≡◌, ◌⊎◌, ℕ, List, Option, Some, None}
 use Rattle.std.specs.declared.io.ErrorKind.TheVariants.{TimedOut}
 use Rattle.cp_refs.specs.declared.outcome.Outcome.{Outcome}
 use Rattle.cp_objects.specs.ObjectTable.{ObjectTableKind}
 use Rattle.cp_stream.specs.Device.{of_kind}
+use Rattle.cp_client.specs.declared.question.Question.{Question}
 use Rattle.cp_client.specs.declared.fault.CallError.{CallError}
 use Rattle.cp_client.specs.declared.fault.ClientFault.{ClientFault}
 use Rattle.cp_client.specs.declared.fault.ClientFault.TheVariants.{Device}
 use Rattle.cp_client.specs.Conversation.{Conversation}
-use Rattle.cp_client.specs.Results.{GivesNone}
+use Rattle.cp_client.specs.AnyOf.{StopsForAll}
+use Rattle.cp_client.specs.Results.{TakesNone}
 use Rattle.cp_client.specs.Waits.{ServesUntil, Stops, Waits}
 
 -- the fault of a client whose time was over
@@ -27,27 +29,13 @@ module _ {H : Type 0} (table : ObjectTableKind H) where
   StopsOrNot old q fault new = Stops table old q fault new ⊎ (new ≡ old)
 
   -- the same of results
-  abbrev pub GivesNoneOrNot : Conversation H → ℕ → CallError → Conversation H → Type 0
-  GivesNoneOrNot old q fault new = GivesNone table old q fault new ⊎ (new ≡ old)
+  abbrev pub TakesNoneOrNot : Conversation H → ℕ → CallError → Conversation H → Type 0
+  TakesNoneOrNot old q fault new = TakesNone table old q fault new ⊎ (new ≡ old)
+
+  -- the same of any of several questions
+  abbrev pub StopsForAllOrNot : Conversation H → List Question → ClientFault → Conversation H → Type 0
+  StopsForAllOrNot old qs fault new = StopsForAll table old qs fault new ⊎ (new ≡ old)
 
   -- the same of a client that serves
   abbrev pub ServesOrNot : Conversation H → ClientFault → Conversation H → Type 0
   ServesOrNot old fault new = ServesUntil table old fault new ⊎ (new ≡ old)
-
-  -- Questions were asked for their outcomes, one after another, and the time of each was over.
-  pub data PollsOn (old : Conversation H) : Conversation H → Type 0 where
-    begins : PollsOn old old
-    polls : {mid new : Conversation H} (q : ℕ) → PollsOn old mid → Stops table mid q timed_out new → PollsOn old new
-
-  -- Then this outcome came of this question.
-  pub record WaitsForOne (old : Conversation H) (q : ℕ) (outcome : Outcome) (new : Conversation H) : Type 0 where
-    pub mid : Conversation H
-    pub polls : PollsOn old mid
-    pub waits : Waits table mid q outcome new
-
-  -- or none does, for this fault
-  pub record StopsForAll (old : Conversation H) (fault : ClientFault) (new : Conversation H) : Type 0 where
-    pub mid : Conversation H
-    pub polls : PollsOn old mid
-    pub q : ℕ
-    pub stops : StopsOrNot mid q fault new

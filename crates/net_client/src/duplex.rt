@@ -110,16 +110,6 @@ impl<'r, C: Clock, D: Socket> Duplex<'r, C, D> {
         self.has_read = false;
     }
 
-    /// Waits until something may be read, or something more written.
-    pub(crate) fn wait(&mut self) -> io::Result<()>
-        ensures { let at = passage_of D.flow in at self.new ≡ at self.old }
-    {
-        if self.ahead.len() > 0 || self.stream.is_readable() {
-            return Ok(());
-        }
-        self.waiter.wait(&mut self.stream)
-    }
-
     /// Whether the time has come at which waits end.
     pub(crate) fn is_late(&self) -> io::Result<bool> {
         self.waiter.is_late()

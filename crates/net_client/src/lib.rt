@@ -1,5 +1,5 @@
-//! A client's connection: a socket that is read while it is written, so that a client over it never stands still because its peer waits
-//! for its own bytes to be read; with limits of time, and tries to connect again.
+//! A client's connection: a socket that is read while it is written, so that a client over it doesn't stand still because its peer waits
+//! for its own bytes to be read, up to a limit of what is taken in; with limits of time, and tries to connect again.
 #![tactic(auto)]
 
 mod address;

@@ -22,14 +22,20 @@ use std::time::{Clock, Duration, Instant};
 /// let mut client = Client::new(alloc, &stream, &stream, Mode::Plain, Limits::standard());
 /// ```
 ///
-/// A write that has to wait takes in what comes, since a peer may not read on before its own bytes are read. So a client over it never
-/// stands still, however much is asked and answered at once. Once the peer takes nothing more, what is written is lost, and what it had to
-/// say can still be read.
+/// A write that has to wait takes in what comes, since a peer may not read on before its own bytes are read. So a client over it doesn't
+/// stand still because both ends wait for each other to read, as long as what comes meanwhile is at most `ConnectOptions::ahead` bytes (1 GiB
+/// by `standard`). Past them the write fails. Once the peer takes nothing more, what is written is lost, and what it had to say can still be
+/// read.
+///
+/// It still waits for a peer that neither reads nor writes: for ever, unless `ConnectOptions::silence` or a deadline limits that.
 ///
 /// # Errors
 ///
-/// A read or a write fails with `TimedOut` where no byte moved in time (`ConnectOptions::silence`), or the deadline came. A client says that
-/// as `ClientFault::Device`. Nothing is lost by it: a later call goes on from there.
+/// A client says each as `ClientFault::Device`. Nothing is lost by it: a later call goes on from there.
+///
+/// - `TimedOut`: no byte moved in time (`ConnectOptions::silence`), or the deadline came.
+/// - `QuotaExceeded`: a write had to wait, and as many bytes as `ConnectOptions::ahead` came that nobody asked for yet. A client writes before
+///   it reads, so it goes on only if its peer reads on: have fewer calls under way at once, or a larger `ahead`.
 #[derive(Drop)]
 pub struct DuplexStream<'r, C> {
     duplex: RefCell<Duplex<'r, C, StreamSocket>>,
@@ -132,14 +138,6 @@ impl<'r, C: Clock> DuplexStream<'r, C> {
         let is_late = duplex.is_late();
         drop(duplex);
         is_late
-    }
-
-    /// Waits until something may be read, or something more written.
-    pub(crate) fn wait(&self) -> io::Result<()> {
-        let mut duplex = self.borrowed()?;
-        let waited = duplex.wait();
-        drop(duplex);
-        waited
     }
 
     /// The stream itself. Nobody has it between two calls, so that this doesn't fail.

@@ -2,9 +2,10 @@
 
 ghost use Rattle.std.specs.Prelude.{◌≡◌, ◌↔◌, None, IsTrue, IfOk, IfErr, OnOk};
 ghost use Rattle.cp_client.specs.ConversationOf.{seen};
+ghost use Rattle.cp_client.specs.AnyOf.{WaitsForAny};
 ghost use Rattle.cp_client.specs.Waits as waits;
-ghost use Rattle.cp_client.specs.Results.{GivesResults};
-ghost use Rattle.net_client.specs.Limited.{GivesNoneOrNot, Polls, ServesOrNot, StopsForAll, StopsOrNot, WaitsForOne, timed_out};
+ghost use Rattle.cp_client.specs.Results.{TakesResults};
+ghost use Rattle.net_client.specs.Limited.{Polls, ServesOrNot, StopsForAllOrNot, StopsOrNot, TakesNoneOrNot, timed_out};
 
 use crate::stream::DuplexStream;
 use cp_client::{CallError, Client, ClientFault, Nobody, Question, SessionClient};
@@ -25,7 +26,8 @@ pub type SocketClient<'s, 'r, C, O = Nobody> = Client<
 /// What a client over this stream does in a limited time. A deadline that was set before still counts, and is the same afterwards.
 impl<'r, C: Clock> DuplexStream<'r, C> {
     /// The outcome of a question, if it came by now. `None`: it didn't. Nothing is waited for; what can be written at once is, and a piece of
-    /// at most 64 KiB is taken of what came.
+    /// at most 64 KiB is taken of what came. For many questions call `serve_for` with no time, and then `SessionClient::take_outcome` for
+    /// each: that uses the socket once.
     pub fn poll<R: Read + Drop, W: Write + Drop, S: CallingSession>(
         &self,
         client: &mut SessionClient<R, W, S>,
@@ -43,40 +45,33 @@ impl<'r, C: Clock> DuplexStream<'r, C> {
         }
     }
 
-    /// Waits for the outcome of any of these questions, and gives the first that is there, in their order, with its question.
-    /// Without questions it is `NotAsked`.
-    pub fn wait_any<R: Read + Drop, W: Write + Drop, S: CallingSession>(
+    /// Waits for the outcome of any of these questions, as `SessionClient::wait_any`, for so long at the most: past it the fault is that of a
+    /// device, of the kind `TimedOut`, and all are still asked.
+    pub fn wait_any_within<R: Read + Drop, W: Write + Drop, S: CallingSession>(
         &self,
         client: &mut SessionClient<R, W, S>,
         questions: &[Question],
+        time: Duration,
     ) -> Result<(Question, Outcome), ClientFault>
-        ensures came { let at = seen S.state R.remaining W.contents in IfOk result (λ one. WaitsForOne S.table (at client.old) one.0.number one.1 (at client.new)) }
-        ensures stops { let at = seen S.state R.remaining W.contents in IfErr result (λ f. StopsForAll S.table (at client.old) f (at client.new)) }
+        ensures waits { let at = seen S.state R.remaining W.contents in IfOk result (λ came. WaitsForAny S.table (at client.old) questions.now came (at client.new)) }
+        ensures stops { let at = seen S.state R.remaining W.contents in IfErr result (λ f. StopsForAllOrNot S.table (at client.old) questions.now f (at client.new)) }
     {
-        if questions.is_empty() {
-            return Err(ClientFault::NotAsked);
-        }
-        for _ in 0..u64::MAX {
-            for question in questions {
-                if let Some(outcome) = self.poll(client, *question)? {
-                    return Ok((*question, outcome));
-                }
-            }
-            self.wait()?;
-        }
-        Err(ClientFault::Device(DeviceError::from(ErrorKind::TimedOut)))
+        let before = self.bring_deadline(time)?;
+        let waited = client.wait_any(questions);
+        self.restore_deadline(before);
+        waited
     }
 
     /// Waits for the results of a question, as `SessionClient::results`, for so long at the most: past it the fault is that of a device, of
-    /// the kind `TimedOut`, and the question is still asked.
+    /// the kind `TimedOut`, and the question is still asked, and isn't finished.
     pub fn results_within<R: Read + Drop, W: Write + Drop, S: CallingSession>(
         &self,
         client: &mut SessionClient<R, W, S>,
         question: u32,
         time: Duration,
     ) -> Result<ResultPayload, CallError>
-        ensures came { let at = seen S.state R.remaining W.contents in IfOk result (λ r. GivesResults S.table (at client.old) question r (at client.new)) }
-        ensures none { let at = seen S.state R.remaining W.contents in IfErr result (λ f. GivesNoneOrNot S.table (at client.old) question f (at client.new)) }
+        ensures came { let at = seen S.state R.remaining W.contents in IfOk result (λ r. TakesResults S.table (at client.old) question r (at client.new)) }
+        ensures none { let at = seen S.state R.remaining W.contents in IfErr result (λ f. TakesNoneOrNot S.table (at client.old) question f (at client.new)) }
     {
         let before = match self.bring_deadline(time) {
             Ok(before) => before,

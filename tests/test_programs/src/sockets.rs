@@ -175,15 +175,17 @@ fn waits_end_in_time(rt: HostRuntime) {
     check!(&rt; client.wait(never).err() == Some(timed_out));
     let time = Duration::from_millis(5);
     check!(&rt; stream.results_within(&mut client, never.number, time).is_err());
+    check!(&rt; stream.wait_any_within(&mut client, &[never, said], time).err() == Some(timed_out));
     check!(&rt; stream.serve_for(&mut client, Duration::from_millis(2)).is_ok());
     for _ in 0..100 {
         go_on(&rt, &mut host);
     }
     // Nothing was lost by it, and the one that is answered is found behind the one that isn't.
-    let (question, outcome) = stream.wait_any(&mut client, &[never, said]).expect(&rt, "a stream");
+    let (question, outcome) = stream.wait_any_within(&mut client, &[never, said], time).expect(&rt, "a stream");
     check!(&rt; question == said);
     check!(&rt; is_echo(outcome, 7, 2));
     check!(&rt; matches!(stream.poll(&mut client, never), Ok(None)));
+    check!(&rt; matches!(client.take_outcome(never), Ok(None)));
 }
 
 #[test]

@@ -1,6 +1,6 @@
 //! A client of a peer whose bytes are in memory.
 
-use crate::client::asking::{expect_kept, expect_whole};
+use crate::client::asking::{expect_any, expect_full, expect_kept, expect_left_open, expect_room, expect_whole};
 use crate::client::devices::{expect_flushed, expect_insisted};
 use crate::client::endings::{End, expect_end};
 use crate::client::memory::expect_called_or_memory;
@@ -21,6 +21,14 @@ pub enum Scene {
     /// It is given outcomes in another order than they come.
     Keeps,
     AsksWhole,
+    /// It waits for any of its questions.
+    TakesAny,
+    /// It takes results, which finishes each question.
+    TakesResults,
+    /// It takes results, and calls a path of them.
+    KeepsResults,
+    /// It finishes no question.
+    FinishesNone,
     /// It calls, or memory runs out.
     CallsOrFails,
     /// It waits for an outcome, while its devices fail or don't.
@@ -31,10 +39,11 @@ pub enum Scene {
     Ends(End),
 }
 
-/// How many bytes of the peer weren't read, how many were written to it, and whether these were flushed.
+/// How many bytes of the peer weren't read and by how many calls the others were, how many were written to it, and whether these were flushed.
 #[derive(Clone, Copy)]
 pub struct Left {
     pub unread: usize,
+    pub reads: u64,
     pub written: usize,
     pub is_flushed: bool,
 }
@@ -62,6 +71,7 @@ pub fn play_over(
     let (from, to) = client.into_devices();
     let left = Left {
         unread: from.inner.len(),
+        reads: from.calls,
         written: to.inner.len(),
         is_flushed: to.is_flushed,
     };
@@ -78,6 +88,10 @@ fn play_with<R: Read + Drop, W: Write + Drop, O: ServedObject<Makes = O>>(
     match scene {
         Scene::Keeps => expect_kept(rt, alloc, client),
         Scene::AsksWhole => expect_whole(rt, alloc, client),
+        Scene::TakesAny => expect_any(rt, alloc, client),
+        Scene::TakesResults => expect_room(rt, alloc, client),
+        Scene::KeepsResults => expect_left_open(rt, alloc, client),
+        Scene::FinishesNone => expect_full(rt, alloc, client),
         Scene::CallsOrFails => expect_called_or_memory(rt, alloc, client),
         Scene::Insists { fails } => expect_insisted(rt, alloc, client, fails),
         Scene::Flushes => expect_flushed(rt, client),

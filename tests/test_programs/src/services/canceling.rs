@@ -1,8 +1,9 @@
 //! Calls that the client gives up before they are answered: their object is told, once, and nothing is kept of them.
 
 use crate::services::ends::{Ends, Seen, Step, With};
-use cp_objects::{Context, LaterCall, Objects, ServantObject, ServedObject};
-use cp_refs::{Cap, Outcome, Request};
+use crate::services::notebook::NOTES;
+use cp_objects::{Context, LaterCall, Objects, ServantObject, ServedObject, SessionCap};
+use cp_refs::{Cap, Caps, Outcome, Request};
 use cp_servants::{
     OutgoingCall, PayloadBuilder, Reply, RequestView, Servant, Settled, named_imports, outcome_of,
 };
@@ -18,6 +19,10 @@ const STAY: u16 = 1;
 const ANSWER: u16 = 2;
 /// Says how often the object was told that a call was given up.
 const TOLD: u16 = 3;
+/// Calls the object itself, and gives that up before it is made.
+const TAKE_BACK: u16 = 4;
+/// With one of those: that is called of the object which the params name, or else of object 1, and its outcome is the answer.
+const FORWARD: u16 = 16;
 
 #[derive(Drop)]
 struct Waiter {
@@ -48,14 +53,27 @@ impl Waiter {
         Ok(count)
     }
 
-    /// Lets the call of this ticket go.
-    fn let_go(&mut self, ticket: u64) {
+    /// Takes the call of this ticket out.
+    fn take(&mut self, ticket: u64) -> Option<LaterCall> {
         for place in 0..self.calls.len() {
             if self.calls[place].ticket() == ticket {
-                drop(self.calls.swap_remove(place));
-                return;
+                return Some(self.calls.swap_remove(place));
             }
         }
+        None
+    }
+
+    /// Puts a call off.
+    fn put_off(
+        &mut self,
+        ticket: u64,
+        caps: &Caps,
+        context: &mut Context<Waiter>,
+    ) -> Result<Reply, AllocError> {
+        let gives_up = named_imports(context.alloc(), caps)?;
+        let later = context.later(ticket, gives_up)?;
+        self.calls.push(later)?;
+        Ok(Reply::Later)
     }
 }
 
@@ -71,12 +89,19 @@ impl ServedObject for Waiter {
         let word = match request.method {
             ANSWER => self.answer_all(context)?,
             TOLD => self.told,
+            TAKE_BACK => {
+                send(ticket, context.this_cap(), STAY, context)?;
+                context.cancel(ticket)?;
+                self.calls.len() as u64
+            }
+            method if method >= FORWARD => {
+                let target = context.own(target_in(&request.caps));
+                send(ticket, target, method - FORWARD, context)?;
+                return self.put_off(ticket, &request.caps, context);
+            }
             method => {
                 self.stays = method == STAY;
-                let gives_up = named_imports(context.alloc(), &request.caps)?;
-                let later = context.later(ticket, gives_up)?;
-                self.calls.push(later)?;
-                return Ok(Reply::Later);
+                return self.put_off(ticket, &request.caps, context);
             }
         };
         let results = PayloadBuilder::new(context.alloc()).word(word);
@@ -100,21 +125,53 @@ impl ServedObject for Waiter {
 
     fn on_response(
         &mut self,
-        _call_id: u64,
+        call_id: u64,
         outcome: Outcome,
-        _context: &mut Context<Waiter>,
+        context: &mut Context<Waiter>,
     ) -> Result<(), AllocError> {
-        drop(outcome);
-        Ok(())
+        match self.take(call_id) {
+            Some(call) => Ok(context.answer(call, outcome)?),
+            None => {
+                drop(outcome);
+                Ok(())
+            }
+        }
     }
 
-    fn on_cancel(&mut self, ticket: u64, _context: &mut Context<Waiter>) -> Result<(), AllocError> {
+    fn on_cancel(&mut self, ticket: u64, context: &mut Context<Waiter>) -> Result<(), AllocError> {
         self.told += 1;
         if !self.stays {
-            self.let_go(ticket);
+            drop(self.take(ticket));
         }
-        Ok(())
+        context.cancel(ticket)
     }
+}
+
+/// The capability that a table names first, or else object 1.
+fn target_in(caps: &Caps) -> Cap {
+    match caps.caps().first() {
+        Some(Cap::Import(import)) => Cap::Import(*import),
+        _ => Cap::Object(1),
+    }
+}
+
+/// Calls a method of an object, under the number of a ticket.
+fn send(
+    ticket: u64,
+    target: SessionCap,
+    method: u16,
+    context: &mut Context<Waiter>,
+) -> Result<(), AllocError> {
+    let Ok(params) = PayloadBuilder::new(context.alloc()).word(0) else {
+        drop(target);
+        return Err(AllocError);
+    };
+    let call = context.own_call(OutgoingCall {
+        cap: target.into_cap(context.session())?,
+        request: params.request(NOTES, method),
+        call_id: ticket,
+    });
+    Ok(context.send(call)?)
 }
 
 /// A servant that answers each call after the next one, with its number.
@@ -155,11 +212,17 @@ fn act(rt: &impl Abort, ends: &mut Waiting, step: Step) -> Seen {
     ends.act(rt, step)
 }
 
-/// Both ends, and the server's object.
-fn begin(rt: &impl Abort, alloc: Global) -> (Waiting, u32) {
+/// Two objects.
+fn two(rt: &impl Abort, alloc: Global) -> Objects<Waiter> {
     let mut objects = Objects::new(alloc);
     drop(objects.add(Waiter::new(alloc)).expect(rt, "an object"));
-    let mut ends = Ends::new(alloc, Objects::new(alloc), objects, 1);
+    drop(objects.add(Waiter::new(alloc)).expect(rt, "an object"));
+    objects
+}
+
+/// Both ends, each with two objects, and the server's first.
+fn begin(rt: &impl Abort, alloc: Global) -> (Waiting, u32) {
+    let mut ends = Ends::new(alloc, two(rt, alloc), two(rt, alloc), 1);
     act(rt, &mut ends, Step::Bootstrap);
     let (_, got) = act(rt, &mut ends, Step::Take).got.expect(rt, "an outcome");
     (ends, got.import.expect(rt, "an object"))
@@ -167,14 +230,22 @@ fn begin(rt: &impl Abort, alloc: Global) -> (Waiting, u32) {
 
 /// A call of the server's object, which goes there.
 fn call(rt: &impl Abort, ends: &mut Waiting, object: u32, method: u16) -> u32 {
-    let asked = act(rt, ends, Step::Call(object, method, With::Word(0))).asked;
+    call_with(rt, ends, object, method, With::Word(0))
+}
+
+fn call_with(rt: &impl Abort, ends: &mut Waiting, object: u32, method: u16, with: With) -> u32 {
+    let asked = act(rt, ends, Step::Call(object, method, with)).asked;
     act(rt, ends, Step::Carry);
     asked.expect(rt, "a question")
 }
 
 /// What a call says at once.
 fn said(rt: &impl Abort, ends: &mut Waiting, object: u32, method: u16) -> u64 {
-    let asked = call(rt, ends, object, method);
+    said_with(rt, ends, object, method, With::Word(0))
+}
+
+fn said_with(rt: &impl Abort, ends: &mut Waiting, object: u32, method: u16, with: With) -> u64 {
+    let asked = call_with(rt, ends, object, method, with);
     let (question, got) = act(rt, ends, Step::Take).got.expect(rt, "an outcome");
     check!(rt; question == asked && !got.is_failed);
     got.word
@@ -256,6 +327,80 @@ fn nothing_is_kept_of_many_calls_that_are_given_up(rt: HostRuntime) {
     }
     check!(&rt; act(&rt, &mut ends, Step::Carry).kept == before);
     check!(&rt; said(&rt, &mut ends, object, TOLD) == 2_000);
+    drop(ends);
+}
+
+#[test]
+fn a_call_that_is_forwarded_is_given_up_there(rt: HostRuntime) {
+    let (mut ends, object) = begin(&rt, rt.alloc());
+    let to = With::Object(0);
+    let waits = call_with(&rt, &mut ends, object, FORWARD + WAIT, to);
+    act(&rt, &mut ends, Step::Finish(waits));
+    // The client's object that the server's one called is told, and what it kept is gone.
+    check!(&rt; said_with(&rt, &mut ends, object, FORWARD + TOLD, to) == 1);
+    check!(&rt; said_with(&rt, &mut ends, object, FORWARD + ANSWER, to) == 0);
+    check!(&rt; said(&rt, &mut ends, object, TOLD) == 1);
+    check!(&rt; act(&rt, &mut ends, Step::Take).got.is_none());
+    // Nothing of it is kept: one more takes no more.
+    let before = act(&rt, &mut ends, Step::Carry).kept;
+    let waits = call_with(&rt, &mut ends, object, FORWARD + WAIT, to);
+    check!(&rt; act(&rt, &mut ends, Step::Carry).kept > before);
+    act(&rt, &mut ends, Step::Finish(waits));
+    check!(&rt; act(&rt, &mut ends, Step::Carry).kept == before);
+    drop(ends);
+}
+
+#[test]
+fn a_call_of_an_object_here_is_given_up_there(rt: HostRuntime) {
+    let (mut ends, object) = begin(&rt, rt.alloc());
+    let before = act(&rt, &mut ends, Step::Carry).kept;
+    let waits = call(&rt, &mut ends, object, FORWARD + WAIT);
+    check!(&rt; said(&rt, &mut ends, object, FORWARD + TOLD) == 0);
+    act(&rt, &mut ends, Step::Finish(waits));
+    check!(&rt; said(&rt, &mut ends, object, FORWARD + TOLD) == 1);
+    check!(&rt; said(&rt, &mut ends, object, FORWARD + ANSWER) == 0);
+    check!(&rt; act(&rt, &mut ends, Step::Carry).kept == before);
+    drop(ends);
+}
+
+#[test]
+fn a_call_that_was_answered_is_not_given_up(rt: HostRuntime) {
+    let (mut ends, object) = begin(&rt, rt.alloc());
+    let waits = call(&rt, &mut ends, object, FORWARD + WAIT);
+    // The answer of the other object comes before the Finish.
+    check!(&rt; said(&rt, &mut ends, object, FORWARD + ANSWER) == 1);
+    let (question, got) = act(&rt, &mut ends, Step::Take).got.expect(&rt, "an outcome");
+    check!(&rt; question == waits && !got.is_failed);
+    check!(&rt; said(&rt, &mut ends, object, FORWARD + TOLD) == 0);
+    drop(ends);
+}
+
+#[test]
+fn a_call_that_was_not_made_is_taken_back(rt: HostRuntime) {
+    let (mut ends, object) = begin(&rt, rt.alloc());
+    let before = act(&rt, &mut ends, Step::Carry).kept;
+    check!(&rt; said(&rt, &mut ends, object, TAKE_BACK) == 0);
+    check!(&rt; said(&rt, &mut ends, object, ANSWER) == 0);
+    check!(&rt; said(&rt, &mut ends, object, TOLD) == 0);
+    check!(&rt; act(&rt, &mut ends, Step::Carry).kept == before);
+    drop(ends);
+}
+
+#[test]
+fn a_call_that_is_given_up_while_it_waits_is_told_of(rt: HostRuntime) {
+    let (mut ends, object) = begin(&rt, rt.alloc());
+    let before = act(&rt, &mut ends, Step::Carry).kept;
+    let first = call(&rt, &mut ends, object, WAIT);
+    let piped = act(&rt, &mut ends, Step::CallResult(first, WAIT)).asked;
+    act(&rt, &mut ends, Step::Finish(piped.expect(&rt, "a question")));
+    check!(&rt; said(&rt, &mut ends, object, TOLD) == 0);
+    // The answer names the object itself, so the call that waited goes there, and goes at once.
+    check!(&rt; said(&rt, &mut ends, object, ANSWER) == 1);
+    let (question, got) = act(&rt, &mut ends, Step::Take).got.expect(&rt, "an outcome");
+    check!(&rt; question == first && !got.is_failed);
+    check!(&rt; said(&rt, &mut ends, object, TOLD) == 1);
+    check!(&rt; said(&rt, &mut ends, object, ANSWER) == 0);
+    check!(&rt; act(&rt, &mut ends, Step::Carry).kept == before);
     drop(ends);
 }
 

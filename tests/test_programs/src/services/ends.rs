@@ -44,7 +44,7 @@ pub(crate) enum Step {
     CallResult(u32, u16),
     /// All bytes go over.
     Carry,
-    /// The client finishes a question before its outcome, and all bytes go over.
+    /// The client finishes a question before it takes its outcome, and all bytes go over.
     Finish(u32),
     /// All bytes go over. The client takes its first event, and finishes the question.
     Take,

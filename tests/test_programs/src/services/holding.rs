@@ -213,6 +213,13 @@ impl Holders {
         self.call(rt, 0, OWN, With::Word(number)).1.expect(rt, "an import")
     }
 
+    /// Asks for the server's object of this number, and finishes the question without taking its outcome.
+    fn leave(&mut self, rt: &impl Abort, number: u64) {
+        let asked = self.ends.act(rt, Step::Call(0, OWN, With::Word(number))).asked;
+        self.ends.act(rt, Step::Carry);
+        self.ends.act(rt, Step::Finish(asked.expect(rt, "a question")));
+    }
+
     fn read(&mut self, rt: &impl Abort, import: u32) -> u64 {
         self.call(rt, import, READ, With::Word(0)).0
     }
@@ -244,6 +251,20 @@ fn each_result_is_a_hold(rt: HostRuntime) {
     check!(&rt; holders.read(&rt, first) == 1);
     holders.ends.act(&rt, Step::Release(first));
     check!(&rt; holders.own(&rt, 3) == first);
+    drop(holders);
+}
+
+#[test]
+fn what_an_outcome_names_goes_back_if_it_was_never_taken(rt: HostRuntime) {
+    let mut holders = Holders::new(&rt, rt.alloc());
+    holders.leave(&rt, 1);
+    // The server gives the number again, so it got its release.
+    let first = holders.own(&rt, 2);
+    check!(&rt; first == 1 && holders.read(&rt, first) == 2);
+    // What another result named stays.
+    holders.leave(&rt, 2);
+    check!(&rt; holders.own(&rt, 3) != first);
+    check!(&rt; holders.read(&rt, first) == 2);
     drop(holders);
 }
 

@@ -25,26 +25,26 @@ lay-returns-in-Null t c =
     let words = c.put.ensures.words in
     let most = c.put.ensures.most in
     let same = ap length words in
-    rw (null-shape a.view.now c.in-Null.ensures) (words, (omega (arith, same, length-set a.arena.now.words.items a.at 0, c.requires.arena.0, most), omega (arith, c.requires.arena.1, most)), most, refl)
+    rw (null-shape a.view.now c.in-Null.ensures.is) (words, (omega (arith, same, length-set a.arena.now.words.items a.at 0, c.requires.arena.0, most), omega (arith, c.requires.arena.1, most)), most, refl)
 
 pub lay-returns-in-Cap : goal.lay-returns-in-Cap
-lay-returns-in-Cap t c = ap (λ u. first_cap (cut u)) (cap-shape c.args.view.now c.in-Cap.index c.in-Cap.ensures)
+lay-returns-in-Cap t c = ap (λ u. first_cap (cut u)) (cap-shape c.args.view.now c.in-Cap.index c.in-Cap.ensures.is)
 
 pub lay-lay_struct-requires : goal.lay-lay_struct-requires
 lay-lay_struct-requires t c =
-    let top = struct-top c.args.view.now c.in-Struct.words c.in-Struct.ptrs c.in-Struct.ensures in
+    let top = struct-top c.args.view.now c.in-Struct.words c.in-Struct.ptrs c.in-Struct.ensures.is in
     (omega arith, (c.requires.arena, (c.requires.there, (c.requires.shaped, (top.0, top.1)))))
 
 pub lay-lay_ptrs-requires : goal.lay-lay_ptrs-requires
 lay-lay_ptrs-requires t c =
     let v = c.args.view.now in
-    let top = ptrs-shape v c.in-List.count (subst (λ s. shapes.List s c.in-List.count ≡ shape_of v) c.in-Pointer.is c.in-List.ensures) in
+    let top = ptrs-shape v c.in-List.count (subst (λ s. shapes.List s c.in-List.count ≡ shape_of v) c.in-Pointer.is c.in-List.ensures.is) in
     (omega arith, (c.requires.arena, (c.requires.there, (c.requires.shaped, (top.0, top.1)))))
 
 pub lay-lay_list-requires : goal.lay-lay_list-requires
 lay-lay_list-requires t c =
     let v = c.args.view.now in
-    let is = list-shape v c.in-List.size c.in-List.count c.in-List.ensures (λ e. c.in_default.not-Pointer (sym e)) in
+    let is = list-shape v c.in-List.size c.in-List.count c.in-List.ensures.is (λ e. c.in_default.not-Pointer (sym e)) in
     let held = is.held c.words.result.now c.words.ensures in
     record { arena = c.requires.arena; there = c.requires.there; few = is.few c.requires.shaped; plain = is.data_only; fit = subst Shaped held.0 c.requires.shaped; words = held.1 }
 
@@ -52,13 +52,13 @@ pub lay-returns-in_default : goal.lay-returns-in_default
 lay-returns-in_default t c =
     let a = c.args in
     let v = a.view.now in
-    let is = list-shape v c.in-List.size c.in-List.count c.in-List.ensures (λ e. c.in_default.not-Pointer (sym e)) in
+    let is = list-shape v c.in-List.size c.in-List.count c.in-List.ensures.is (λ e. c.in_default.not-Pointer (sym e)) in
     let held = is.held c.words.result.now c.words.ensures in
     subst (λ u. Writes {X = Unit {0}} a.arena.now c.lay_list.new.arena c.lay_list.result (first_cap (cut u)) (with_tree a.at (cut u))) (sym held.0) c.lay_list.ensures
 
 pub lay-lay_structs-requires : goal.lay-lay_structs-requires
 lay-lay_structs-requires t c =
-    (omega arith, (c.requires.arena, (c.requires.there, (c.requires.shaped, structs-shape c.args.view.now c.in-Structs.words c.in-Structs.ptrs c.in-Structs.count c.in-Structs.ensures))))
+    (omega arith, (c.requires.arena, (c.requires.there, (c.requires.shaped, structs-shape c.args.view.now c.in-Structs.words c.in-Structs.ptrs c.in-Structs.count c.in-Structs.ensures.is))))
 
 pub lay_struct-returns-in_err-begin_struct : goal.lay_struct-returns-in_err-begin_struct
 lay_struct-returns-in_err-begin_struct t c =

@@ -13,13 +13,13 @@ pub loop-i-preserved : goal.loop-i-preserved
 loop-i-preserved c =
     let v = c.args.view.now in
     let within : c.loop-i.i - 1 < count (row_of v) = omega (arith, c.requires.all, c.loop-i-test.true, c.loop-i.auto.i) in
-    let null = null-shape c.child.result c.in-Null.ensures in
+    let null = null-shape c.child.result c.in-Null.ensures.is in
     used_ptrs-skips (row_of v) (c.loop-i.i - 1) (omega (arith, c.loop-i.invariant, c.loop-i-test.true)) (ap is_null (sym (part-row v (c.loop-i.i - 1) within) ∙ sym c.child.ensures ∙ null))
 
 pub returns-in_default : goal.returns-in_default
 returns-in_default c =
     let v = c.args.view.now in
     let within : c.loop-i.i - 1 < count (row_of v) = omega (arith, c.requires.all, c.loop-i-test.true, c.loop-i.auto.i) in
-    let some = some-shape c.child.result (λ e. c.in_default.not-Null (c.shape.ensures ∙ sym e)) in
+    let some = some-shape c.child.result (λ e. c.in_default.not-Null (c.shape.ensures.is ∙ sym e)) in
     let stops = used_ptrs-stops (row_of v) (c.loop-i.i - 1) (omega (arith, c.loop-i.invariant, c.loop-i-test.true)) (ap is_null (sym (part-row v (c.loop-i.i - 1) within) ∙ sym c.child.ensures) ∙ some) in
     record { used = omega (arith, stops, c.loop-i-test.true); within = omega (arith, c.loop-i.auto.i, c.loop-i-test.true) }

@@ -6,7 +6,7 @@ use Rattle.cp_dispatch.proofs.Working.{after_ok}
 use Rattle.cp_dispatch.proofs.dispatcher.Dispatcher.make_call.Goals as goal
 
 pub returns-in-Ok-clause-done : goal.returns-in-Ok-clause-done
-returns-in-Ok-clause-done g c = after_ok c.put.result c.put.ensures.put (λ put. is_made c.in-Ok.question c.call.new.self c.in-Ok.ensures (rw put refl) refl)
+returns-in-Ok-clause-done g c = after_ok c.ask.result c.ask.ensures (λ asks. is_made c.in-Ok.question c.call.new.self c.in-Ok.ensures (asks c.call.new.self) refl)
 
 pub returns-in-Ok-clause-lives : goal.returns-in-Ok-clause-lives
 returns-in-Ok-clause-lives g c = lives_call c.args.connection.now c.call.new.self c.args.next_call.cap c.args.next_call.request c.call.result c.call.ensures

@@ -44,6 +44,6 @@ returns-clause-received g c =
       got.1,
       ended_by c.held-has_ended.result.came _ (c.held-has_ended.ensures.came ∙ ap taken_of (same_reading _ _ _ got.2)),
       works_off_lent g.H.ObjectTable.table _ (work_of c.args.self.now c.args.connection.now) got.0 _ _ _ _ _ _ got.2 c.in_ok-answer_lent.ensures.done (rw c.reuse.ensures at c.in_ok-work_off.ensures.done),
-      c.in_ok-cancel.ensures.done,
+      rw c.answer_given_up.ensures at c.in_ok-cancel.ensures.done,
       lives_both (lives_both (lives_both (hands_lives _ _ _ got.2) c.answer_lent.ensures.lives) (rw c.reuse.ensures at c.work_off.ensures.lives)) c.cancel.ensures.lives,
     )

@@ -6,7 +6,7 @@ use Rattle.cp_rpc.proofs.source.ViewSource.item.Goals as goal
 pub prove-unreachable-requires : goal.prove-unreachable-requires
 prove-unreachable-requires c =
     let s = item-shape c.args.self.now c.args.i c.requires in
-    let counted = ap count_in (sym c.in-Structs.is ∙ c.shape.ensures ∙ s.2) in
+    let counted = ap count_in (sym c.in-Structs.is ∙ c.shape.ensures.is ∙ s.2) in
     omega (arith, counted, c.requires, c.if-prove.true)
 
 pub returns : goal.returns
