@@ -1,6 +1,7 @@
 #!/usr/bin/env bash
 # run.sh COMMAND BUILD [COUNT]    COUNT random sessions (10,000 by default) of the reference library's client and server through a guard with
-#                                 rules: nothing that isn't allowed comes to the server, and all else goes as it does without the guard
+#                                 rules: nothing that isn't allowed comes to the server, and all else goes as it does without the guard.
+#                                 Then the same by rules on what calls gave: a drawer's methods go on what `open` and `ask` gave
 set -eu
 command=$1 build=$2 count=${3:-10000}
 served=17121 relayed=17122
@@ -26,3 +27,10 @@ sessions() { # COUNT SEED WORD..    sessions through a guard with these words to
 sessions "$count" 1
 sessions "$((count / 10 + 1))" 2 --anew
 sessions 20 3 --log | grep -c 'is not allowed'
+
+rules=(--schema "$build/guard/desk.request" --allow Desk.give --allow Desk.echo)
+for method in Desk.open Desk.ask; do rules+=(--allow "$method -> Drawer.look" --allow "$method -> Drawer.light"); done
+sessions "$((count / 2 + 1))" 4
+for word in "${rules[@]:2}"; do [ "$word" = --allow ] || echo "allow $word"; done > "$build/guard/rules"
+rules=(--schema "$build/guard/desk.request" --rules "$build/guard/rules")
+sessions "$((count / 10 + 1))" 5 --anew

@@ -5,6 +5,7 @@
 #
 # `show --json` prints what `capnp convert binary:json --short` does, byte for byte. `encode --json` makes of that the trees that
 # `json:binary` does, byte for byte once `recut` has written each in one segment. `show --json --pretty` is the same JSON for `jq`.
+# mangled.py changes JSON and frames at random, SEEDS times five of three schemas.
 set -eu
 command=$(realpath "$1")
 mkdir -p "$2" && room=$(cd "$2" && pwd)
@@ -93,6 +94,11 @@ for seed in $(seq "$seeds"); do
     random "$seed" "s$seed"
     random "$seed" "s${seed}_old"
     rm -f "$room/s$seed"[._]*
+done
+for it in "every Every" "floats Floats" "newer Thing"; do
+    read -r name struct <<<"$it"
+    capnp encode "$fields/$name.capnp" "$struct" <"$fields/$name.txt" >"$room/frames"
+    "$here/mangled.py" "$command" "$room/$name.request" "$struct" "$room/frames" "$room" "$((seeds * 5))" || failed=1
 done
 echo "$lines lines of $schemas random schemas and of 6 others are the same; $refused times refused by the reference tool"
 exit "$failed"

@@ -4,7 +4,7 @@
     limits.py COMMAND [NAME..]    a line for each trial: how it ended, the longest call of another connection meanwhile, and the process's
                                   memory before, at most and afterwards; the status is 0 if each went as it should
 
-The process is `serve` as store@.service has it, with a shorter --idle, and with a guard before it where the trial says so.
+The process is `serve` as store@.service has it, with a shorter --idle, without the balancer, and with a guard before it where the trial says so.
 """
 import contextlib
 import os

@@ -79,8 +79,12 @@ class Place:
         """A process of the service, as store@.service starts it."""
         path = self.folder / name
         path.unlink(missing_ok=True)
-        self.start(f"process {name}", COMMAND, "serve", "--at-once", "1000", "--idle", "300", *options, "--socket", path, "-")
+        self.start(f"process {name}", COMMAND, "serve", "--behind-proxy", "--at-once", "1000", "--idle", "300", *options, "--socket", path, "-")
         wait_until(path.exists)
+
+    def said(self, name):
+        """What it printed."""
+        return (self.folder / f"{name}.log").read_text()
 
     def share(self, name):
         """A process of the example whose texts lie in Redis."""
@@ -192,7 +196,7 @@ def tls(place):
     said = place.run(COMMAND, "call", f"127.0.0.1:{place.near}", "i=e5a1000000000001 m=0")
     assert said.stdout == "question:1 results {(;cap:0) caps[import:1]}\n", said.stdout
     refuse_strangers(place)
-    ended = [it for it in (place.folder / "balancer.log").read_text().splitlines() if '"/CN=client" process ' in it]
+    ended = [it for it in place.said("balancer").splitlines() if '"/CN=client" process ' in it]
     assert len(ended) >= 2, "no line has the client's certificate"
     # One whose server has another name.
     wrong = place.join("wrong", free_port(), SERVER_NAME="other.example.org")
@@ -258,6 +262,21 @@ def killed(place):
     for it in peers:
         it.close()
     return f"{shares['2']} of 40 connections ended, and 100 new sessions went"
+
+
+def named(place):
+    """A process knows who each client is, by the balancer, and takes no connection that doesn't say so."""
+    begin(place)
+    with socket.create_connection(("127.0.0.1", place.port)) as plain:
+        client = "127.0.0.1:%d" % plain.getsockname()[1]
+        with tls_context(place, "client").wrap_socket(plain, server_hostname=NAME) as it:
+            it.sendall(b"\xff" * 8)
+            wait_until(lambda: any(f"(peer {client})" in place.said(f"process {name}") for name in NAMES))
+    for first in (bootstrap(0) + call(1), b"PROXY TCP4 127.0.0.1\r\n"):
+        peer = Peer(str(place.folder / "1")).send(first)
+        assert peer.is_closed(), "one without a header was served"
+        peer.close()
+    assert not any("(peer unix)" in place.said(f"process {it}") for it in NAMES), "a peer has no address"
 
 
 class Visitors:
@@ -327,8 +346,11 @@ def comes_back(place):
     assert done and int(done[1]) >= 6, said
     request = place.folder / "store.request"
     request.write_bytes(subprocess.run(["capnp", "compile", "-o-", TOP / "tests/store/store.capnp"], stdout=subprocess.PIPE, check=True).stdout)
+    wait_until(lambda: place.are_up("1", "2"))
     for it in NAMES[:2]:
-        got = place.run(COMMAND, "call", "--schema", request, f"unix:{place.folder}/{it}", 'get (key = "colour")').stdout
+        place.ask(f"set server store/{it} state drain")
+        got = place.run(COMMAND, "call", "--schema", request, f"127.0.0.1:{near[1]}", 'get (key = "colour")').stdout
+        place.ask(f"set server store/{it} state ready")
         assert got == 'question:1 results Store.get (value = "blue")\n', got
     return f"{done[1]} times its connection was lost"
 
@@ -359,7 +381,7 @@ def lines_of(unit):
 
 def words_of(place, unit, key="ExecStart"):
     """The command of a unit, by hand: with this command and this folder."""
-    text = lines_of(unit)[key].removeprefix("-").replace("%i", "1").replace("${STORE}", str(place.folder)).replace("/run/store", str(place.folder))
+    text = lines_of(unit)[key].removeprefix("-").replace("$PROXY ", "").replace("%i", "1").replace("${STORE}", str(place.folder)).replace("/run/store", str(place.folder))
     text = text.replace("/usr/local/bin/capnp_cli", COMMAND).replace("/usr/local/lib/store", str(SAMPLES)).replace("/etc/store", str(place.folder))
     return shlex.split(text)
 
@@ -393,7 +415,7 @@ def units(place):
     assert "not allowed: Desk.later" in refused, refused
 
 
-TRIALS = [tls, killed, drained, comes_back, figures, units]
+TRIALS = [tls, named, killed, drained, comes_back, figures, units]
 
 
 def main():

@@ -1,9 +1,9 @@
 //! Calls over a socket.
 
 use crate::asking::converse;
-use crate::fault::CommandFault;
+use crate::fault::{CommandFault, failed};
 use crate::words::calls_of;
-use cp_commands::{ACCEPTED, CallPlan, REFUSED, schema_at, tell_hint};
+use cp_commands::{ACCEPTED, CallPlan, REFUSED, schema_at};
 use cp_schema::Schema;
 use net_client::{Address, ConnectOptions, DuplexStream};
 use std::io;
@@ -31,15 +31,7 @@ fn call_by(rt: &HostRuntime, plan: &CallPlan, schema: Option<&Schema>) -> u8 {
     match call_all(rt, plan, schema) {
         Ok(true) => ACCEPTED,
         Ok(false) => REFUSED,
-        Err(fault) => {
-            let mut err = rt.stderr();
-            let status = fault.tell(&mut err);
-            if let Some(hint) = fault.hint() {
-                tell_hint(&mut err, hint);
-            }
-            drop(fault);
-            status
-        }
+        Err(fault) => failed(rt, fault),
     }
 }
 
@@ -60,7 +52,7 @@ fn call_all<'p>(
 }
 
 /// A connection to an address.
-fn connect<'r, 'p>(
+pub(crate) fn connect<'r, 'p>(
     rt: &'r HostRuntime,
     address: &'p str,
     timeout: Option<u32>,

@@ -3,13 +3,12 @@
 use crate::fault::CommandFault;
 use crate::log::Log;
 use crate::logged::Logged;
+use crate::outcomes::OutcomeForm;
 use cp_client::{Client, ClientFault, Question};
 use cp_commands::{CallPlan, peer_hint};
 use cp_connection::ConnectionFault;
-use cp_lines::push_outcome_of;
-use cp_methods::{ResultsForm, results_line};
 use cp_refs::{Cap, Outcome, Request};
-use cp_schema::{MethodNumber, Schema, json_string};
+use cp_schema::{MethodNumber, Schema};
 use cp_stream::DeviceError;
 use net_client::DuplexStream;
 use std::alloc::Global;
@@ -29,11 +28,10 @@ pub(crate) fn converse<'p, O: Write>(
 ) -> Result<bool, CommandFault<'p>> {
     let log = RefCell::new(Log::new(alloc, plan));
     let peer = Peer {
-        alloc,
+        form: OutcomeForm::new(alloc, schema, plan),
         stream: &stream,
         log: &log,
         plan,
-        schema,
     };
     let (from, to) = (Logged::new(&stream, &log), Logged::new(&stream, &log));
     let mut client = Client::new(alloc, from, to, plan.mode, plan.limits);
@@ -61,12 +59,11 @@ type PeerClient<'a, 'r> = Client<LoggedStream<'a, 'r>, LoggedStream<'a, 'r>>;
 /// The peer of a client: by what its answers are printed, and what is told where it fails.
 /// It is apart from the client, which would cost each function here a proof of what it is made of.
 #[derive(Clone, Copy)]
-struct Peer<'a, 'r, 'p> {
-    alloc: Global,
-    stream: &'a DuplexStream<'r, HostRuntime>,
-    log: &'a RefCell<Log>,
-    plan: &'a CallPlan<'p, 'a>,
-    schema: Option<&'a Schema>,
+pub(crate) struct Peer<'a, 'r, 'p> {
+    pub(crate) form: OutcomeForm<'a>,
+    pub(crate) stream: &'a DuplexStream<'r, HostRuntime>,
+    pub(crate) log: &'a RefCell<Log>,
+    pub(crate) plan: &'a CallPlan<'p, 'a>,
 }
 
 /// A call that is made.
@@ -83,7 +80,7 @@ fn ask<'p, O: Write>(
     calls: Vec<(Cap, Request)>,
     out: &mut O,
 ) -> Result<bool, CommandFault<'p>> {
-    let mut asked = Vec::new(peer.alloc);
+    let mut asked = Vec::new(peer.form.alloc);
     let told = match call_all(client, calls, &mut asked) {
         Ok(()) => tell_all(client, peer, &asked, out),
         Err(fault) => Err(fault),
@@ -166,57 +163,27 @@ impl<'a, 'r, 'p> Peer<'a, 'r, 'p> {
         Ok(has_results)
     }
 
-    /// Prints what a call came to: by the names of the schema, where there is one that has its method, else by numbers, which in
-    /// JSON are a string.
+    /// Prints what a call came to.
     fn print<O: Write>(
         &self,
         asked: Asked,
         outcome: &Outcome,
         out: &mut O,
     ) -> Result<(), CommandFault<'p>> {
-        let mut plain = String::new(self.alloc);
-        push_outcome_of(self.alloc, &mut plain, asked.question.number, outcome)?;
-        match self.named(&plain, asked.method, outcome)? {
-            Some(line) => {
-                let printed = self.print_line(line.as_str(), out);
-                drop(line);
-                printed
-            }
-            None => self.print_line(&plain, out),
-        }
-    }
-
-    /// The line of what a call came to by the names of the schema.
-    fn named(
-        &self,
-        plain: &str,
-        method: MethodNumber,
-        outcome: &Outcome,
-    ) -> Result<Option<String>, CommandFault<'p>> {
-        let Some(schema) = self.schema else {
-            return Ok(None);
-        };
-        let form = ResultsForm {
-            schema,
-            notation: self.plan.notation,
-            limits: self.plan.limits,
-        };
-        let line = match outcome {
-            Outcome::Results { content, .. } => {
-                results_line(self.alloc, &form, method, plain, content)?
-            }
-            _ => None,
-        };
-        match line {
-            None if form.notation.is_json() => {
-                Ok(Some(json_string(self.alloc, schema, plain.trim_end_matches('\n'))?))
-            }
-            line => Ok(line),
-        }
+        let line = self
+            .form
+            .line(asked.question.number, Some(asked.method), outcome)?;
+        let printed = self.print_line(&line, out);
+        drop(line);
+        printed
     }
 
     /// Why the calls of this client come to nothing.
-    fn fault(&self, client: &PeerClient<'_, '_>, fault: ClientFault) -> CommandFault<'p> {
+    pub(crate) fn fault(
+        &self,
+        client: &PeerClient<'_, '_>,
+        fault: ClientFault,
+    ) -> CommandFault<'p> {
         match fault {
             ClientFault::Device(error) => self.device(error),
             fault => self.refusal(client, fault),
@@ -226,7 +193,7 @@ impl<'a, 'r, 'p> Peer<'a, 'r, 'p> {
     /// The same, where no device failed.
     fn refusal(&self, client: &PeerClient<'_, '_>, fault: ClientFault) -> CommandFault<'p> {
         if let Some(reason) = client.closed() {
-            match format!(in self.alloc; "{reason}") {
+            match format!(in self.form.alloc; "{reason}") {
                 Ok(reason) => return CommandFault::Closed(reason),
                 Err(error) => return CommandFault::from(error),
             }

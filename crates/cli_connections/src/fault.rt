@@ -1,10 +1,11 @@
 //! What stops a conversation.
 
 use cp_client::ClientFault;
-use cp_commands::{BROKEN, CLOSED, REFUSED, limit_hint};
+use cp_commands::{BROKEN, CLOSED, REFUSED, limit_hint, tell_hint};
 use cp_connection::ConnectionFault;
 use cp_encoder::{EncodeFault, NotationFault};
 use cp_lines::Wrong;
+use cp_recordings::SessionFault;
 use cp_schema::DecodeFault;
 use std::alloc::{AllocError, AllocFailed};
 use std::fmt::{self, Display};
@@ -42,6 +43,11 @@ pub(crate) enum CommandFault<'a> {
     Device {
         address: &'a str,
         error: io::Error,
+    },
+    /// The recording of this path can't be read to its end.
+    Recording {
+        path: &'a str,
+        fault: SessionFault,
     },
     /// What is printed can't be written.
     Printing(io::Error),
@@ -97,9 +103,26 @@ impl CommandFault<'_> {
             | CommandFault::Unmade { .. }
             | CommandFault::Refused(_)
             | CommandFault::Foreign { .. } => REFUSED,
+            CommandFault::Recording {
+                fault: SessionFault::Refused(..)
+                | SessionFault::Short(_)
+                | SessionFault::OutOfMemory,
+                ..
+            } => REFUSED,
             _ => BROKEN,
         }
     }
+}
+
+/// The status after this, which a line on standard error says.
+pub(crate) fn failed(rt: &HostRuntime, fault: CommandFault) -> u8 {
+    let mut err = rt.stderr();
+    let status = fault.tell(&mut err);
+    if let Some(hint) = fault.hint() {
+        tell_hint(&mut err, hint);
+    }
+    drop(fault);
+    status
 }
 
 impl Display for CommandFault<'_> {
@@ -118,6 +141,11 @@ impl Display for CommandFault<'_> {
             CommandFault::File { path, error } => device(f, path, error),
             CommandFault::PayloadBuilder { path } => write!(f, "refused: {path} isn't a message"),
             CommandFault::Device { address, error } => device(f, address, error),
+            CommandFault::Recording {
+                path,
+                fault: SessionFault::Line(number),
+            } => write!(f, "{path}/{}", SessionFault::Line(*number)),
+            CommandFault::Recording { fault, .. } => fault.fmt(f),
             CommandFault::Printing(error) => device(f, "can't write", error),
             CommandFault::Silent { address, seconds } => {
                 write!(f, "device: {address}: nothing came for {seconds} s")

@@ -1,9 +1,9 @@
 //! Serving connections of an address or of a path, many at once.
 
-use crate::objects::sample_objects;
-use cp_commands::{ACCEPTED, BROKEN, ListenAddress, REFUSED, Service};
+use crate::counted::{Calls, CountedSample, counted_objects, new_calls};
+use crate::figures::ServiceFigures;
+use cp_commands::{ACCEPTED, BROKEN, FIGURES_EVERY, ListenAddress, REFUSED, Service};
 use cp_objects::ServantObject;
-use cp_servants::Sample;
 use cp_session::SessionLimits;
 use cp_words::Limits;
 use net_host::{End, Host, HostConfig, HostEvent, HostLimits, WhenFull};
@@ -14,6 +14,9 @@ use std::io::{self, Write};
 use std::net::Net;
 use std::time::Clock;
 
+/// A host of sample objects.
+type SampleHost = Host<ServantObject<CountedSample>>;
+
 /// Serves connections, each with a Desk and a Cell of its own, as many at once as the service says. When it listens, a line of
 /// `err` says where: `listening on ADDRESS:PORT`, or `listening on PATH`.
 ///
@@ -23,7 +26,7 @@ use std::time::Clock;
 pub(crate) fn serve_hosted<N, E: Write>(
     rt: &N,
     place: &ListenAddress,
-    service: &Service,
+    service: &Service<'_>,
     err: &mut E,
 ) -> u8
 where
@@ -39,7 +42,7 @@ where
 }
 
 /// The plan of a service's host.
-fn host_plan(service: &Service) -> HostConfig {
+fn host_plan(service: &Service<'_>) -> HostConfig {
     let standard = SessionLimits::standard();
     let idle = match service.idle {
         Some(seconds) => seconds as u64 * 1_000,
@@ -63,33 +66,79 @@ fn host_plan(service: &Service) -> HostConfig {
 fn serve_all<N, E: Write>(
     rt: &N,
     place: &ListenAddress,
-    service: &Service,
+    service: &Service<'_>,
     err: &mut E,
 ) -> io::Result<u8>
 where
     N: Net + Files + Clock + AllocGlobal,
 {
     let listener = listener_at(rt, place, err)?;
-    let mut host = Host::new(rt, host_plan(service), listener)?;
-    run(rt, &mut host, err)
+    let listener = if service.behind_proxy {
+        listener.behind_proxy()
+    } else {
+        listener
+    };
+    let host = Host::new(rt, host_plan(service), listener)?;
+    serve_host(rt, host, service, err)
+}
+
+/// Serves the connections of a host, and gives the status.
+fn serve_host<N, E: Write>(
+    rt: &N,
+    mut host: SampleHost,
+    service: &Service<'_>,
+    err: &mut E,
+) -> io::Result<u8>
+where
+    N: Net + Files + Clock + AllocGlobal,
+{
+    let served = match new_calls(rt.alloc()) {
+        Ok(calls) => {
+            let mut figures = ServiceFigures::new(service);
+            let served = run(rt, &mut host, &mut figures, &calls, err);
+            drop(calls);
+            served
+        }
+        Err(error) => Err(io::Error::from(error)),
+    };
+    drop(host);
+    served
 }
 
 /// Serves the connections of a host until the last has ended, and gives the status.
-fn run<N, E: Write>(rt: &N, host: &mut Host<ServantObject<Sample>>, err: &mut E) -> io::Result<u8>
+fn run<N, E: Write>(
+    rt: &N,
+    host: &mut SampleHost,
+    figures: &mut ServiceFigures<'_>,
+    calls: &Calls,
+    err: &mut E,
+) -> io::Result<u8>
 where
-    N: Net + Clock + AllocGlobal,
+    N: Net + Files + Clock + AllocGlobal,
 {
+    if figures.is_told() {
+        // The first numbers are there at once.
+        host.wake_after(rt, 0)?;
+    }
     let mut first = ACCEPTED;
     for _ in 0..u64::MAX {
         let Some(news) = host.next(rt)? else {
             break;
         };
-        let status = hear(rt.alloc(), host, &news, err);
+        figures.note(&news);
+        let is_woken = matches!(&news, HostEvent::Woken);
+        let status = hear(rt.alloc(), host, &news, calls, err);
         drop(news);
         if first == ACCEPTED {
             first = status;
         }
+        if is_woken {
+            figures.tell(rt, host.figures(), calls, err);
+            host.wake_after(rt, FIGURES_EVERY)?;
+        }
     }
+    figures.tell(rt, host.figures(), calls, err);
+    figures.tell_line(host.figures(), calls, err);
     Ok(first)
 }
 
@@ -97,12 +146,13 @@ where
 /// others go on.
 fn hear<E: Write>(
     alloc: Global,
-    host: &mut Host<ServantObject<Sample>>,
+    host: &mut SampleHost,
     news: &HostEvent,
+    calls: &Calls,
     err: &mut E,
 ) -> u8 {
     match news {
-        HostEvent::Connected { peer, .. } => match admit(alloc, host) {
+        HostEvent::Connected { peer, .. } => match admit(alloc, host, calls) {
             Ok(()) => ACCEPTED,
             Err(error) => report(&End::Failed(error), *peer, err),
         },
@@ -112,8 +162,8 @@ fn hear<E: Write>(
 }
 
 /// Serves the connection that came last with a Desk and a Cell.
-fn admit(alloc: Global, host: &mut Host<ServantObject<Sample>>) -> io::Result<()> {
-    host.admit(sample_objects(alloc)?)
+fn admit(alloc: Global, host: &mut SampleHost, calls: &Calls) -> io::Result<()> {
+    host.admit(counted_objects(alloc, calls)?)
 }
 
 /// Listens, and says where.

@@ -2,7 +2,6 @@
 
 use cp_commands::{BROKEN, REFUSED};
 use cp_frame::Mode;
-use cp_objects::{Objects, ServantObject};
 use cp_servants::{Cell, Desk, Sample};
 use cp_serve::{ServeFault, serve_each};
 use cp_stream::{StreamFault, Tap};
@@ -25,11 +24,6 @@ pub(crate) enum Ending {
 /// Why a connection wasn't served to its end, as a line says it.
 #[derive(Clone, Copy)]
 pub(crate) struct Unserved(pub ServeFault);
-
-/// A Desk and a Cell, as the objects of a session.
-pub(crate) fn sample_objects(alloc: Global) -> Result<Objects<ServantObject<Sample>>, AllocError> {
-    Objects::of_servants(alloc, samples(alloc)?)
-}
 
 /// A Desk and a Cell.
 fn samples(alloc: Global) -> Result<Vec<Sample>, AllocError> {

@@ -1,6 +1,7 @@
 //! A command's arguments, and what was given for those that several commands have.
 
 use clap::{Arg, ArgAction, ArgMatches, Command, value_parser};
+use cp_commands::InputFile;
 use cp_frame::Mode;
 use cp_schema::Notation;
 use cp_words::Limits;
@@ -35,6 +36,13 @@ pub(crate) const FILE: Argument = Argument {
     name: "FILE",
     form: ArgumentForm::Place,
     help: "A file of frames, one after another; - is standard input",
+};
+
+/// No word of how far a command has come.
+pub(crate) const NO_PROGRESS: Argument = Argument {
+    name: "no-progress",
+    form: ArgumentForm::Flag,
+    help: "Don't show a terminal how much of a long file was read",
 };
 
 /// JSON on several lines.
@@ -102,6 +110,12 @@ pub(crate) enum ArgumentForm {
     Number(&'static str, i64),
     /// The same, which has to be there.
     Size(&'static str, i64),
+    /// An option with a number from this one to 4,294,967,295, which isn't taken without one option.
+    NumberBeside {
+        value: &'static str,
+        least: i64,
+        needs: &'static str,
+    },
     /// A text by its place.
     Place,
     /// A text by its place, which may be missing.
@@ -129,7 +143,9 @@ impl Argument {
                 excludes,
                 ..
             } => beside(arg, needs, excludes),
-            ArgumentForm::FlagBeside(needs) => beside(arg, Some(needs), None),
+            ArgumentForm::FlagBeside(needs) | ArgumentForm::NumberBeside { needs, .. } => {
+                beside(arg, Some(needs), None)
+            }
             _ => Ok(arg),
         }
     }
@@ -149,8 +165,11 @@ impl Argument {
                 .long(self.name)
                 .value_name(value),
             ArgumentForm::Needed(value) => { arg.long(self.name).value_name(value).required(true) }
-            ArgumentForm::Number(value, most) => self.number(arg, value, most),
-            ArgumentForm::Size(value, most) => self.number(arg, value, most).required(true),
+            ArgumentForm::Number(value, most) => self.number(arg, value, 1, most),
+            ArgumentForm::Size(value, most) => self.number(arg, value, 1, most).required(true),
+            ArgumentForm::NumberBeside { value, least, .. } => {
+                self.number(arg, value, least, 4_294_967_295)
+            }
             ArgumentForm::Place => arg.required(true),
             ArgumentForm::Last => arg,
             ArgumentForm::Places => arg.required(true).num_args(1..),
@@ -161,11 +180,11 @@ impl Argument {
         }
     }
 
-    /// An option with a number.
-    fn number<'a>(&self, arg: Arg<'a>, value: &'static str, most: i64) -> Arg<'a> {
+    /// An option with a number from one to another.
+    fn number<'a>(&self, arg: Arg<'a>, value: &'static str, least: i64, most: i64) -> Arg<'a> {
         arg.long(self.name)
             .value_name(value)
-            .value_parser(value_parser!(u32).range(1..=most))
+            .value_parser(value_parser!(u32).range(least..=most))
     }
 }
 
@@ -211,6 +230,14 @@ fn with<'a>(
             Err(error)
         }
     }
+}
+
+/// The file that is read, if there is one.
+pub(crate) fn input_of<'a>(matches: &ArgMatches<'a>) -> Option<InputFile<'a>> {
+    Some(InputFile {
+        path: matches.get_str("FILE")?,
+        shows_progress: !matches.get_flag("no-progress"),
+    })
 }
 
 /// The form that was given.

@@ -4,7 +4,7 @@ use crate::arguments::{
     Argument, ArgumentForm, COUNT, FILE, MOST_WORDS, NESTING, PACKED, PORT, PRETTY, TRAVERSAL,
     Words, limits_of, mode_of, printed_notation_of,
 };
-use crate::serving::{LISTEN, address};
+use crate::serving::{FIGURES, LISTEN, address};
 use crate::sessions::{RECORD, RECORD_MOST, record_of};
 use clap::ArgMatches;
 use cp_commands::{CallPlan, Guarding, RelayForm, RelayRoute, RelayTask, Task, TypesPlan};
@@ -65,7 +65,7 @@ const ALLOW: Argument = Argument {
         needs: Some("schema"),
         excludes: Some("deny"),
     },
-    help: "Let calls of METHOD through, as Store.get, and of no method without such a rule",
+    help: "Let calls of METHOD through, as Store.get, and of no method without such a rule; METHOD -> GIVEN lets GIVEN be called on what they gave",
 };
 
 /// The methods that may not be called.
@@ -87,7 +87,7 @@ const RULES: Argument = Argument {
         needs: Some("schema"),
         excludes: None,
     },
-    help: "More rules, a line each: allow METHOD, or deny METHOD",
+    help: "More rules, a line each: allow METHOD, allow METHOD -> GIVEN, or deny METHOD",
 };
 
 /// Whether a refusal closes the connection.
@@ -133,14 +133,14 @@ const MESSAGES: Argument = Argument {
 };
 
 /// How long nothing may come.
-const TIMEOUT: Argument = Argument {
+pub(crate) const TIMEOUT: Argument = Argument {
     name: "timeout",
     form: ArgumentForm::Number("SECONDS", 86_400),
     help: "Give up where nothing comes for so long; without it there is no end",
 };
 
 /// The schema by which calls are named.
-const SCHEMA: Argument = Argument {
+pub(crate) const SCHEMA: Argument = Argument {
     name: "schema",
     form: ArgumentForm::Text("REQUEST"),
     help: "Name methods and fields by a schema: what `capnp compile -o- X.capnp` prints",
@@ -179,7 +179,7 @@ const DESCRIBE: Argument = Argument {
 };
 
 /// Whose objects are called.
-const ADDRESS: Argument = Argument {
+pub(crate) const ADDRESS: Argument = Argument {
     name: "ADDRESS",
     form: ArgumentForm::Place,
     help: "HOST:PORT, or the path of a Unix socket, with a slash or after unix:",
@@ -222,11 +222,12 @@ pub(crate) const RELAY: Words = Words {
          Examples:\n\
          \x20 capnp_cli relay --show 7001 127.0.0.1:7000 1\n\
          \x20 capnp_cli relay --record seen 7001 127.0.0.1:7000 1\n\
-         \x20 capnp_cli relay --schema store.request --allow Store.get --allow Store.list 7001 127.0.0.1:7000 1",
+         \x20 capnp_cli relay --schema store.request --allow Store.get --allow Store.list 7001 127.0.0.1:7000 1\n\
+         \x20 capnp_cli relay --schema queue.request --allow 'Queue.submit -> Handle.*' 7001 127.0.0.1:7000 1",
 };
 
 /// The arguments of `relay`.
-pub(crate) static RELAY_ARGUMENTS: [Argument; 22] = [
+pub(crate) static RELAY_ARGUMENTS: [Argument; 23] = [
     PACKED,
     OTHER,
     ANEW,
@@ -245,6 +246,7 @@ pub(crate) static RELAY_ARGUMENTS: [Argument; 22] = [
     BYTES_A_SECOND,
     RECORD,
     RECORD_MOST,
+    FIGURES,
     LISTEN,
     PORT,
     TARGET,
@@ -327,6 +329,7 @@ pub(crate) fn relay_of<'a, 'b>(matches: &'b ArgMatches<'a>) -> Option<Task<'a, '
         form,
         guarding: guarding_of(matches),
         record: record_of(matches),
+        figures: matches.get_str("figures"),
     }))
 }
 

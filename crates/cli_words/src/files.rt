@@ -1,12 +1,12 @@
 //! The words of the commands on a file.
 
 use crate::arguments::{
-    Argument, ArgumentForm, FILE, MOST_WORDS, NESTING, PACKED, PRETTY, TRAVERSAL, Words, limits_of,
-    mode_of, notation_of, printed_notation_of,
+    Argument, ArgumentForm, FILE, MOST_WORDS, NESTING, NO_PROGRESS, PACKED, PRETTY, TRAVERSAL,
+    Words, input_of, limits_of, mode_of, notation_of, printed_notation_of,
 };
 use crate::sessions::{PICTURE, SESSION, SLOW, TIMES, session_of};
 use clap::ArgMatches;
-use cp_commands::{EncodePlan, FileTask, Plan, STDIN, ShowPlan, Task};
+use cp_commands::{EncodePlan, FileTask, InputFile, Plan, STDIN, ShowPlan, Task};
 
 /// The schema by which messages are shown.
 const SCHEMA: Argument = Argument {
@@ -113,9 +113,21 @@ pub(crate) const SHOW: Words = Words {
 };
 
 /// The arguments of `show`.
-pub(crate) static SHOW_ARGUMENTS: [Argument; 13] = [
-    SCHEMA, TYPE, CALLS, SHOWN_JSON, PRETTY, SESSION, TIMES, PICTURE, SLOW, PACKED, NESTING,
-    TRAVERSAL, FILE,
+pub(crate) static SHOW_ARGUMENTS: [Argument; 14] = [
+    SCHEMA,
+    TYPE,
+    CALLS,
+    SHOWN_JSON,
+    PRETTY,
+    SESSION,
+    TIMES,
+    PICTURE,
+    SLOW,
+    PACKED,
+    NESTING,
+    TRAVERSAL,
+    NO_PROGRESS,
+    FILE,
 ];
 
 /// The words of `encode`.
@@ -136,11 +148,12 @@ pub(crate) const ENCODE: Words = Words {
 };
 
 /// The arguments of `encode`.
-pub(crate) static ENCODE_ARGUMENTS: [Argument; 5] = [
+pub(crate) static ENCODE_ARGUMENTS: [Argument; 6] = [
     TEXT_SCHEMA,
     TEXT_TYPE,
     READ_JSON,
     PACKED,
+    NO_PROGRESS,
     TEXTS,
 ];
 
@@ -171,14 +184,22 @@ pub(crate) const CANONICAL: Words = Words {
 };
 
 /// The arguments of `canonical`.
-pub(crate) static CANONICAL_ARGUMENTS: [Argument; 5] = [PACKED, FLAT, NESTING, TRAVERSAL, FILE];
+pub(crate) static CANONICAL_ARGUMENTS: [Argument; 6] = [
+    PACKED,
+    FLAT,
+    NESTING,
+    TRAVERSAL,
+    NO_PROGRESS,
+    FILE,
+];
 
 /// The arguments of `check`.
-pub(crate) static CHECK_ARGUMENTS: [Argument; 5] = [
+pub(crate) static CHECK_ARGUMENTS: [Argument; 6] = [
     ONLY_CANONICAL,
     PACKED,
     NESTING,
     TRAVERSAL,
+    NO_PROGRESS,
     FILE,
 ];
 
@@ -196,7 +217,7 @@ pub(crate) const PACK: Words = Words {
 };
 
 /// The arguments of `pack`.
-pub(crate) static PACK_ARGUMENTS: [Argument; 1] = [FILE];
+pub(crate) static PACK_ARGUMENTS: [Argument; 2] = [NO_PROGRESS, FILE];
 
 /// The words of `unpack`.
 pub(crate) const UNPACK: Words = Words {
@@ -212,7 +233,7 @@ pub(crate) const UNPACK: Words = Words {
 };
 
 /// The arguments of `unpack`.
-pub(crate) static UNPACK_ARGUMENTS: [Argument; 1] = [FILE];
+pub(crate) static UNPACK_ARGUMENTS: [Argument; 2] = [NO_PROGRESS, FILE];
 
 /// The words of `recut`.
 pub(crate) const RECUT: Words = Words {
@@ -228,19 +249,19 @@ pub(crate) const RECUT: Words = Words {
 };
 
 /// The arguments of `recut`.
-pub(crate) static RECUT_ARGUMENTS: [Argument; 3] = [PACKED, WORDS, FILE];
+pub(crate) static RECUT_ARGUMENTS: [Argument; 4] = [PACKED, WORDS, NO_PROGRESS, FILE];
 
 /// What the words of `show` ask for.
 pub(crate) fn show_of<'a, 'b>(matches: &'b ArgMatches<'a>) -> Option<Task<'a, 'b>> {
     if let Some(task) = session_of(matches) {
         return Some(task);
     }
-    let (path, mode) = (matches.get_str("FILE")?, mode_of(matches));
+    let (input, mode) = (input_of(matches)?, mode_of(matches));
     let limits = limits_of(matches)?;
     let Some(request) = matches.get_str("schema") else {
         return Some(Task::OnFile(FileTask::Frames {
             plan: Plan::Show { mode, limits },
-            path,
+            input,
         }));
     };
     Some(Task::OnFile(FileTask::Show(ShowPlan {
@@ -250,31 +271,35 @@ pub(crate) fn show_of<'a, 'b>(matches: &'b ArgMatches<'a>) -> Option<Task<'a, 'b
         name: matches.get_str("type"),
         calls: matches.get_str("calls"),
         notation: printed_notation_of(matches),
-        path,
+        input,
     })))
 }
 
 /// What the words of `encode` ask for.
 pub(crate) fn encode_of<'a, 'b>(matches: &'b ArgMatches<'a>) -> Option<Task<'a, 'b>> {
+    let stdin = InputFile {
+        path: STDIN,
+        shows_progress: false,
+    };
     Some(Task::OnFile(FileTask::Encode(EncodePlan {
         mode: mode_of(matches),
         request: matches.get_str("schema")?,
         name: matches.get_str("type")?,
         notation: notation_of(matches),
-        path: matches.get_str("FILE").unwrap_or(STDIN),
+        input: input_of(matches).unwrap_or(stdin),
     })))
 }
 
 /// What the words of `check` ask for.
 pub(crate) fn check_of<'a, 'b>(matches: &'b ArgMatches<'a>) -> Option<Task<'a, 'b>> {
-    let (path, mode) = (matches.get_str("FILE")?, mode_of(matches));
+    let (input, mode) = (input_of(matches)?, mode_of(matches));
     let limits = limits_of(matches)?;
     let plan = if matches.get_flag("canonical") {
         Plan::CheckCanonical { mode, limits }
     } else {
         Plan::Check { mode, limits }
     };
-    Some(Task::OnFile(FileTask::Frames { plan, path }))
+    Some(Task::OnFile(FileTask::Frames { plan, input }))
 }
 
 /// What the words of `canonical` ask for.
@@ -285,7 +310,7 @@ pub(crate) fn canonical_of<'a, 'b>(matches: &'b ArgMatches<'a>) -> Option<Task<'
             limits: limits_of(matches)?,
             is_flat: matches.get_flag("flat"),
         },
-        path: matches.get_str("FILE")?,
+        input: input_of(matches)?,
     }))
 }
 
@@ -293,7 +318,7 @@ pub(crate) fn canonical_of<'a, 'b>(matches: &'b ArgMatches<'a>) -> Option<Task<'
 pub(crate) fn pack_of<'a, 'b>(matches: &'b ArgMatches<'a>) -> Option<Task<'a, 'b>> {
     Some(Task::OnFile(FileTask::Frames {
         plan: Plan::Pack,
-        path: matches.get_str("FILE")?,
+        input: input_of(matches)?,
     }))
 }
 
@@ -301,16 +326,16 @@ pub(crate) fn pack_of<'a, 'b>(matches: &'b ArgMatches<'a>) -> Option<Task<'a, 'b
 pub(crate) fn unpack_of<'a, 'b>(matches: &'b ArgMatches<'a>) -> Option<Task<'a, 'b>> {
     Some(Task::OnFile(FileTask::Frames {
         plan: Plan::Unpack,
-        path: matches.get_str("FILE")?,
+        input: input_of(matches)?,
     }))
 }
 
 /// What the words of `recut` ask for.
 pub(crate) fn recut_of<'a, 'b>(matches: &'b ArgMatches<'a>) -> Option<Task<'a, 'b>> {
-    let (path, mode) = (matches.get_str("FILE")?, mode_of(matches));
+    let (input, mode) = (input_of(matches)?, mode_of(matches));
     let words = matches.get_one::<u32>("words")?;
     Some(Task::OnFile(FileTask::Frames {
         plan: Plan::Recut { mode, words },
-        path,
+        input,
     }))
 }

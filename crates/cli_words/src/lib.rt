@@ -4,6 +4,7 @@
 mod arguments;
 mod connections;
 mod files;
+mod replaying;
 mod serving;
 mod sessions;
 mod words;

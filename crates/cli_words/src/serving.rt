@@ -19,6 +19,27 @@ const IDLE: Argument = Argument {
     help: "Close a connection on which no byte moves for SECONDS",
 };
 
+/// The file of numbers.
+pub(crate) const FIGURES: Argument = Argument {
+    name: "figures",
+    form: ArgumentForm::Text("FILE"),
+    help: "Write what it does into FILE each second, as text for Prometheus",
+};
+
+/// Whether numbers are printed.
+const LOG: Argument = Argument {
+    name: "log",
+    form: ArgumentForm::Flag,
+    help: "Print a line of the same numbers each minute in which they change, and at the end",
+};
+
+/// Whether connections come by a proxy.
+const BEHIND_PROXY: Argument = Argument {
+    name: "behind-proxy",
+    form: ArgumentForm::Flag,
+    help: "Connections come by a proxy that says whose each is (PROXY protocol, versions 1 and 2)",
+};
+
 /// The address that is listened on.
 pub(crate) const LISTEN: Argument = Argument {
     name: "listen",
@@ -76,7 +97,7 @@ pub(crate) const SERVE: Words = Words {
          \x20 capnp_cli serve [OPTIONS] PORT COUNT       on 127.0.0.1, or on the address of --listen\n\
          \x20 capnp_cli serve --socket PATH COUNT        on a Unix socket\n\
          \x20 capnp_cli serve -                          to one peer, over standard input and output\n\
-         COUNT is a number, or - for no end. With -, --at-once, --idle, --listen or --socket the first line of standard error says where\n\
+         COUNT is a number, or - for no end. With -, an option other than --packed, or --socket the first line of standard error says where\n\
          it listens.\n\
          \n\
          Exit status:\n\
@@ -86,17 +107,36 @@ pub(crate) const SERVE: Words = Words {
          \n\
          Examples:\n\
          \x20 capnp_cli serve 7000 1\n\
-         \x20 capnp_cli serve --at-once 100 7000 -",
+         \x20 capnp_cli serve --at-once 100 7000 -\n\
+         \x20 capnp_cli serve --at-once 100 --figures /run/store.prom --log 7000 -",
 };
 
 /// The arguments of `serve`.
-pub(crate) static SERVE_ARGUMENTS: [Argument; 7] = [
-    PACKED, AT_ONCE, IDLE, LISTEN, SOCKET, PORT, COUNT,
+pub(crate) static SERVE_ARGUMENTS: [Argument; 10] = [
+    PACKED,
+    AT_ONCE,
+    IDLE,
+    FIGURES,
+    LOG,
+    BEHIND_PROXY,
+    LISTEN,
+    SOCKET,
+    PORT,
+    COUNT,
 ];
 
 /// The same, where they are open to other ones than a port and a count.
-pub(crate) static OPEN_ARGUMENTS: [Argument; 7] = [
-    PACKED, AT_ONCE, IDLE, LISTEN, SOCKET, ANY_PLACE, ANY_COUNT,
+pub(crate) static OPEN_ARGUMENTS: [Argument; 10] = [
+    PACKED,
+    AT_ONCE,
+    IDLE,
+    FIGURES,
+    LOG,
+    BEHIND_PROXY,
+    LISTEN,
+    SOCKET,
+    ANY_PLACE,
+    ANY_COUNT,
 ];
 
 /// What the words of `serve` ask for.
@@ -166,7 +206,12 @@ fn on_pipe<'a>(matches: &ArgMatches<'a>, place: &str) -> Option<ServePlan<'a>> {
 
 /// Whether the words have options of serving many connections.
 fn has_options(matches: &ArgMatches) -> bool {
-    matches.contains_id("at-once") || matches.contains_id("idle") || matches.contains_id("listen")
+    matches.contains_id("at-once")
+        || matches.contains_id("idle")
+        || matches.contains_id("figures")
+        || matches.get_flag("log")
+        || matches.get_flag("behind-proxy")
+        || matches.contains_id("listen")
 }
 
 /// A number of connections, or no end.
@@ -181,12 +226,15 @@ fn count_of(word: &str) -> Option<Option<u32>> {
 }
 
 /// How connections are served.
-fn service(matches: &ArgMatches, count: Option<u32>) -> Service {
+fn service<'a>(matches: &ArgMatches<'a>, count: Option<u32>) -> Service<'a> {
     Service {
         mode: mode_of(matches),
         at_once: matches.get_one::<u32>("at-once").unwrap_or(1),
         idle: matches.get_one::<u32>("idle"),
         count,
+        figures: matches.get_str("figures"),
+        logs: matches.get_flag("log"),
+        behind_proxy: matches.get_flag("behind-proxy"),
     }
 }
 

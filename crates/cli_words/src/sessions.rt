@@ -17,15 +17,15 @@ pub(crate) const RECORD: Argument = Argument {
     help: "Record each connection in a folder of DIR, which is made: show --session DIR/1 shows the first",
 };
 
-/// How much is recorded.
+/// How much is recorded: the folder of one connection at least, which counts 16,384 bytes, and the first line of its times.
 pub(crate) const RECORD_MOST: Argument = Argument {
     name: "record-most",
-    form: ArgumentForm::Beside {
+    form: ArgumentForm::NumberBeside {
         value: "BYTES",
-        needs: Some("record"),
-        excludes: None,
+        least: 16_448,
+        needs: "record",
     },
-    help: "Record no more than BYTES in all, 1073741824 by default",
+    help: "Record no more than BYTES in all, 16448 or more, 1073741824 by default",
 };
 
 /// The recording that is shown, where it may be left out.

@@ -4,7 +4,7 @@ use crate::arguments::{Argument, Words, command_of};
 use crate::connections::asks_types;
 use crate::serving::{self, is_open};
 use crate::sessions::{SESSION_ARGUMENTS, shows_session};
-use crate::{connections, files};
+use crate::{connections, files, replaying};
 use clap::{ArgMatches, Command, Error};
 use cp_commands::{BROKEN, Task};
 use std::alloc::{AllocError, Global};
@@ -14,7 +14,7 @@ use std::{env, io};
 const VERSION: &str = "0.2.0";
 
 /// The commands, in the order of the help.
-const ALL: [Name; 11] = [
+const ALL: [Name; 12] = [
     Name::Show,
     Name::Encode,
     Name::Check,
@@ -26,6 +26,7 @@ const ALL: [Name; 11] = [
     Name::Serve,
     Name::Relay,
     Name::Call,
+    Name::Replay,
 ];
 
 /// A program that does what the words ask for.
@@ -48,6 +49,7 @@ enum Name {
     Serve,
     Relay,
     Call,
+    Replay,
 }
 
 /// Reads the words of the program, has it do what they ask for, and answers the status.
@@ -163,6 +165,7 @@ impl Name {
             Name::Serve => serving::SERVE,
             Name::Relay => connections::RELAY,
             Name::Call => connections::CALL,
+            Name::Replay => replaying::REPLAY,
         }
     }
 
@@ -183,6 +186,7 @@ impl Name {
             Name::Relay => &connections::RELAY_ARGUMENTS,
             Name::Call if is_open => &connections::TYPES_ARGUMENTS,
             Name::Call => &connections::CALL_ARGUMENTS,
+            Name::Replay => &replaying::REPLAY_ARGUMENTS,
         }
     }
 
@@ -200,6 +204,7 @@ impl Name {
             Name::Serve => serving::serve_of(matches),
             Name::Relay => connections::relay_of(matches),
             Name::Call => connections::call_of(matches),
+            Name::Replay => replaying::replay_of(matches),
         }
     }
 }

@@ -1,8 +1,8 @@
 //! The rules of a guard, by the words of `relay`.
 
 use cp_commands::{BROKEN, Guarding, failed, schema_at};
-use cp_methods::{RuleFault, named_methods, ruled_method};
-use cp_relay::{CallLimits, MethodId, MethodName, Rules};
+use cp_methods::{RuleFault, RuledGiven, named_methods, ruled_given, ruled_method};
+use cp_relay::{CallLimits, Callable, MethodId, MethodName, Rules};
 use cp_schema::{MethodNumber, Schema};
 use std::alloc::{AllocError, Global};
 use std::fs;
@@ -132,10 +132,20 @@ fn add_lines(rt: &HostRuntime, schema: &Schema, rules: &mut Rules, text: &str) -
     Ok(())
 }
 
-/// Adds a rule on a method.
+/// Adds a rule on a method; and after an arrow, on what its calls gave.
 fn add(rt: &HostRuntime, schema: &Schema, rules: &mut Rules, word: &str) -> Result<(), u8> {
-    match add_rule(rt.alloc(), schema, rules, word) {
-        Ok(()) => Ok(()),
+    let Some((method, given)) = word.split_once("->") else {
+        return match add_rule(rt.alloc(), schema, rules, word) {
+            Ok(_) => Ok(()),
+            Err(fault) => Err(refused(rt, word, fault)),
+        };
+    };
+    if !rules.only {
+        return Err(mistaken(rt, word, "what was given can be allowed, and not denied"));
+    }
+    match add_grants(rt.alloc(), schema, rules, method.trim(), given.trim()) {
+        Ok(true) => Ok(()),
+        Ok(false) => Err(mistaken(rt, word, "more than 64 interfaces and methods after arrows")),
         Err(fault) => Err(refused(rt, word, fault)),
     }
 }
@@ -146,10 +156,44 @@ fn add_rule(
     schema: &Schema,
     rules: &mut Rules,
     word: &str,
-) -> Result<(), RuleFault> {
-    let number = ruled_method(alloc, schema, word)?;
-    rules.add_rule(id_of(number))?;
-    Ok(())
+) -> Result<MethodId, RuleFault> {
+    let method = id_of(ruled_method(alloc, schema, word)?);
+    rules.add_rule(method)?;
+    Ok(method)
+}
+
+/// Adds a rule on a method, and on what its calls gave. Says whether there is room for that.
+fn add_grants(
+    alloc: Global,
+    schema: &Schema,
+    rules: &mut Rules,
+    method: &str,
+    given: &str,
+) -> Result<bool, RuleFault> {
+    let after = add_rule(alloc, schema, rules, method)?;
+    let given = ruled_given(alloc, schema, given)?;
+    let added = add_each(rules, after, &given);
+    drop(given);
+    Ok(added?)
+}
+
+/// Adds each of these as what calls of a method gave may be called by.
+fn add_each(rules: &mut Rules, after: MethodId, given: &[RuledGiven]) -> Result<bool, AllocError> {
+    for one in given {
+        if !rules.add_grant(after, callable_of(*one))? {
+            return Ok(false);
+        }
+    }
+    Ok(true)
+}
+
+/// What may be called, as rules have it.
+fn callable_of(given: RuledGiven) -> Callable {
+    match given {
+        RuledGiven::All => Callable::All,
+        RuledGiven::Interface(interface) => Callable::Interface(interface),
+        RuledGiven::Method(number) => Callable::Method(id_of(number)),
+    }
 }
 
 /// A schema's method, as rules have it.

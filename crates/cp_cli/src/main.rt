@@ -4,7 +4,7 @@
 mod guarding;
 mod relaying;
 
-use cli_connections::{call, loop_file, print_types, serve};
+use cli_connections::{call, loop_file, print_types, replay, serve};
 use cli_words::{Acts, run};
 use cp_commands::{Task, act_on_file, failed};
 use relaying::relay;
@@ -21,6 +21,7 @@ impl Acts for All {
             Task::Serve(plan) => serve(rt, plan),
             Task::Relay(task) => relay(rt, task),
             Task::Call(plan) => call(rt, plan),
+            Task::Replay(plan) => replay(rt, plan),
             Task::Types(plan) => print_types(rt, plan),
         }
     }

@@ -46,6 +46,7 @@ fn relay_by(rt: &HostRuntime, task: &RelayTask, guard: Option<GuardPlan<'_>>) ->
         form: task.form,
         guard,
         record: task.record,
+        figures: task.figures,
     };
     let mut out = BufWriter::with_capacity(rt.alloc(), BUFFER, io::writer(rt))?;
     let mut err = rt.stderr();

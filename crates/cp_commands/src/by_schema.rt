@@ -44,7 +44,7 @@ fn show_structs(
     name: &str,
 ) -> io::Result<u8> {
     match structs_plan(plan, schema, name) {
-        Some(show) => on_file(rt, Work::Frames(&show), plan.path),
+        Some(show) => on_file(rt, Work::Frames(&show), plan.input),
         None => {
             let _ = eprintln!(rt; "{}: it has no struct {name}", plan.request);
             Ok(BROKEN)
@@ -81,7 +81,7 @@ fn show_calls(rt: &HostRuntime, plan: &ShowPlan<'_>, schema: Schema) -> io::Resu
 /// Shows the messages of a file by these names.
 fn show_named(rt: &HostRuntime, plan: &ShowPlan<'_>, names: &Names) -> io::Result<u8> {
     match names_plan(plan, names) {
-        Some(show) => on_file(rt, Work::Frames(&show), plan.path),
+        Some(show) => on_file(rt, Work::Frames(&show), plan.input),
         None => Ok(BROKEN),
     }
 }
@@ -120,7 +120,7 @@ fn asked_by(rt: &HostRuntime, plan: &ShowPlan<'_>) -> Result<Option<Asked>, u8> 
 /// Writes the frames of a file's texts by a schema.
 fn encode_texts(rt: &HostRuntime, plan: &EncodePlan<'_>, schema: &Schema) -> io::Result<u8> {
     match encoding_of(plan, schema) {
-        Some(by) => on_file(rt, Work::Texts(&by), plan.path),
+        Some(by) => on_file(rt, Work::Texts(&by), plan.input),
         None => no_struct(rt, plan, schema),
     }
 }

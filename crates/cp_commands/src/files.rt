@@ -2,9 +2,10 @@
 
 use crate::by_schema::{encode_by, show_by};
 use crate::plan::{Plan, act_to_end};
+use crate::progress::ProgressReader;
 use crate::recordings::show_session;
 use crate::status::{BROKEN, CLOSED};
-use crate::task::FileTask;
+use crate::task::{FileTask, InputFile};
 use crate::texts::{Encoding, encode};
 use cp_schema::{RequestFault, Schema};
 use std::fs::{self, File};
@@ -26,10 +27,10 @@ pub(crate) enum Work<'p> {
 /// Does a command on a file. The status is that of `act`, or 2 where a file can't be read, which a line says.
 pub fn act_on_file(rt: &HostRuntime, task: &FileTask) -> u8 {
     let (done, path) = match task {
-        FileTask::Frames { plan, path } => (on_file(rt, Work::Frames(plan), path), *path),
-        FileTask::Show(plan) => (show_by(rt, plan), plan.path),
+        FileTask::Frames { plan, input } => (on_file(rt, Work::Frames(plan), *input), input.path),
+        FileTask::Show(plan) => (show_by(rt, plan), plan.input.path),
         FileTask::Session(plan) => (show_session(rt, plan), plan.path),
-        FileTask::Encode(plan) => (encode_by(rt, plan), plan.path),
+        FileTask::Encode(plan) => (encode_by(rt, plan), plan.input.path),
     };
     done.unwrap_or_else(|error| failed(rt, path, error))
 }
@@ -78,28 +79,50 @@ fn no_request(rt: &HostRuntime, path: &str, fault: RequestFault) -> u8 {
 }
 
 /// Does this work on a file.
-pub(crate) fn on_file(rt: &HostRuntime, work: Work<'_>, path: &str) -> io::Result<u8> {
-    if path == STDIN {
-        return on_reader(rt, work, rt.stdin());
+pub(crate) fn on_file(rt: &HostRuntime, work: Work<'_>, input: InputFile<'_>) -> io::Result<u8> {
+    if input.path == STDIN {
+        let mut from = rt.stdin();
+        return on_reader(rt, work, &mut from);
     }
-    on_reader(rt, work, File::open(rt, path)?)
+    let file = File::open(rt, input.path)?;
+    let length = match file.metadata() {
+        Ok(metadata) => metadata.len(),
+        // A file that doesn't say its length counts as a short one.
+        Err(_) => 0,
+    };
+    let shows = input.shows_progress && has_terminal(rt, &work);
+    let mut from = ProgressReader::new(file, rt.stderr(), length, shows);
+    let status = on_reader(rt, work, &mut from);
+    from.clear();
+    drop(from);
+    status
+}
+
+/// Whether somebody sees how far this work has come: at a terminal, on which nothing else is printed meanwhile.
+fn has_terminal(rt: &HostRuntime, work: &Work<'_>) -> bool {
+    if !rt.stderr().is_terminal() {
+        return false;
+    }
+    match work {
+        Work::Frames(Plan::Check { .. } | Plan::CheckCanonical { .. }) => true,
+        _ => !rt.stdout().is_terminal(),
+    }
 }
 
 /// Does this work on what a device gives.
-fn on_reader<R: Read + Drop>(rt: &HostRuntime, work: Work<'_>, mut from: R) -> io::Result<u8> {
+fn on_reader<R: Read>(rt: &HostRuntime, work: Work<'_>, from: &mut R) -> io::Result<u8> {
     let mut out = BufWriter::with_capacity(rt.alloc(), BUFFER, io::writer(rt))?;
     let mut err = rt.stderr();
     let status = match work {
         Work::Frames(plan) => {
-            let ended = act_to_end(rt.alloc(), plan, &mut from, &mut out, &mut err);
+            let ended = act_to_end(rt.alloc(), plan, from, &mut out, &mut err);
             if let Some(hint) = ended.hint {
                 tell_hint(&mut err, hint);
             }
             ended.status
         }
-        Work::Texts(by) => encode(rt.alloc(), by, &mut from, &mut out, &mut err),
+        Work::Texts(by) => encode(rt.alloc(), by, from, &mut out, &mut err),
     };
     drop(out);
-    drop(from);
     Ok(status)
 }

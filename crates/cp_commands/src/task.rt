@@ -17,6 +17,7 @@ pub enum Task<'a, 'b> {
     Serve(ServePlan<'a>),
     Relay(RelayTask<'a, 'b>),
     Call(CallPlan<'a, 'b>),
+    Replay(ReplayPlan<'a, 'b>),
     Types(TypesPlan<'a>),
 }
 
@@ -24,10 +25,21 @@ pub enum Task<'a, 'b> {
 #[derive(Clone, Copy)]
 pub enum FileTask<'a> {
     /// A command on frames, without a schema.
-    Frames { plan: Plan<'a>, path: &'a str },
+    Frames {
+        plan: Plan<'a>,
+        input: InputFile<'a>,
+    },
     Show(ShowPlan<'a>),
     Session(SessionPlan<'a>),
     Encode(EncodePlan<'a>),
+}
+
+/// The file that a command reads.
+#[derive(Clone, Copy)]
+pub struct InputFile<'a> {
+    pub path: &'a str,
+    /// Whether a terminal is shown how far the command has come, where the file is long.
+    pub shows_progress: bool,
 }
 
 /// Messages as lines, by the names of a schema.
@@ -43,7 +55,7 @@ pub struct ShowPlan<'a> {
     pub calls: Option<&'a str>,
     /// How structs are written.
     pub notation: Notation,
-    pub path: &'a str,
+    pub input: InputFile<'a>,
 }
 
 /// The recording of a connection, shown.
@@ -68,7 +80,7 @@ pub struct EncodePlan<'a> {
     pub request: &'a str,
     pub name: &'a str,
     pub notation: Notation,
-    pub path: &'a str,
+    pub input: InputFile<'a>,
 }
 
 /// Types of a schema, printed.
@@ -92,7 +104,7 @@ pub enum ServePlan<'a> {
     /// Connections that come to an address, many at once.
     Hosted {
         address: ListenAddress<'a>,
-        service: Service,
+        service: Service<'a>,
     },
     /// Standard input, and standard output.
     Pipe {
@@ -119,7 +131,7 @@ impl fmt::Display for ListenAddress<'_> {
 
 /// How connections are served.
 #[derive(Clone, Copy)]
-pub struct Service {
+pub struct Service<'a> {
     /// The form of the frames, both ways.
     pub mode: Mode,
     /// The most connections at once. Further ones wait.
@@ -128,6 +140,12 @@ pub struct Service {
     pub idle: Option<u32>,
     /// How many connections come, in all. `None`: no end.
     pub count: Option<u32>,
+    /// The path of the file into which it writes what it does.
+    pub figures: Option<&'a str>,
+    /// Whether it prints that now and then.
+    pub logs: bool,
+    /// Whether connections come by a proxy that says whose each is.
+    pub behind_proxy: bool,
 }
 
 /// Connections that are relayed.
@@ -138,6 +156,8 @@ pub struct RelayTask<'a, 'b> {
     pub guarding: Guarding<'a, 'b>,
     /// Where connections are recorded, if they are.
     pub record: Option<RecordPlan<'a>>,
+    /// The path of the file into which it writes what it does.
+    pub figures: Option<&'a str>,
 }
 
 /// How connections are recorded.
@@ -214,4 +234,13 @@ pub struct CallPlan<'a, 'b> {
     /// `HOST:PORT`, or the path of a Unix socket, which has a slash or comes after `unix:`.
     pub address: &'a str,
     pub calls: &'b [&'a str],
+}
+
+/// The calls of a recording, made again.
+#[derive(Clone, Copy)]
+pub struct ReplayPlan<'a, 'b> {
+    /// The path of the recording, a folder.
+    pub path: &'a str,
+    /// How calls are made; it has none of its own.
+    pub call: CallPlan<'a, 'b>,
 }

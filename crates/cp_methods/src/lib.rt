@@ -18,5 +18,5 @@ pub use calls::{CallReader, NamedCall};
 pub use describing::{describe, nearest_names, type_named};
 pub use listing::list_methods;
 pub use results::{ResultsForm, results_line};
-pub use rules::{NamedMethod, RuleFault, named_methods, ruled_method};
+pub use rules::{NamedMethod, RuleFault, RuledGiven, named_methods, ruled_given, ruled_method};
 pub use word::{is_named, plain_params};

@@ -1,6 +1,6 @@
 //! Methods by the names that rules on them use.
 
-use crate::finding::{interface_named, interface_of, method_named};
+use crate::finding::{interface_named, interface_of, lineage, method_named};
 use cp_encoder::put_name;
 use cp_schema::{Method, MethodNumber, Node, Schema};
 use std::alloc::{AllocError, Global};
@@ -36,6 +36,32 @@ pub fn ruled_method(alloc: Global, schema: &Schema, word: &str) -> Result<Method
     }
 }
 
+/// What a rule lets be called of what calls gave.
+#[derive(Clone, Copy)]
+pub enum RuledGiven {
+    All,
+    /// The methods of the interface of this number.
+    Interface(u64),
+    Method(MethodNumber),
+}
+
+/// What a rule names after its arrow: `*`, a method as `ruled_method` reads it, or `Interface.*`, which is that interface and each
+/// that it extends.
+pub fn ruled_given(
+    alloc: Global,
+    schema: &Schema,
+    word: &str,
+) -> Result<Vec<RuledGiven>, RuleFault> {
+    let mut found = Vec::new(alloc);
+    match put_given(alloc, schema, word, &mut found) {
+        Ok(()) => Ok(found),
+        Err(fault) => {
+            drop(found);
+            Err(fault)
+        }
+    }
+}
+
 /// All methods of a schema, by their interfaces' names and their own.
 pub fn named_methods(alloc: Global, schema: &Schema) -> Result<Vec<NamedMethod>, AllocError> {
     let mut found = Vec::new(alloc);
@@ -46,6 +72,40 @@ pub fn named_methods(alloc: Global, schema: &Schema) -> Result<Vec<NamedMethod>,
             Err(error)
         }
     }
+}
+
+/// Adds what a rule names after its arrow.
+fn put_given(
+    alloc: Global,
+    schema: &Schema,
+    word: &str,
+    found: &mut Vec<RuledGiven>,
+) -> Result<(), RuleFault> {
+    if word == "*" {
+        return Ok(put(found, RuledGiven::All)?);
+    }
+    let Some(interface) = word.strip_suffix(".*") else {
+        let method = ruled_method(alloc, schema, word)?;
+        return Ok(put(found, RuledGiven::Method(method))?);
+    };
+    let line = lineage(alloc, schema, ruled_interface(schema, interface)?)?;
+    let added = put_interfaces(found, &line);
+    drop(line);
+    Ok(added?)
+}
+
+/// Adds interfaces.
+fn put_interfaces(found: &mut Vec<RuledGiven>, interfaces: &[u64]) -> Result<(), AllocError> {
+    for interface in interfaces {
+        put(found, RuledGiven::Interface(*interface))?;
+    }
+    Ok(())
+}
+
+/// Adds one.
+fn put(found: &mut Vec<RuledGiven>, given: RuledGiven) -> Result<(), AllocError> {
+    found.push(given)?;
+    Ok(())
 }
 
 /// The interface that a rule names. Its own name is enough where no other interface has it.

@@ -14,7 +14,7 @@ const ROW: u64 = 24;
 
 const HEAD: u64 = 48;
 
-/// What stands before the first row, after the picture's size.
+/// What stands before the first row, after the picture's size. A dash is as long as the head of an arrow, which so is drawn whole.
 const STYLE: &str = "\
 <style>\n\
 text { font: 12px sans-serif; fill: #222; }\n\
@@ -22,9 +22,9 @@ path { stroke: #222; fill: none; }\n\
 .time { text-anchor: end; fill: #777; }\n\
 .label, .lane { text-anchor: middle; }\n\
 .lane { font-weight: bold; }\n\
-.return { stroke-dasharray: 4 3; }\n\
+.return { stroke-dasharray: 18 4; }\n\
 .other { stroke: #aaa; }\n\
-.failed { stroke: #c60; stroke-dasharray: 4 3; }\n\
+.failed { stroke: #c60; stroke-dasharray: 18 4; }\n\
 .slow { stroke: #d00; stroke-width: 3; }\n\
 text.slow { fill: #d00; stroke: none; font-weight: bold; }\n\
 </style>\n\

@@ -1,5 +1,5 @@
 -- What a guard lets go is allowed, and what is allowed goes.
-use Rattle.std.proofs.Common.{◌≡◌, ℕ, Bool, true, false, nat_lt, List, [], ◌∷◌, map, Option, Some, None, refl, sym, subst}
+use Rattle.std.proofs.Common.{◌≡◌, ◌∙◌, ℕ, Bool, true, false, true≢false, ◌&&◌, nat_lt, List, [], ◌∷◌, map, Option, Some, None, refl, sym, ap, subst}
 use Rattle.std.specs.List.{list_any}
 use Rattle.std.specs.FinMap.{get}
 use Rattle.cp_messages.specs.declared.descriptor.Descriptor.{Descriptor}
@@ -18,17 +18,20 @@ use Rattle.cp_messages.specs.declared.message.Message.{Message}
 use Rattle.cp_messages.specs.declared.message.Message.TheVariants as messages
 use Rattle.cp_relay.specs.declared.rules.Rules.{Rules}
 use Rattle.cp_relay.specs.declared.state.GuardState.{GuardState}
+use Rattle.cp_relay.specs.declared.references.References.{References}
+use Rattle.cp_relay.specs.declared.ruling.Breach.{Breach}
 use Rattle.cp_relay.specs.declared.ruling.Cause.{Cause}
-use Rattle.cp_relay.specs.declared.ruling.Ruling.{Ruling}
 use Rattle.cp_relay.specs.declared.ruling.Ruling.TheVariants as rulings
-use Rattle.cp_relay.specs.Rules.{may_call}
-use Rattle.cp_relay.specs.State.{Refused, is_broken, without_broken, target_cause, descriptor_cause, limit_cause}
-use Rattle.cp_relay.specs.Judged.{most_unfinished, refused_so, call_judged, bootstrap_judged, finish_judged, returned_judged, resolution_judged, target_judged, judged}
+use Rattle.cp_relay.specs.Rules.{follows}
+use Rattle.cp_relay.specs.Followed.{Followed}
+use Rattle.cp_relay.specs.State.{Refused, may_go, is_broken, without_broken, target_cause, descriptor_cause, limit_cause}
+use Rattle.cp_relay.specs.Judged.{most_unfinished, refused_so, call_judged, bootstrap_judged, finish_judged, returned_judged, resolution_judged, target_judged, Judgement, ruled, followed_from, goes as lets, keeping_of}
 use Rattle.cp_relay.specs.Allowed.{Goes, IsAllowed, IsAllowedReturn, IsAllowedResolution, OnlyAllowed, AllowedPass}
+use Rattle.cp_relay.proofs.Kept.{ruled_from_refs}
 
 module _ (rules : Rules) (s : GuardState) (goes : Message) where
   abbrev is_allowed : Message → Type 0
-  is_allowed m = IsAllowed rules s.refused m
+  is_allowed m = IsAllowed rules s m
 
   -- a question that is refused doesn't go
   refused_stays : (came : Message) (question : ℕ) (elsewhere : Bool) (cause : Cause) (strict few : Bool) → rules.strict ≡ strict → nat_lt s.unfinished most_unfinished ≡ few → Goes (refused_so rules s question elsewhere cause).ruling came goes → ⊥
@@ -46,7 +49,7 @@ module _ (rules : Rules) (s : GuardState) (goes : Message) where
   none_broken (d ∷ ds) = rw (one_whole d (is_broken s.refused d) refl, none_broken ds) refl
 
   -- a call that goes is allowed
-  call_goes : (c : Call) (reused target limit : Option Cause) (may broken : Bool) → get s.refused c.question_id ≡ reused → may_call rules c.interface_id c.method_id ≡ may → target_cause s.refused c.target ≡ target
+  call_goes : (c : Call) (reused target limit : Option Cause) (may broken : Bool) → get s.refused c.question_id ≡ reused → may_go rules s c ≡ may → target_cause s.refused c.target ≡ target
       → limit_cause rules.limits s ≡ limit → list_any (is_broken s.refused) c.params.cap_table ≡ broken → Goes (call_judged rules s c).ruling (messages.Call c) goes → is_allowed goes
   call_goes c (Some x) target limit may broken r m t l b g = absurd (rw r at g)
   call_goes c None target limit false broken r m t l b g = absurd (refused_stays (messages.Call c) _ _ _ rules.strict (nat_lt s.unfinished most_unfinished) refl refl (rw (r, m) at g))
@@ -107,24 +110,37 @@ module _ (rules : Rules) (s : GuardState) (goes : Message) where
   target_goes m (targets.ImportedCap id) g = (g, refl)
   target_goes m (targets.Unknown number) g = (g, refl)
 
-pub only_allowed : OnlyAllowed
-only_allowed rules s (messages.Call c) goes g =
-    call_goes rules s goes c (get s.refused c.question_id) (target_cause s.refused c.target) (limit_cause rules.limits s) (may_call rules c.interface_id c.method_id) (list_any (is_broken s.refused) c.params.cap_table) refl refl refl refl refl g
-only_allowed rules s (messages.Bootstrap b) goes g =
+-- what goes by the questions that were refused is allowed
+only_ruled : (rules : Rules) (s : GuardState) (came goes : Message) → Goes (ruled rules s came).ruling came goes → IsAllowed rules s goes
+only_ruled rules s (messages.Call c) goes g =
+    call_goes rules s goes c (get s.refused c.question_id) (target_cause s.refused c.target) (limit_cause rules.limits s) (may_go rules s c) (list_any (is_broken s.refused) c.params.cap_table) refl refl refl refl refl g
+only_ruled rules s (messages.Bootstrap b) goes g =
     let h = bootstrap_goes rules s goes (messages.Bootstrap b) b.question_id (get s.refused b.question_id) (limit_cause rules.limits s) refl refl g in
-    subst (λ (m : Message). IsAllowed rules s.refused m) (sym h.0) h.1
-only_allowed rules s (messages.Finish f) goes g =
+    subst (λ (m : Message). IsAllowed rules s m) (sym h.0) h.1
+only_ruled rules s (messages.Finish f) goes g =
     let h = finish_goes rules s goes (messages.Finish f) f.question_id (get s.refused f.question_id) refl g in
-    subst (λ (m : Message). IsAllowed rules s.refused m) (sym h.0) h.1
-only_allowed rules s (messages.Return r) goes g = return_goes rules s goes r r.returned refl g
-only_allowed rules s (messages.Resolve r) goes g = resolve_goes rules s goes r r.resolution refl g
-only_allowed rules s (messages.Disembargo d) goes g =
+    subst (λ (m : Message). IsAllowed rules s m) (sym h.0) h.1
+only_ruled rules s (messages.Return r) goes g = return_goes rules s goes r r.returned refl g
+only_ruled rules s (messages.Resolve r) goes g = resolve_goes rules s goes r r.resolution refl g
+only_ruled rules s (messages.Disembargo d) goes g =
     let h = target_goes rules s goes (messages.Disembargo d) d.target g in
-    subst (λ (m : Message). IsAllowed rules s.refused m) (sym h.0) h.1
-only_allowed rules s (messages.Unimplemented tree) goes g = subst (λ (m : Message). IsAllowed rules s.refused m) (sym g) tt
-only_allowed rules s (messages.Abort exception) goes g = subst (λ (m : Message). IsAllowed rules s.refused m) (sym g) tt
-only_allowed rules s (messages.Release release) goes g = subst (λ (m : Message). IsAllowed rules s.refused m) (sym g) tt
-only_allowed rules s (messages.Other which body) goes g = subst (λ (m : Message). IsAllowed rules s.refused m) (sym g) tt
+    subst (λ (m : Message). IsAllowed rules s m) (sym h.0) h.1
+only_ruled rules s (messages.Unimplemented tree) goes g = subst (λ (m : Message). IsAllowed rules s m) (sym g) tt
+only_ruled rules s (messages.Abort exception) goes g = subst (λ (m : Message). IsAllowed rules s m) (sym g) tt
+only_ruled rules s (messages.Release release) goes g = subst (λ (m : Message). IsAllowed rules s m) (sym g) tt
+only_ruled rules s (messages.Other which body) goes g = subst (λ (m : Message). IsAllowed rules s m) (sym g) tt
+
+-- what is kept of a message lets no other go
+goes_so : (j : Judgement) (kept : Followed) (b : Bool) (breach : Option Breach) (came goes : Message) → kept.breach ≡ breach → Goes (keeping_of b j kept).ruling came goes → Goes j.ruling came goes
+goes_so j kept false breach came goes e g = g
+goes_so j kept true (Some x) came goes e g = absurd (rw e at g)
+goes_so j kept true None came goes e g = rw e at g
+
+pub only_allowed : OnlyAllowed
+only_allowed rules s came goes g =
+    let j = ruled rules s came in
+    let kept = followed_from false rules j.state.references came in
+    only_ruled rules s came goes (goes_so j kept (follows rules && lets j.ruling) kept.breach came goes refl g)
 
 -- what is returned and names no question that was refused goes
 return_passes : (rules : Rules) (refused : Refused) (r : Return) (returned : Returned) → IsAllowedReturn refused returned → returned_judged rules refused r returned ≡ rulings.Passes
@@ -146,14 +162,31 @@ target_passes refused (targets.PromisedAnswer answer) h = rw h refl
 target_passes refused (targets.ImportedCap id) h = refl
 target_passes refused (targets.Unknown number) h = refl
 
+ruled_passes : (rules : Rules) (s : GuardState) (m : Message) → IsAllowed rules s m → limit_cause rules.limits s ≡ None → (ruled rules s m).ruling ≡ rulings.Passes
+ruled_passes rules s (messages.Call c) h limit = rw (h.number, h.method, h.target, limit, h.params) refl
+ruled_passes rules s (messages.Bootstrap b) h limit = rw (h, limit) refl
+ruled_passes rules s (messages.Finish f) h limit = rw h refl
+ruled_passes rules s (messages.Return r) h limit = return_passes rules s.refused r r.returned h
+ruled_passes rules s (messages.Resolve r) h limit = resolve_passes rules s.refused r r.resolution h
+ruled_passes rules s (messages.Disembargo d) h limit = target_passes s.refused d.target h
+ruled_passes rules s (messages.Unimplemented tree) h limit = refl
+ruled_passes rules s (messages.Abort exception) h limit = refl
+ruled_passes rules s (messages.Release release) h limit = refl
+ruled_passes rules s (messages.Other which body) h limit = refl
+
+-- a message that passes does so where what is kept of it closes nothing
+passes_so : (j : Judgement) (kept : Followed) (b : Bool) → j.ruling ≡ rulings.Passes → (b ≡ true → kept.breach ≡ None) → (keeping_of b j kept).ruling ≡ rulings.Passes
+passes_so j kept false e k = e
+passes_so j kept true e k = rw (k refl) e
+
+first_true : (a b : Bool) → (a && b) ≡ true → a ≡ true
+first_true true b e = refl
+first_true false b e = absurd (true≢false (sym e))
+
 pub allowed_pass : AllowedPass
-allowed_pass rules s (messages.Call c) h limit = rw (h.number, h.method, h.target, limit, h.params) refl
-allowed_pass rules s (messages.Bootstrap b) h limit = rw (h, limit) refl
-allowed_pass rules s (messages.Finish f) h limit = rw h refl
-allowed_pass rules s (messages.Return r) h limit = return_passes rules s.refused r r.returned h
-allowed_pass rules s (messages.Resolve r) h limit = resolve_passes rules s.refused r r.resolution h
-allowed_pass rules s (messages.Disembargo d) h limit = target_passes s.refused d.target h
-allowed_pass rules s (messages.Unimplemented tree) h limit = refl
-allowed_pass rules s (messages.Abort exception) h limit = refl
-allowed_pass rules s (messages.Release release) h limit = refl
-allowed_pass rules s (messages.Other which body) h limit = refl
+allowed_pass rules s m h limit is_kept =
+    let j = ruled rules s m in
+    let same = ruled_from_refs false rules s m in
+    let kept = followed_from false rules j.state.references m in
+    passes_so j kept (follows rules && lets j.ruling) (ruled_passes rules s m h limit)
+    (λ e. ap (λ (refs : References). (followed_from false rules refs m).breach) same ∙ is_kept (first_true (follows rules) (lets j.ruling) e))

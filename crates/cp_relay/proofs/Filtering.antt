@@ -21,7 +21,7 @@ use Rattle.cp_relay.specs.declared.ruling.Ruling.{Ruling}
 use Rattle.cp_relay.specs.declared.ruling.Ruling.TheVariants as rulings
 use Rattle.cp_relay.specs.Judged.{judged_from}
 use Rattle.cp_relay.specs.Guard.{breach_in, IsSame, Begins, HasJudged, Judges}
-use Rattle.cp_relay.specs.Filter.{Does, DoesFrom, IsSameFilter, GuardsNext, IsUnasked, GuardsNone, IsUnputFor, StopsUnanswered, FailsFor, Closes, Fails}
+use Rattle.cp_relay.specs.Filter.{Does, DoesFrom, GuardsNext, GuardsNone, IsUnputFor, StopsUnanswered, FailsFor, Fails}
 use Rattle.cp_relay.proofs.One.{one_of}
 
 -- what a reader stands for begins with no frame

@@ -2,6 +2,9 @@ pub mod Passing
 pub mod Streams
 pub mod One
 pub mod Filtering
+pub mod Hosted
+pub mod Kept
 pub mod Allowed
+pub mod Given
 pub mod Once
 pub mod Traffic

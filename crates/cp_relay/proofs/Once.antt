@@ -1,5 +1,5 @@
 -- A question that is refused is answered once, and remembered up to its Finish.
-use Rattle.std.proofs.Common.{◌≡◌, ◌≢◌, ◌⊎◌, inl, inr, ℕ, Bool, true, false, nat_lt, Option, Some, None, refl, sym, ◌∙◌, ap}
+use Rattle.std.proofs.Common.{◌≡◌, ◌≢◌, ◌⊎◌, inl, inr, ℕ, Bool, true, false, true≢false, ◌&&◌, nat_lt, Option, Some, None, refl, sym, ◌∙◌, ap}
 use Rattle.std.proofs.lemmas.Bool.{cases_eq}
 use Rattle.std.proofs.lemmas.Option.{none-some}
 use Rattle.std.specs.List.{list_any}
@@ -25,9 +25,10 @@ use Rattle.cp_relay.specs.declared.ruling.Cause.{Cause}
 use Rattle.cp_relay.specs.declared.ruling.Breach.{Breach}
 use Rattle.cp_relay.specs.declared.ruling.Ruling.{Ruling}
 use Rattle.cp_relay.specs.declared.ruling.Ruling.TheVariants as rulings
-use Rattle.cp_relay.specs.Rules.{may_call}
-use Rattle.cp_relay.specs.State.{Refused, is_broken, target_cause, descriptor_cause, limit_cause}
-use Rattle.cp_relay.specs.Judged.{most_unfinished, refused_so, call_judged, bootstrap_judged, finish_judged, returned_judged, resolution_judged, target_judged, judged}
+use Rattle.cp_relay.specs.Rules.{follows}
+use Rattle.cp_relay.specs.Followed.{Followed}
+use Rattle.cp_relay.specs.State.{Refused, may_go, is_broken, target_cause, descriptor_cause, limit_cause}
+use Rattle.cp_relay.specs.Judged.{most_unfinished, refused_so, call_judged, bootstrap_judged, finish_judged, returned_judged, resolution_judged, target_judged, Judgement, ruled, followed_from, goes, keeping_of}
 use Rattle.cp_relay.specs.Once.{Replies, IsDropped, Asks, Finishes, AnswersFor, Forgets, AnsweredOnce, DropsFinishes, Remembers}
 
 some_is_none : (cause : Cause) → Some cause ≡ None → ⊥
@@ -81,7 +82,7 @@ module _ (rules : Rules) (s : GuardState) where
       let is : answer ≡ _ = rw (e, k) at g in
       rw (e, k) (record { question = question; elsewhere = elsewhere; cause = cause; asks = asks; answer_is = is; first = first; remembered = get-insert_same s.refused question cause })
 
-  call_replies : (c : Call) (answer : Message) (reused target limit : Option Cause) (may broken : Bool) → get s.refused c.question_id ≡ reused → may_call rules c.interface_id c.method_id ≡ may → target_cause s.refused c.target ≡ target
+  call_replies : (c : Call) (answer : Message) (reused target limit : Option Cause) (may broken : Bool) → get s.refused c.question_id ≡ reused → may_go rules s c ≡ may → target_cause s.refused c.target ≡ target
       → limit_cause rules.limits s ≡ limit → list_any (is_broken s.refused) c.params.cap_table ≡ broken → Replies answer (call_judged rules s c).ruling → AnswersFor rules s (messages.Call c) answer (call_judged rules s c).state
   call_replies c answer (Some x) target limit may broken r m t l b g = absurd (rw r at g)
   call_replies c answer None target limit false broken r m t l b g = rw (r, m) (refused_replies (messages.Call c) answer c.question_id _ _ rules.strict (nat_lt s.unfinished most_unfinished) refl refl refl r (rw (r, m) at g))
@@ -107,7 +108,7 @@ module _ (rules : Rules) (s : GuardState) where
   refused_kept question elsewhere cause false false e k g = rw (e, k) at g
   refused_kept question elsewhere cause false true e k g = rw (e, k) at g
 
-  call_kept : (c : Call) (reused target limit : Option Cause) (may broken : Bool) → get s.refused c.question_id ≡ reused → may_call rules c.interface_id c.method_id ≡ may → target_cause s.refused c.target ≡ target
+  call_kept : (c : Call) (reused target limit : Option Cause) (may broken : Bool) → get s.refused c.question_id ≡ reused → may_go rules s c ≡ may → target_cause s.refused c.target ≡ target
       → limit_cause rules.limits s ≡ limit → list_any (is_broken s.refused) c.params.cap_table ≡ broken → IsDropped (call_judged rules s c).ruling → ⊥
   call_kept c (Some x) target limit may broken r m t l b g = rw r at g
   call_kept c None target limit false broken r m t l b g = refused_kept c.question_id _ _ rules.strict (nat_lt s.unfinished most_unfinished) refl refl (rw (r, m) at g)
@@ -136,7 +137,7 @@ module _ (rules : Rules) (s : GuardState) where
   refused_remembers k elsewhere why question cause false false e n none here = rw (e, n) here
   refused_remembers k elsewhere why question cause false true e n none here = rw (e, n) (get-insert_other s.refused k question why (other_than question k cause here none) ∙ here)
 
-  call_remembers : (c : Call) (question : ℕ) (cause : Cause) (reused target limit : Option Cause) (may : Bool) → get s.refused c.question_id ≡ reused → may_call rules c.interface_id c.method_id ≡ may → target_cause s.refused c.target ≡ target
+  call_remembers : (c : Call) (question : ℕ) (cause : Cause) (reused target limit : Option Cause) (may : Bool) → get s.refused c.question_id ≡ reused → may_go rules s c ≡ may → target_cause s.refused c.target ≡ target
       → limit_cause rules.limits s ≡ limit → get s.refused question ≡ Some cause → get (call_judged rules s c).state.refused question ≡ Some cause
   call_remembers c question cause (Some x) target limit may r m t l here = rw r here
   call_remembers c question cause None target limit false r m t l here = rw (r, m) (refused_remembers c.question_id _ _ question cause rules.strict (nat_lt s.unfinished most_unfinished) refl refl r here)
@@ -157,41 +158,93 @@ module _ (rules : Rules) (s : GuardState) where
         | inr other ↦ inl (rw r (get-remove_other s.refused k question other ∙ here))
       ]
 
+ruled_once : (rules : Rules) (s : GuardState) (m answer : Message) → Replies answer (ruled rules s m).ruling → AnswersFor rules s m answer (ruled rules s m).state
+ruled_once rules s (messages.Call c) answer g =
+    call_replies rules s c answer (get s.refused c.question_id) (target_cause s.refused c.target) (limit_cause rules.limits s) (may_go rules s c) (list_any (is_broken s.refused) c.params.cap_table) refl refl refl refl refl g
+ruled_once rules s (messages.Bootstrap b) answer g = bootstrap_replies rules s (messages.Bootstrap b) answer b.question_id (get s.refused b.question_id) (limit_cause rules.limits s) refl refl refl g
+ruled_once rules s (messages.Finish f) answer g = absurd (finish_replies rules s answer f.question_id (get s.refused f.question_id) refl g)
+ruled_once rules s (messages.Return r) answer g = absurd (return_not (Replies answer) (λ x. x) (λ m x. x) (λ b x. x) rules s.refused r r.returned g)
+ruled_once rules s (messages.Resolve r) answer g = absurd (resolve_not (Replies answer) (λ x. x) (λ m x. x) (λ b x. x) rules s.refused r r.resolution g)
+ruled_once rules s (messages.Disembargo d) answer g = absurd (target_not (Replies answer) (λ x. x) (λ m x. x) (λ b x. x) rules s.refused d.target g)
+ruled_once rules s (messages.Unimplemented tree) answer g = absurd g
+ruled_once rules s (messages.Abort exception) answer g = absurd g
+ruled_once rules s (messages.Release release) answer g = absurd g
+ruled_once rules s (messages.Other which body) answer g = absurd g
+
+ruled_drops : (rules : Rules) (s : GuardState) (m : Message) → IsDropped (ruled rules s m).ruling → Forgets s m (ruled rules s m).state
+ruled_drops rules s (messages.Call c) g =
+    absurd (call_kept rules s c (get s.refused c.question_id) (target_cause s.refused c.target) (limit_cause rules.limits s) (may_go rules s c) (list_any (is_broken s.refused) c.params.cap_table) refl refl refl refl refl g)
+ruled_drops rules s (messages.Bootstrap b) g = absurd (bootstrap_kept rules s b.question_id (get s.refused b.question_id) (limit_cause rules.limits s) refl refl g)
+ruled_drops rules s (messages.Finish f) g = finish_dropped rules s (messages.Finish f) f.question_id (get s.refused f.question_id) refl refl g
+ruled_drops rules s (messages.Return r) g = absurd (return_not IsDropped (λ x. x) (λ m x. x) (λ b x. x) rules s.refused r r.returned g)
+ruled_drops rules s (messages.Resolve r) g = absurd (resolve_not IsDropped (λ x. x) (λ m x. x) (λ b x. x) rules s.refused r r.resolution g)
+ruled_drops rules s (messages.Disembargo d) g = absurd (target_not IsDropped (λ x. x) (λ m x. x) (λ b x. x) rules s.refused d.target g)
+ruled_drops rules s (messages.Unimplemented tree) g = absurd g
+ruled_drops rules s (messages.Abort exception) g = absurd g
+ruled_drops rules s (messages.Release release) g = absurd g
+ruled_drops rules s (messages.Other which body) g = absurd g
+
+ruled_remembers : (rules : Rules) (s : GuardState) (m : Message) (question : ℕ) (cause : Cause) → get s.refused question ≡ Some cause → get (ruled rules s m).state.refused question ≡ Some cause ⊎ Finishes m question
+ruled_remembers rules s (messages.Call c) question cause here =
+    inl (call_remembers rules s c question cause (get s.refused c.question_id) (target_cause s.refused c.target) (limit_cause rules.limits s) (may_go rules s c) refl refl refl refl here)
+ruled_remembers rules s (messages.Bootstrap b) question cause here = inl (bootstrap_remembers rules s b.question_id question cause (get s.refused b.question_id) (limit_cause rules.limits s) refl refl here)
+ruled_remembers rules s (messages.Finish f) question cause here = finish_remembers rules s f.question_id question cause (get s.refused f.question_id) refl here
+ruled_remembers rules s (messages.Return r) question cause here = inl here
+ruled_remembers rules s (messages.Resolve r) question cause here = inl here
+ruled_remembers rules s (messages.Disembargo d) question cause here = inl here
+ruled_remembers rules s (messages.Unimplemented tree) question cause here = inl here
+ruled_remembers rules s (messages.Abort exception) question cause here = inl here
+ruled_remembers rules s (messages.Release release) question cause here = inl here
+ruled_remembers rules s (messages.Other which body) question cause here = inl here
+
+-- ---- what is kept of a message that goes changes nothing of this
+
+goes_not : (v : Ruling) (answer : Message) → goes v ≡ true → (Replies answer v → ⊥) × (IsDropped v → ⊥)
+goes_not rulings.Passes answer g = (λ x. x, λ x. x)
+goes_not (rulings.Changes m) answer g = (λ x. x, λ x. x)
+goes_not (rulings.Answers m) answer g = absurd (true≢false (sym g))
+goes_not rulings.Drops answer g = absurd (true≢false (sym g))
+goes_not (rulings.Closes breach) answer g = absurd (true≢false (sym g))
+
+goes_if : (a b : Bool) → (a && b) ≡ true → b ≡ true
+goes_if true b e = e
+goes_if false b e = absurd (true≢false (sym e))
+
+-- of an answer nothing is kept
+replies_so : (rules : Rules) (s : GuardState) (m answer : Message) (j : Judgement) (kept : Followed) (b : Bool) (breach : Option Breach) → (b ≡ true → goes j.ruling ≡ true) → kept.breach ≡ breach → (Replies answer j.ruling → AnswersFor rules s m answer j.state)
+    → Replies answer (keeping_of b j kept).ruling → AnswersFor rules s m answer (keeping_of b j kept).state
+replies_so rules s m answer j kept false breach go e h g = h g
+replies_so rules s m answer j kept true (Some x) go e h g = absurd (rw e at g)
+replies_so rules s m answer j kept true None go e h g = absurd ((goes_not j.ruling answer (go refl)).0 (rw e at g))
+
+drops_so : (s : GuardState) (m : Message) (j : Judgement) (kept : Followed) (b : Bool) (breach : Option Breach) → (b ≡ true → goes j.ruling ≡ true) → kept.breach ≡ breach → (IsDropped j.ruling → Forgets s m j.state)
+    → IsDropped (keeping_of b j kept).ruling → Forgets s m (keeping_of b j kept).state
+drops_so s m j kept false breach go e h g = h g
+drops_so s m j kept true (Some x) go e h g = absurd (rw e at g)
+drops_so s m j kept true None go e h g = absurd ((goes_not j.ruling m (go refl)).1 (rw e at g))
+
+remembers_so : (question : ℕ) (cause : Cause) (j : Judgement) (kept : Followed) (b : Bool) (breach : Option Breach) → kept.breach ≡ breach → get j.state.refused question ≡ Some cause → get (keeping_of b j kept).state.refused question ≡ Some cause
+remembers_so question cause j kept false breach e h = h
+remembers_so question cause j kept true (Some x) e h = rw e h
+remembers_so question cause j kept true None e h = rw e h
+
 pub answered_once : AnsweredOnce
-answered_once rules s (messages.Call c) answer g =
-    call_replies rules s c answer (get s.refused c.question_id) (target_cause s.refused c.target) (limit_cause rules.limits s) (may_call rules c.interface_id c.method_id) (list_any (is_broken s.refused) c.params.cap_table) refl refl refl refl refl g
-answered_once rules s (messages.Bootstrap b) answer g = bootstrap_replies rules s (messages.Bootstrap b) answer b.question_id (get s.refused b.question_id) (limit_cause rules.limits s) refl refl refl g
-answered_once rules s (messages.Finish f) answer g = absurd (finish_replies rules s answer f.question_id (get s.refused f.question_id) refl g)
-answered_once rules s (messages.Return r) answer g = absurd (return_not (Replies answer) (λ x. x) (λ m x. x) (λ b x. x) rules s.refused r r.returned g)
-answered_once rules s (messages.Resolve r) answer g = absurd (resolve_not (Replies answer) (λ x. x) (λ m x. x) (λ b x. x) rules s.refused r r.resolution g)
-answered_once rules s (messages.Disembargo d) answer g = absurd (target_not (Replies answer) (λ x. x) (λ m x. x) (λ b x. x) rules s.refused d.target g)
-answered_once rules s (messages.Unimplemented tree) answer g = absurd g
-answered_once rules s (messages.Abort exception) answer g = absurd g
-answered_once rules s (messages.Release release) answer g = absurd g
-answered_once rules s (messages.Other which body) answer g = absurd g
+answered_once rules s m answer g =
+    let j = ruled rules s m in
+    let kept = followed_from false rules j.state.references m in
+    replies_so rules s m answer j kept (follows rules && goes j.ruling) kept.breach (goes_if (follows rules) (goes j.ruling)) refl (ruled_once rules s m answer) g
 
 pub drops_finishes : DropsFinishes
-drops_finishes rules s (messages.Call c) g =
-    absurd (call_kept rules s c (get s.refused c.question_id) (target_cause s.refused c.target) (limit_cause rules.limits s) (may_call rules c.interface_id c.method_id) (list_any (is_broken s.refused) c.params.cap_table) refl refl refl refl refl g)
-drops_finishes rules s (messages.Bootstrap b) g = absurd (bootstrap_kept rules s b.question_id (get s.refused b.question_id) (limit_cause rules.limits s) refl refl g)
-drops_finishes rules s (messages.Finish f) g = finish_dropped rules s (messages.Finish f) f.question_id (get s.refused f.question_id) refl refl g
-drops_finishes rules s (messages.Return r) g = absurd (return_not IsDropped (λ x. x) (λ m x. x) (λ b x. x) rules s.refused r r.returned g)
-drops_finishes rules s (messages.Resolve r) g = absurd (resolve_not IsDropped (λ x. x) (λ m x. x) (λ b x. x) rules s.refused r r.resolution g)
-drops_finishes rules s (messages.Disembargo d) g = absurd (target_not IsDropped (λ x. x) (λ m x. x) (λ b x. x) rules s.refused d.target g)
-drops_finishes rules s (messages.Unimplemented tree) g = absurd g
-drops_finishes rules s (messages.Abort exception) g = absurd g
-drops_finishes rules s (messages.Release release) g = absurd g
-drops_finishes rules s (messages.Other which body) g = absurd g
+drops_finishes rules s m g =
+    let j = ruled rules s m in
+    let kept = followed_from false rules j.state.references m in
+    drops_so s m j kept (follows rules && goes j.ruling) kept.breach (goes_if (follows rules) (goes j.ruling)) refl (ruled_drops rules s m) g
 
 pub remembers : Remembers
-remembers rules s (messages.Call c) question cause here =
-    inl (call_remembers rules s c question cause (get s.refused c.question_id) (target_cause s.refused c.target) (limit_cause rules.limits s) (may_call rules c.interface_id c.method_id) refl refl refl refl here)
-remembers rules s (messages.Bootstrap b) question cause here = inl (bootstrap_remembers rules s b.question_id question cause (get s.refused b.question_id) (limit_cause rules.limits s) refl refl here)
-remembers rules s (messages.Finish f) question cause here = finish_remembers rules s f.question_id question cause (get s.refused f.question_id) refl here
-remembers rules s (messages.Return r) question cause here = inl here
-remembers rules s (messages.Resolve r) question cause here = inl here
-remembers rules s (messages.Disembargo d) question cause here = inl here
-remembers rules s (messages.Unimplemented tree) question cause here = inl here
-remembers rules s (messages.Abort exception) question cause here = inl here
-remembers rules s (messages.Release release) question cause here = inl here
-remembers rules s (messages.Other which body) question cause here = inl here
+remembers rules s m question cause here =
+    let j = ruled rules s m in
+    let kept = followed_from false rules j.state.references m in
+    elim (ruled_remembers rules s m question cause here) [
+      | inl still ↦ inl (remembers_so question cause j kept (follows rules && goes j.ruling) kept.breach refl still)
+      | inr finishes ↦ inr finishes
+    ]

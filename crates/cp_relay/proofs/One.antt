@@ -1,5 +1,5 @@
 -- A piece up to the end of a frame has one message, which the guard judged and the relay let go.
-use Rattle.std.proofs.Common.{◌≡◌, ◌<◌, ℕ, List, [], ◌∷◌, ◌++◌, length, Bool, Option, Some, None, true, false, rules, refl, sym, ap, ◌∙◌, subst, arith, length-append, append-nil}
+use Rattle.std.proofs.Common.{◌≡◌, ℕ, List, [], ◌∷◌, Bool, Option, Some, None, true, false, rules, refl, sym, ◌∙◌, subst, append-nil}
 use Rattle.std.specs.Prelude.{is_some, not}
 use Rattle.std.proofs.lemmas.Option.{none-some}
 use Rattle.cp_words.specs.Limits.{Bounds}
@@ -9,7 +9,6 @@ use Rattle.cp_stream.specs.Stream.{IsFrameOf}
 use Rattle.cp_relay.specs.declared.output.Output.{Output}
 use Rattle.cp_relay.specs.Relay.{IsSentFor, Passes, Lets}
 use Rattle.cp_relay.specs.declared.guard.Guard.{Guard}
-use Rattle.cp_relay.specs.declared.ruling.Ruling.{Ruling}
 use Rattle.cp_relay.specs.declared.ruling.Breach.{Breach}
 use Rattle.cp_relay.specs.Guard.{breach_in, HasJudged, GoesOn, Judges}
 

@@ -1,5 +1,5 @@
 -- Pieces that are fed one after another.
-use Rattle.std.proofs.Common.{◌≡◌, ◌⊎◌, inl, inr, ℕ, Bool, List, [], ◌∷◌, ◌++◌, Some, None, length, refl, sym, ◌∙◌, ap, subst, append_assoc, append-nil, rules, arith}
+use Rattle.std.proofs.Common.{◌≡◌, inl, inr, ℕ, Bool, List, [], ◌∷◌, ◌++◌, Some, None, length, refl, sym, ◌∙◌, ap, subst, append_assoc, append-nil, rules, arith}
 use Rattle.std.proofs.lemmas.List.{append_cancel_right, nil_from_length}
 use Rattle.cp_words.specs.Limits.{Bounds}
 use Rattle.cp_frame.specs.declared.mode.Mode.{Mode}
@@ -14,7 +14,7 @@ use Rattle.cp_relay.specs.declared.output.Output.{Output}
 use Rattle.cp_relay.specs.declared.output.Output.TheVariants as outputs
 use Rattle.cp_relay.specs.declared.fault.RelayFault.{RelayFault}
 use Rattle.cp_relay.specs.declared.fault.RelayCause.{RelayCause}
-use Rattle.cp_relay.specs.Relay.{Relay, StandsFor, Passes, LetsThrough, IsSameStream, StopsFor, GivesNext, GivesNone, Gives, Stops, StopsNext, StopsNextAt}
+use Rattle.cp_relay.specs.Relay.{Relay, StandsFor, Passes, LetsThrough, IsSameStream, StopsFor, GivesNext, GivesNone, Gives, Stops, StopsNextAt}
 use Rattle.cp_relay.specs.Runs.{Fed, FeedsStream, FeedsSame}
 use Rattle.cp_relay.proofs.Passing.{lets_both, lets_none}
 

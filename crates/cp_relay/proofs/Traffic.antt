@@ -1,7 +1,6 @@
 -- What goes through a guarded connection is what was judged, message by message.
-use Rattle.std.proofs.Common.{◌≡◌, ◌⊎◌, inl, inr, ℕ, Bool, true, false, List, [], ◌∷◌, ◌++◌, Some, None, refl, sym, ◌∙◌, ap, subst, append_assoc, append-nil, rules}
+use Rattle.std.proofs.Common.{◌≡◌, inl, inr, ℕ, Bool, true, false, List, [], ◌∷◌, ◌++◌, refl, sym, ◌∙◌, ap, subst, append_assoc, append-nil, rules}
 use Rattle.std.proofs.lemmas.List.{append_cancel_left, append_cancel_right}
-use Rattle.std.specs.Global.{Vec}
 use Rattle.cp_words.specs.Limits.{Bounds}
 use Rattle.cp_frame.specs.declared.mode.Mode.{Mode}
 use Rattle.cp_messages.specs.declared.message.Message.{Message}
@@ -13,13 +12,11 @@ use Rattle.cp_relay.specs.declared.ruling.Ruling.{Ruling}
 use Rattle.cp_relay.specs.declared.ruling.Ruling.TheVariants as rulings
 use Rattle.cp_relay.specs.declared.guard.Guard.{Guard}
 use Rattle.cp_relay.specs.declared.filter.Filter.{Filter}
-use Rattle.cp_relay.specs.declared.filter.FilterFault.{FilterFault}
-use Rattle.cp_relay.specs.declared.filter.FilterFault.TheVariants as faults
 use Rattle.cp_relay.specs.Relay.{StandsFor}
 use Rattle.cp_relay.specs.Judged.{Judgement, judged_from}
 use Rattle.cp_relay.specs.Guard.{IsSecondLater}
-use Rattle.cp_relay.specs.Filter.{Follows, IsSameFilter, Fails}
-use Rattle.cp_relay.specs.Traffic.{Connection, Read, Call, of_caller, of_callee, of_clock, TakesNext, TakesAll, TakesNone, Takes, Does, Runs, caller_sent, callee_sent, to_callee, to_caller, Heard, from_caller, from_callee, second, Form, form_of, AreFrames, caller_frames, callee_frames, knows, PutsFor, Puts, PutsAll, IsJudged, IsOpen, OnlyJudgedGoes, NothingAfter}
+use Rattle.cp_relay.specs.Filter.{Follows, IsSameFilter}
+use Rattle.cp_relay.specs.Traffic.{Connection, Read, Call, of_caller, of_callee, of_clock, TakesNext, TakesAll, Takes, Runs, caller_sent, callee_sent, to_callee, to_caller, Heard, from_caller, from_callee, second, Form, form_of, AreFrames, caller_frames, callee_frames, knows, PutsFor, PutsAll, IsJudged, IsOpen, OnlyJudgedGoes, NothingAfter}
 
 not_both : (b : Bool) → b ≡ true → b ≡ false → ⊥
 not_both b t f = search (rules, sym t ∙ f)

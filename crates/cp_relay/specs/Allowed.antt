@@ -14,20 +14,21 @@ use Rattle.cp_relay.specs.declared.rules.Rules.{Rules}
 use Rattle.cp_relay.specs.declared.state.GuardState.{GuardState}
 use Rattle.cp_relay.specs.declared.ruling.Ruling.{Ruling}
 use Rattle.cp_relay.specs.declared.ruling.Ruling.TheVariants as rulings
-use Rattle.cp_relay.specs.Rules.{may_call}
-use Rattle.cp_relay.specs.State.{Refused, is_broken, target_cause, descriptor_cause, limit_cause}
-use Rattle.cp_relay.specs.Judged.{Judgement, judged}
+use Rattle.cp_relay.specs.Rules.{follows}
+use Rattle.cp_relay.specs.Followed.{followed}
+use Rattle.cp_relay.specs.State.{Refused, may_go, is_broken, target_cause, descriptor_cause, limit_cause}
+use Rattle.cp_relay.specs.Judged.{judged}
 
 -- no capability of a payload is one that a refused question promised
 abbrev pub HasNoBroken : Refused → Payload → Type 0
 HasNoBroken refused payload = list_any (is_broken refused) payload.cap_table ≡ false
 
--- A call may go: its method may be called, and it names no question that was refused.
-pub record IsAllowedCall (rules : Rules) (refused : Refused) (call : Call) : Type 0 where
-  pub method : may_call rules call.interface_id call.method_id ≡ true
-  pub number : get refused call.question_id ≡ None
-  pub target : target_cause refused call.target ≡ None
-  pub params : HasNoBroken refused call.params
+-- A call may go: the rules allow it, and it names no question that was refused.
+pub record IsAllowedCall (rules : Rules) (s : GuardState) (call : Call) : Type 0 where
+  pub method : may_go rules s call ≡ true
+  pub number : get s.refused call.question_id ≡ None
+  pub target : target_cause s.refused call.target ≡ None
+  pub params : HasNoBroken s.refused call.params
 
 -- what is returned names no question that was refused
 abbrev pub IsAllowedReturn : Refused → Returned → Type 0
@@ -41,14 +42,18 @@ IsAllowedResolution refused (resolutions.Cap descriptor) = descriptor_cause refu
 IsAllowedResolution refused other = Unit {0}
 
 -- a message may go
-abbrev pub IsAllowed : Rules → Refused → Message → Type 0
-IsAllowed rules refused (messages.Call call) = IsAllowedCall rules refused call
-IsAllowed rules refused (messages.Bootstrap bootstrap) = get refused bootstrap.question_id ≡ None
-IsAllowed rules refused (messages.Finish finish) = get refused finish.question_id ≡ None
-IsAllowed rules refused (messages.Return r) = IsAllowedReturn refused r.returned
-IsAllowed rules refused (messages.Resolve r) = IsAllowedResolution refused r.resolution
-IsAllowed rules refused (messages.Disembargo d) = target_cause refused d.target ≡ None
-IsAllowed rules refused other = Unit {0}
+abbrev pub IsAllowed : Rules → GuardState → Message → Type 0
+IsAllowed rules s (messages.Call call) = IsAllowedCall rules s call
+IsAllowed rules s (messages.Bootstrap bootstrap) = get s.refused bootstrap.question_id ≡ None
+IsAllowed rules s (messages.Finish finish) = get s.refused finish.question_id ≡ None
+IsAllowed rules s (messages.Return r) = IsAllowedReturn s.refused r.returned
+IsAllowed rules s (messages.Resolve r) = IsAllowedResolution s.refused r.resolution
+IsAllowed rules s (messages.Disembargo d) = target_cause s.refused d.target ≡ None
+IsAllowed rules s other = Unit {0}
+
+-- what is kept of a message closes nothing; without a rule on what calls gave nothing is kept
+abbrev pub IsKept : Rules → GuardState → Message → Type 0
+IsKept rules s m = follows rules ≡ true → (followed rules s.references m).breach ≡ None
 
 -- the second message goes where the first came
 abbrev pub Goes : Ruling → Message → Message → Type 0
@@ -60,8 +65,8 @@ Goes (rulings.Closes breach) came goes = ⊥
 
 -- whatever the caller sends, what goes is allowed
 abbrev pub OnlyAllowed : Type 0
-OnlyAllowed = (rules : Rules) (s : GuardState) (came goes : Message) → Goes (judged rules s came).ruling came goes → IsAllowed rules s.refused goes
+OnlyAllowed = (rules : Rules) (s : GuardState) (came goes : Message) → Goes (judged rules s came).ruling came goes → IsAllowed rules s goes
 
--- and what is allowed goes as it came, unless a limit is met
+-- and what is allowed goes as it came, unless a limit is met, or what is kept of it closes the connection
 abbrev pub AllowedPass : Type 0
-AllowedPass = (rules : Rules) (s : GuardState) (m : Message) → IsAllowed rules s.refused m → limit_cause rules.limits s ≡ None → (judged rules s m).ruling ≡ rulings.Passes
+AllowedPass = (rules : Rules) (s : GuardState) (m : Message) → IsAllowed rules s m → limit_cause rules.limits s ≡ None → IsKept rules s m → (judged rules s m).ruling ≡ rulings.Passes

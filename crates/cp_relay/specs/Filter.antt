@@ -64,7 +64,7 @@ pub record Guarded (before after : Guard) (f : Filter) (frame : List ℕ) (out n
   pub is_open : after.closed ≡ false
   pub does : Does f ruling sent out now answers later
 
--- The piece was read up to the end of a frame, and what the guard judged of its message was done.
+-- The piece was read up to a frame's end, and what was judged of its message was done.
 pub record GuardsNext (before after : Guard) (old new : Filter) (piece rest : List ℕ) (out now answers later : Vec ℕ) : Type 0 where
   pub front : List ℕ
   pub whole : piece ≡ front ++ rest

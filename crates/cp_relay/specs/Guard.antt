@@ -1,5 +1,5 @@
 -- A guard, before and after a message.
-use Rattle.std.specs.Prelude.{◌≡◌, ◌≢◌, ℕ, Bool, true, false, Option, Some, None}
+use Rattle.std.specs.Prelude.{◌≡◌, ◌≢◌, Bool, true, false, Option, Some, None}
 use Rattle.std.specs.FinMap as map
 use Rattle.cp_messages.specs.declared.message.Message.{Message}
 use Rattle.cp_messages.specs.declared.message.Message.TheVariants as messages
@@ -10,7 +10,9 @@ use Rattle.cp_relay.specs.declared.ruling.Ruling.{Ruling}
 use Rattle.cp_relay.specs.declared.ruling.Ruling.TheVariants as rulings
 use Rattle.cp_relay.specs.declared.ruling.Breach.{Breach}
 use Rattle.cp_relay.specs.State.{Refused}
-use Rattle.cp_relay.specs.Judged.{judged_from}
+use Rattle.cp_relay.specs.References.{no_references}
+use Rattle.cp_relay.specs.Followed.{finding}
+use Rattle.cp_relay.specs.Judged.{judging, ruled_from, followed_from, judged_from}
 
 -- why a ruling closes the connection
 abbrev pub breach_in : Ruling → Option Breach
@@ -39,6 +41,7 @@ pub record IsFresh (given : Rules) (g : Guard) : Type 0 where
   pub unfinished : g.state.unfinished ≡ 0
   pub under_way : g.state.under_way ≡ 0
   pub opened : g.state.opened ≡ 0
+  pub references : g.state.references ≡ no_references
   pub unjudged : g.ruling ≡ None
   pub uncalled : g.call ≡ None
   pub is_open : g.closed ≡ false
@@ -59,6 +62,12 @@ pub record IsSame (old new : Guard) : Type 0 where
   pub call : new.call ≡ old.call
   pub closed : new.closed ≡ old.closed
 
+-- The guard stands in the same connection, by the same rules.
+pub record IsSameStanding (old new : Guard) : Type 0 where
+  pub rules : new.rules.now ≡ old.rules.now
+  pub comes_back : new.comes_back ≡ old.comes_back
+  pub closed : new.closed ≡ old.closed
+
 -- The guard waits for the next message, of this direction.
 pub record Begins (side : Bool) (old new : Guard) : Type 0 where
   pub rules : new.rules.now ≡ old.rules.now
@@ -68,7 +77,15 @@ pub record Begins (side : Bool) (old new : Guard) : Type 0 where
   pub uncalled : new.call ≡ None
   pub closed : new.closed ≡ old.closed
 
--- This became of a message, by what the guard knew before it.
+-- This becomes of a message by the questions that were refused.
+abbrev pub IsRuled : Guard → Message → Ruling → Guard → Type 0
+IsRuled old m ruling new = judging ruling new.state ≡ ruled_from old.comes_back old.rules.now old.state m
+
+-- This is kept of it, and it closes the connection, if there is a breach.
+abbrev pub IsFollowed : Guard → Message → Option Breach → Guard → Type 0
+IsFollowed old m breach new = finding breach new.state.references ≡ followed_from old.comes_back old.rules.now old.state.references m
+
+-- This became of a message, by what the guard knew.
 abbrev pub IsJudged : Guard → Message → Ruling → Guard → Type 0
 IsJudged old m ruling new = record { ruling = ruling; state = new.state } ≡ judged_from old.comes_back old.rules.now old.state m
 

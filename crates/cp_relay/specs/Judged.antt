@@ -1,5 +1,6 @@
--- What becomes of each message. The messages of the caller are judged; of those of the callee only a Return to a question that was refused doesn't go.
-use Rattle.std.specs.Prelude.{ℕ, nat_lt, Bool, true, false, if◌then◌else◌, Option, Some, None}
+-- What becomes of each message. The messages of the caller are judged; of those of the callee only a Return to a question that was refused doesn't go. Where rules are on
+-- what calls gave, what is kept of a message that goes may close the connection.
+use Rattle.std.specs.Prelude.{ℕ, nat_lt, Bool, true, false, ◌&&◌, if◌then◌else◌, Option, Some, None}
 use Rattle.std.specs.List.{list_any}
 use Rattle.std.specs.FinMap.{get}
 use Rattle.cp_messages.specs.declared.call.Call.{Call}
@@ -22,6 +23,10 @@ use Rattle.cp_relay.specs.declared.ruling.Ruling.{Ruling}
 use Rattle.cp_relay.specs.declared.ruling.Ruling.TheVariants as rulings
 use Rattle.cp_relay.specs.declared.ruling.Breach.TheVariants as breaches
 use Rattle.cp_relay.specs.Answer.{answer_of, exception_of}
+use Rattle.cp_relay.specs.declared.ruling.Breach.{Breach}
+use Rattle.cp_relay.specs.declared.references.References.{References}
+use Rattle.cp_relay.specs.Rules.{follows}
+use Rattle.cp_relay.specs.Followed.{Followed, followed, followed_back}
 use Rattle.cp_relay.specs.State.{Refused, is_broken, payload_without, descriptor_cause, limit_cause, call_cause, with_one_more, with_one_fewer, with_refused, with_finished}
 
 -- what becomes of a message, and what is known of the connection then
@@ -120,27 +125,64 @@ abbrev pub target_judged : Refused → Target → Ruling
 target_judged refused (targets.PromisedAnswer answer) = disembargo_by answer.question_id (get refused answer.question_id)
 target_judged refused other = rulings.Passes
 
--- what becomes of a message of the caller
-abbrev pub judged : Rules → GuardState → Message → Judgement
-judged rules s (messages.Call call) = call_judged rules s call
-judged rules s (messages.Bootstrap bootstrap) = bootstrap_judged rules s bootstrap.question_id
-judged rules s (messages.Finish finish) = finish_judged s finish.question_id
-judged rules s (messages.Return r) = judging (return_judged rules s.refused r) s
-judged rules s (messages.Resolve r) = judging (resolve_judged rules s.refused r) s
-judged rules s (messages.Disembargo d) = judging (target_judged s.refused d.target) s
-judged rules s other = judging rulings.Passes s
+-- what becomes of a message of the caller, by the questions that were refused
+abbrev pub ruled : Rules → GuardState → Message → Judgement
+ruled rules s (messages.Call call) = call_judged rules s call
+ruled rules s (messages.Bootstrap bootstrap) = bootstrap_judged rules s bootstrap.question_id
+ruled rules s (messages.Finish finish) = finish_judged s finish.question_id
+ruled rules s (messages.Return r) = judging (return_judged rules s.refused r) s
+ruled rules s (messages.Resolve r) = judging (resolve_judged rules s.refused r) s
+ruled rules s (messages.Disembargo d) = judging (target_judged s.refused d.target) s
+ruled rules s other = judging rulings.Passes s
 
 -- a Return of the callee ends a question that is under way, and none was refused
 abbrev pub answered_by : GuardState → ℕ → Option Cause → Judgement
 answered_by s question (Some cause) = judging (rulings.Closes (breaches.Answered question)) s
 answered_by s question None = judging rulings.Passes (with_one_fewer s)
 
--- what becomes of a message of the callee
-abbrev pub judged_back : GuardState → Message → Judgement
-judged_back s (messages.Return r) = answered_by s r.answer_id (get s.refused r.answer_id)
-judged_back s other = judging rulings.Passes s
+-- what becomes of a message of the callee, by the same
+abbrev pub ruled_back : GuardState → Message → Judgement
+ruled_back s (messages.Return r) = answered_by s r.answer_id (get s.refused r.answer_id)
+ruled_back s other = judging rulings.Passes s
+
+-- a message goes, as it came or another in its place
+abbrev pub goes : Ruling → Bool
+goes rulings.Passes = true
+goes (rulings.Changes m) = true
+goes (rulings.Answers m) = false
+goes rulings.Drops = false
+goes (rulings.Closes breach) = false
+
+-- what becomes of a message of either, by the same
+abbrev pub ruled_from : Bool → Rules → GuardState → Message → Judgement
+ruled_from true rules s m = ruled_back s m
+ruled_from false rules s m = ruled rules s m
+
+-- what is kept of a message of either
+abbrev pub followed_from : Bool → Rules → References → Message → Followed
+followed_from true rules refs m = followed_back refs m
+followed_from false rules refs m = followed rules refs m
+
+-- what is kept of a message closes the connection, or is known from then on
+abbrev pub kept_by : Judgement → Option Breach → References → Judgement
+kept_by judgement (Some breach) refs = record judgement { ruling = rulings.Closes breach }
+kept_by judgement None refs = record judgement { state = record judgement.state { references = refs } }
+
+abbrev pub keeping_of : Bool → Judgement → Followed → Judgement
+keeping_of true judgement kept = kept_by judgement kept.breach kept.references
+keeping_of false judgement kept = judgement
+
+-- of a message that goes something is kept, where a rule is on what calls gave
+abbrev pub then_kept : Bool → Rules → Judgement → Message → Judgement
+then_kept side rules judgement m = keeping_of (follows rules && goes judgement.ruling) judgement (followed_from side rules judgement.state.references m)
 
 -- what becomes of a message of either
 abbrev pub judged_from : Bool → Rules → GuardState → Message → Judgement
-judged_from true rules s m = judged_back s m
-judged_from false rules s m = judged rules s m
+judged_from side rules s m = then_kept side rules (ruled_from side rules s m) m
+
+-- what becomes of a message of the caller, and of one of the callee
+abbrev pub judged : Rules → GuardState → Message → Judgement
+judged rules s m = judged_from false rules s m
+
+abbrev pub judged_back : Rules → GuardState → Message → Judgement
+judged_back rules s m = judged_from true rules s m

@@ -3,6 +3,8 @@ pub mod Passage
 pub mod Runs
 pub mod Rules
 pub mod Answer
+pub mod References
+pub mod Followed
 pub mod State
 pub mod Judged
 pub mod Guard
@@ -10,3 +12,4 @@ pub mod Filter
 pub mod Allowed
 pub mod Once
 pub mod Traffic
+pub mod Given

@@ -51,14 +51,14 @@ abbrev pub IsSentFor : Output → Bounds → List ℕ → Message → List ℕ �
 IsSentFor outputs.AsRead limits frame m sent = sent ≡ frame
 IsSentFor (outputs.Anew mode) limits frame m sent = IsWrittenAs mode limits limits.frame_words 1 m sent
 
--- the stream is frames of these messages, one after another, and then the rest; and this goes out for them, in order, each once
+-- the stream is frames of these messages, in order, and then the rest; and this goes out for them, each once
 abbrev pub Passes : Mode → Output → Bounds → List ℕ → List Message → List ℕ → List ℕ → Type 0
 Passes mode output limits b [] sent rest = (b ≡ rest) × (sent ≡ [])
 Passes mode output limits b (m ∷ more) sent rest =
     (front : List ℕ) × (back : List ℕ) × (first : List ℕ) × (later : List ℕ) × (b ≡ front ++ back) × (sent ≡ first ++ later)
     × IsFrameOf mode limits front m × IsSentFor output limits front m first × Passes mode output limits back more later rest
 
--- the visitor let these messages go, one after another
+-- the visitor let these messages go, in order
 abbrev pub Lets : {V : Type 0} → (V → Message → Bool → V → Type 0) → V → List Message → V → Type 0
 Lets says old [] new = new ≡ old
 Lets {V} says old (m ∷ more) new = (mid : V) × says old m true mid × Lets says mid more new

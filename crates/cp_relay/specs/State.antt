@@ -14,7 +14,8 @@ use Rattle.cp_relay.specs.declared.rules.CallLimits.{CallLimits}
 use Rattle.cp_relay.specs.declared.state.GuardState.{GuardState}
 use Rattle.cp_relay.specs.declared.ruling.Cause.{Cause}
 use Rattle.cp_relay.specs.declared.ruling.Cause.TheVariants as causes
-use Rattle.cp_relay.specs.Rules.{may_call}
+use Rattle.cp_relay.specs.Rules.{may_call, may_call_on, follows}
+use Rattle.cp_relay.specs.References.{marks_of}
 
 -- the questions that were refused and aren't finished, by their numbers, each with the reason
 abbrev pub Refused : Type 0
@@ -51,10 +52,21 @@ abbrev pub first_of : Option Cause → Option Cause → Option Cause
 first_of (Some cause) other = Some cause
 first_of None other = other
 
+-- the call may go to what has these marks, and not to what the caller wasn't given
+abbrev pub may_reach : Rules → Call → Option ℕ → Bool
+may_reach rules call (Some marks) = may_call_on rules marks call.interface_id call.method_id
+may_reach rules call None = false
+
+-- The rules allow a call: its method; and where there is a rule on what calls gave, to what it goes to. What is broken isn't judged by that.
+abbrev pub may_go : Rules → GuardState → Call → Bool
+may_go rules s call =
+    if follows rules then (if is_some (target_cause s.refused call.target) then true else may_reach rules call (marks_of s.references call.target))
+    else may_call rules call.interface_id call.method_id
+
 -- Why a call is refused: it isn't allowed; or what it is sent to is broken; or a limit is met.
 abbrev pub call_cause : Rules → GuardState → Call → Option Cause
 call_cause rules s call =
-    if may_call rules call.interface_id call.method_id
+    if may_go rules s call
     then first_of (target_cause s.refused call.target) (limit_cause rules.limits s)
     else Some (causes.NotAllowed call.interface_id call.method_id)
 

@@ -1,5 +1,5 @@
 -- What goes through a guarded connection over its whole life, in whatever pieces the streams of its ends come.
-use Rattle.std.specs.Prelude.{◌≡◌, ◌⊎◌, ℕ, Bool, true, false, List, [], ◌∷◌, ◌++◌}
+use Rattle.std.specs.Prelude.{◌≡◌, ◌⊎◌, ℕ, true, false, List, [], ◌∷◌, ◌++◌}
 use Rattle.std.specs.Global.{Vec}
 use Rattle.cp_words.specs.Limits.{Bounds}
 use Rattle.cp_frame.specs.declared.mode.Mode.{Mode}
@@ -146,7 +146,7 @@ callee_frames (second ∷ heard) = callee_frames heard
 -- what the guard knows after one of these
 abbrev pub knows : Rules → GuardState → Heard → GuardState
 knows rules s (from_caller frame m) = (judged rules s m).state
-knows rules s (from_callee frame m) = (judged_back s m).state
+knows rules s (from_callee frame m) = (judged_back rules s m).state
 knows rules s second = record s { opened = 0 }
 
 -- what is put out for a message by its ruling: these bytes go on, and these go back
@@ -156,7 +156,7 @@ PutsFor f ruling frame m on answers = (sent : List ℕ) × IsSentFor f.output f.
 -- the first list goes to the callee, and the second to the caller
 abbrev pub Puts : Form → Form → Rules → GuardState → Heard → List ℕ → List ℕ → Type 0
 Puts there back rules s (from_caller frame m) callee caller = PutsFor there (judged rules s m).ruling frame m callee caller
-Puts there back rules s (from_callee frame m) callee caller = PutsFor back (judged_back s m).ruling frame m caller callee
+Puts there back rules s (from_callee frame m) callee caller = PutsFor back (judged_back rules s m).ruling frame m caller callee
 Puts there back rules s second callee caller = (callee ≡ []) × (caller ≡ [])
 
 -- What is put out is that of each, one after another, as the guard judges it by what it knows then; and it knows this in the end.

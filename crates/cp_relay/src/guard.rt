@@ -3,8 +3,9 @@
 ghost use Rattle.std.specs.Prelude.{◌≡◌, IfOk, Some};
 ghost use Rattle.cp_rpc.specs.Viewed.{viewed};
 ghost use Rattle.cp_relay.specs.declared.ruling.Ruling.{Ruling};
-ghost use Rattle.cp_relay.specs.Guard.{breach_of, call_in, IsFresh, IsSame, IsSecondLater, IsJudged, Begins};
+ghost use Rattle.cp_relay.specs.Guard.{breach_of, call_in, IsFresh, IsSame, IsSecondLater, IsRuled, IsFollowed, IsJudged, Begins, IsSameStanding};
 
+use crate::references::References;
 use crate::rules::{MethodId, Rules};
 use crate::ruling::{Breach, Cause, Ruling};
 use crate::state::GuardState;
@@ -66,6 +67,7 @@ impl<'r> Guard<'r> {
                 unfinished: 0,
                 under_way: 0,
                 opened: 0,
+                references: References::new(alloc),
             },
             comes_back: false,
             ruling: None,
@@ -125,10 +127,45 @@ impl<'r> Guard<'r> {
         ensures comes_back { self.new.comes_back ≡ self.old.comes_back }
         ensures closed { self.new.closed ≡ self.old.closed }
     {
+        let ruling = self.rule(message)?;
+        if !self.rules.follows() || !ruling.goes() {
+            return Ok(ruling);
+        }
+        match self.follow(message) {
+            Ok(None) => Ok(ruling),
+            Ok(Some(breach)) => {
+                drop(ruling);
+                Ok(Ruling::Closes(breach))
+            }
+            Err(error) => {
+                drop(ruling);
+                Err(error)
+            }
+        }
+    }
+
+    /// What becomes of it by the questions that were refused.
+    fn rule(&mut self, message: &MessageView) -> Result<Ruling, AllocError>
+        ensures ruled { IfOk result (λ ruling. IsRuled self.old (viewed message.now) ruling self.new) }
+        ensures same { IsSameStanding self.old self.new }
+    {
         if self.comes_back {
             return Ok(self.state.judge_back(message));
         }
         self.state.judge(self.alloc, self.rules, message)
+    }
+
+    /// What is kept of it, and why that closes the connection, if it does.
+    fn follow(&mut self, message: &MessageView) -> Result<Option<Breach>, AllocError>
+        ensures followed { IfOk result (λ breach. IsFollowed self.old (viewed message.now) breach self.new) }
+        ensures state { self.new.state ≡ record self.old.state { references = self.new.state.references } }
+        ensures same { IsSameStanding self.old self.new }
+    {
+        let references = &mut self.state.references;
+        if self.comes_back {
+            return references.follow_back(self.alloc, message);
+        }
+        references.follow(self.alloc, self.rules, message)
     }
 
     /// The call that a message of the caller is.

@@ -3,6 +3,7 @@
 ghost use Rattle.cp_relay.specs.Allowed.{OnlyAllowed, AllowedPass};
 ghost use Rattle.cp_relay.specs.Once.{AnsweredOnce, DropsFinishes, Remembers};
 ghost use Rattle.cp_relay.specs.Runs.{FeedsStream, FeedsSame};
+ghost use Rattle.cp_relay.specs.Given.{OnlyGiven, ReleasedIsFree};
 ghost use Rattle.cp_relay.specs.Traffic.{OnlyJudgedGoes, NothingAfter};
 
 use crate::visitor::Visitor;
@@ -33,4 +34,11 @@ pub fn answered_once()
 pub fn only_judged()
     ensures judged { OnlyJudgedGoes }
     ensures over { NothingAfter }
+{}
+
+/// Where a rule is on what calls gave, no call goes but on a reference that a chain of messages gave, of which each went; and if its method
+/// may not be called on all, the chain begins with a call after which a rule has the method. A number that is given back is free.
+pub fn only_given()
+    ensures given { OnlyGiven }
+    ensures freed { ReleasedIsFree }
 {}

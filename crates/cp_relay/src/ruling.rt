@@ -2,6 +2,7 @@
 
 ghost use Rattle.std.specs.Prelude.{◌≡◌};
 ghost use Rattle.cp_relay.specs.Guard.{breach_in};
+ghost use Rattle.cp_relay.specs.Judged.{goes};
 
 use cp_rpc::Message;
 use std::fmt;
@@ -30,6 +31,12 @@ pub enum Breach {
     Disembargoed(u32),
     /// A question that was refused was answered by the callee.
     Answered(u32),
+    /// A Return came to a question that isn't open. This and the next are told where a rule is on what calls gave.
+    Unasked(u32),
+    /// The caller doesn't know a message of the callee's, which may have given it a reference.
+    Unimplemented,
+    /// More references were given than are kept.
+    Full,
 }
 
 /// What becomes of a message.
@@ -48,6 +55,19 @@ pub enum Ruling {
 }
 
 impl Ruling {
+    /// Whether a message goes, as it came or another in its place.
+    pub(crate) fn goes(&self) -> bool
+        ensures { result ≡ goes self.now }
+    {
+        match self {
+            Ruling::Passes => true,
+            Ruling::Changes(_) => true,
+            Ruling::Answers(_) => false,
+            Ruling::Drops => false,
+            Ruling::Closes(_) => false,
+        }
+    }
+
     /// Why the connection is closed, if it is.
     pub(crate) fn breach(&self) -> Option<Breach>
         ensures { result ≡ breach_in self.now }
@@ -76,6 +96,11 @@ impl fmt::Display for Breach {
             Breach::Answered(question) => {
                 write!(f, "a Return to question {question}, which was refused")
             }
+            Breach::Unasked(question) => {
+                write!(f, "a Return to question {question}, which isn't open")
+            }
+            Breach::Unimplemented => f.write_str("an Unimplemented of the caller"),
+            Breach::Full => f.write_str("too many references"),
         }
     }
 }

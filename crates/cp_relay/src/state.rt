@@ -2,11 +2,12 @@
 
 ghost use Rattle.std.specs.Prelude.{◌≡◌, IfOk, IfNone};
 ghost use Rattle.cp_rpc.specs.Viewed.{viewed, viewed_call, viewed_return, viewed_resolve, viewed_target};
-ghost use Rattle.cp_relay.specs.State.{limit_cause, call_cause, CountsOneMore, with_one_more};
-ghost use Rattle.cp_relay.specs.Judged.{judged, judged_back, call_judged, bootstrap_judged, finish_judged, return_judged, resolve_judged, target_judged, refused_so, passed_call, returning, is_elsewhere};
+ghost use Rattle.cp_relay.specs.State.{limit_cause, call_cause, may_go, CountsOneMore, with_one_more};
+ghost use Rattle.cp_relay.specs.Judged.{ruled, ruled_back, call_judged, bootstrap_judged, finish_judged, return_judged, resolve_judged, target_judged, refused_so, passed_call, returning, is_elsewhere};
 
 use crate::answer::{answer_of, exception_of};
 use crate::caps::{descriptor_cause, has_broken, payload_without, target_cause};
+use crate::references::References;
 use crate::rules::{MethodId, Rules};
 use crate::ruling::{Breach, Cause, Ruling};
 use cp_reading::View;
@@ -31,6 +32,8 @@ pub(crate) struct GuardState {
     pub under_way: u32,
     /// How many went in this second.
     pub opened: u32,
+    /// What the caller was given, if a rule is on what calls gave.
+    pub references: References,
 }
 
 impl GuardState {
@@ -41,7 +44,7 @@ impl GuardState {
         rules: &Rules,
         message: &MessageView,
     ) -> Result<Ruling, AllocError>
-        ensures { IfOk result (λ v. record { ruling = v; state = self.new } ≡ judged rules.now self.old (viewed message.now)) }
+        ensures { IfOk result (λ v. record { ruling = v; state = self.new } ≡ ruled rules.now self.old (viewed message.now)) }
     {
         match message {
             MessageIn::Call(call) => self.judge_call(alloc, rules, call),
@@ -61,7 +64,7 @@ impl GuardState {
 
     /// What becomes of a message of the callee.
     pub(crate) fn judge_back(&mut self, message: &MessageView) -> Ruling
-        ensures { record { ruling = result; state = self.new } ≡ judged_back self.old (viewed message.now) }
+        ensures { record { ruling = result; state = self.new } ≡ ruled_back self.old (viewed message.now) }
     {
         match message {
             MessageIn::Return(returned) => {
@@ -203,13 +206,35 @@ impl GuardState {
         ensures cause { result ≡ call_cause rules.now self.now (viewed_call (λ t. t) call.now) }
         ensures few { IfNone result (CountsOneMore self.now) }
     {
-        let (interface, method) = (call.interface_id, call.method_id);
-        if !rules.may_call(MethodId { interface, method }) {
-            return Some(Cause::NotAllowed { interface, method });
+        if !self.may_go(rules, call) {
+            return Some(Cause::NotAllowed {
+                interface: call.interface_id,
+                method: call.method_id,
+            });
         }
         match target_cause(&self.refused, &call.target) {
             Some(cause) => Some(cause),
             None => self.limit_cause(rules),
+        }
+    }
+
+    /// Whether the rules allow a call.
+    fn may_go(&self, rules: &Rules, call: &CallView<View>) -> bool
+        ensures { result ≡ may_go rules.now self.now (viewed_call (λ t. t) call.now) }
+    {
+        let method = MethodId {
+            interface: call.interface_id,
+            method: call.method_id,
+        };
+        if !rules.follows() {
+            return rules.may_call(method);
+        }
+        if target_cause(&self.refused, &call.target).is_some() {
+            return true;
+        }
+        match self.references.marks_of(&call.target) {
+            Some(marks) => rules.may_call(method) || rules.is_granted(marks, method),
+            None => false,
         }
     }
 

@@ -1,4 +1,3 @@
-pub mod Flowing
 pub mod Giving
 pub mod Passing
 pub mod Limiting

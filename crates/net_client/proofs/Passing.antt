@@ -5,7 +5,7 @@ use Rattle.net_sockets.specs.declared.nonblocking_stream.Got.{Got}
 use Rattle.net_sockets.specs.Flow.{Flow, Moves, Rests}
 use Rattle.net_sockets.specs.Reading.{flow_of}
 use Rattle.net_client.specs.Passing.{Fills, Passage, Passes, Sends, Waits}
-use Rattle.net_client.proofs.Flowing.{flows_both, flows_none}
+use Rattle.net_sockets.proofs.Flowing.{flows_both, flows_none}
 
 -- nothing was done
 pub waits_none : (at : Passage) → Waits at at

@@ -74,7 +74,7 @@ module _ {H : Type 0} (table : ObjectTableKind H) where
   turned : (old new : Floor H) → Turns table old new → AwaitsAll table old → AwaitsAll table new
   turned old new (rests r) all = same_each old.due new.due old.served new.served r.same r.due all
   turned old new (goes_on key one next woken was stays puts ended note added awaits) all = put_each old.due new.due old.served new.served key next puts awaits all
-  turned old new (ends key one woken end was by puts ended forgets added due) all = out_each old.due new.due old.served new.served key puts due all
+  turned old new (ends key one last woken end was by puts ended forgets added due) all = out_each old.due new.due old.served new.served key puts due all
   turned old new (wakes waker one next first served rouses puts ended budget awaits) all =
       put_each old.due new.due old.served new.served (key_of waker.session) next puts awaits all
   turned old new (wakes_none waker first unserved same ended budget due) all = same_each old.due new.due old.served new.served same due all
@@ -91,7 +91,7 @@ module _ {H : Type 0} (table : ObjectTableKind H) where
   told old new (Some (all_news.Connected n peer)) h all = subst (λ (f : Floor H). AwaitsAll table f) (sym h.0) all
   told old new (Some (all_news.Refused peer)) h all = subst (λ (f : Floor H). AwaitsAll table f) (sym h.0) all
   told old new (Some all_news.Woken) h all = subst (λ (f : Floor H). AwaitsAll table f) (sym h.0) all
-  told old new (Some (all_news.Ended n peer end)) h all = same_each old.due new.due old.served new.served (λ key. ap (λ f. f key) h.0) h.4 all
+  told old new (Some (all_news.Ended n peer end stats)) h all = same_each old.due new.due old.served new.served (λ key. ap (λ f. f key) h.0) h.4 all
 
   pub reports_awaited : ReportsAwaited table
   reports_awaited old new news h all = told h.0 new news h.2 (in_rounds old h.0 h.1 all)

@@ -5,11 +5,12 @@ use Rattle.std.proofs.lemmas.Bool.{cases_eq}
 use Rattle.std.proofs.lemmas.List.Sums.{sum_by-set}
 use Rattle.slab.specs.Slab.{Slab, Updates, get, slab_len, with_value}
 use Rattle.slab.proofs.SlabLemmas.{ContainsKey-within, Updates-with_value}
+use Rattle.cp_connection.specs.declared.event.ConnectionStats.{ConnectionStats}
 use Rattle.cp_objects.specs.declared.waker.Waker.{Waker}
 use Rattle.cp_objects.specs.ObjectTable.{ObjectTableKind}
 use Rattle.cp_session.specs.Doing.{due_of}
 use Rattle.cp_session.specs.Progress.{earlier}
-use Rattle.cp_session.specs.State.{State, new_state}
+use Rattle.cp_session.specs.State.{State, link_of, new_state}
 use Rattle.net_sockets.specs.Flow.{Flow}
 use Rattle.net_sockets.specs.declared.listener.Peer.{Peer}
 use Rattle.net_host.specs.declared.end.End.{End}
@@ -22,7 +23,7 @@ use Rattle.net_host.specs.declared.pending.PendingConnection.{PendingConnection}
 use Rattle.net_host.specs.declared.config.HostConfig.{HostConfig}
 use Rattle.net_host.specs.declared.host.HostEvent.TheVariants as all_news
 use Rattle.net_host.specs.Floor.{Floor, IsServed, Puts, Reports, Rests, Rounds, Seats, SeatsAt, Tells, begins, floor_of, options_of, seen, turns}
-use Rattle.net_host.specs.HostedConnections.{IsShort, Served, end_or, new_served, served_of}
+use Rattle.net_host.specs.HostedConnections.{IsShort, IsUnroused, Served, end_or, new_served, served_of, stats_of}
 use Rattle.net_host.specs.Roster.{Accepts, Roster}
 use Rattle.net_host.specs.Waking.{key_of, session_of}
 
@@ -113,19 +114,20 @@ module _ {S D H : Type 0} (state : S → State H) (flow : D → Flow) where
 
 module _ {H : Type 0} where
   -- a connection ended as memory ran out while it was woken
-  pub ran_out : (one woken last : Served H) (end : End) → woken ≡ record one { session = woken.session } → last ≡ record woken { end = None } → IsShort woken end
-      → (last.number ≡ one.number) × (last.peer ≡ one.peer) × IsShort one end
+  pub ran_out : (one woken last : Served H) (end : End) → IsUnroused one woken → last ≡ record woken { end = None } → IsShort woken end
+      → (last.number ≡ one.number) × (last.peer ≡ one.peer) × (stats_of last ≡ stats_of one) × IsShort one end
   ran_out one woken last end still same short = (
-    ap (λ (x : Served H). x.number) same ∙ ap (λ (x : Served H). x.number) still,
-    ap (λ (x : Served H). x.peer) same ∙ ap (λ (x : Served H). x.peer) still,
-    (short.0, short.1, short.2 ∙ ap (λ (x : Served H). end_or x.end (all_ends.Failed short.0)) still),
+    ap (λ (x : Served H). x.number) same ∙ ap (λ (x : Served H). x.number) still.1,
+    ap (λ (x : Served H). x.peer) same ∙ ap (λ (x : Served H). x.peer) still.1,
+    ap (λ (x : Served H). stats_of x) same ∙ ap (λ (s : State H). (link_of s).stats) still.0,
+    (short.0, short.1, short.2 ∙ ap (λ (x : Served H). end_or x.end (all_ends.Failed short.0)) still.1),
   )
 
 -- what came is news of no end
 pub tells_accepted : {H : Type 0} (old new : Roster) (news : HostEvent) (floor next : Floor H) → Accepts old (Some news) new → next ≡ floor → floor.ended ≡ [] → Tells floor (Some news) next
 tells_accepted old new (all_news.Connected number peer) floor next accepts e none = (e, none)
 tells_accepted old new (all_news.Refused peer) floor next accepts e none = (e, none)
-tells_accepted old new (all_news.Ended number peer end) floor next accepts e none = absurd accepts
+tells_accepted old new (all_news.Ended number peer end stats) floor next accepts e none = absurd accepts
 tells_accepted old new all_news.Woken floor next accepts e none = absurd accepts
 
 -- there was no news of an end to give
@@ -140,7 +142,7 @@ rests_same state flow old new e = record { same = λ key. ap (λ event_loop. see
 
 -- news of an end is of the first of those of which there was none
 pub tells_ended : {S D H : Type 0} (state : S → State H) (flow : D → Flow) (old new : EventLoop S D) (ended : Ended) (news : HostEvent) → new.guests ≡ old.guests → new.budget ≡ old.budget → new.wakes ≡ old.wakes → new.time ≡ old.time
-    → old.ended.items ≡ ended ∷ new.ended.items → news ≡ all_news.Ended ended.number ended.peer ended.end → Tells (floor_of state flow old) (Some news) (floor_of state flow new)
+    → old.ended.items ≡ ended ∷ new.ended.items → news ≡ all_news.Ended ended.number ended.peer ended.end ended.stats → Tells (floor_of state flow old) (Some news) (floor_of state flow new)
 tells_ended state flow old new ended news same budget wakes time first is = rw is (ap (λ guests. seen state flow guests) same, first, budget, ap (λ w. w.items) wakes, ap (λ t. t.sweep_at) time)
 
 module _ {S D H : Type 0} (state : S → State H) (flow : D → Flow) where
@@ -173,7 +175,7 @@ module _ {S D H : Type 0} (state : S → State H) (flow : D → Flow) where
         knows,
       )
 
--- the end of a connection that kept its number and peer
-pub ended_as : (ended : Ended) (number n : ℕ) (peer p : Peer) (end : End) → ended ≡ record { number = n; peer = p; end = end } → n ≡ number → p ≡ peer
-    → ended ≡ record { number = number; peer = peer; end = end }
-ended_as ended number n peer p end e a b = rw (← a, ← b) e
+-- the end of a connection that kept its number and peer, and what it took and sent
+pub ended_as : (ended : Ended) (number n : ℕ) (peer p : Peer) (end : End) (stats s : ConnectionStats) → ended ≡ record { number = n; peer = p; end = end; stats = s }
+    → n ≡ number → p ≡ peer → s ≡ stats → ended ≡ record { number = number; peer = peer; end = end; stats = stats }
+ended_as ended number n peer p end stats s e a b c = rw (← a, ← b, ← c) e

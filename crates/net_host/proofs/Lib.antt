@@ -2,7 +2,6 @@ pub mod Awaiting
 pub mod Deciding
 pub mod Fed
 pub mod Floors
-pub mod Flowing
 pub mod Once
 pub mod Overdue
 pub mod Rosters

@@ -2,6 +2,7 @@
 use Rattle.std.proofs.Common.{◌≡◌, ◌≢◌, ◌∙◌, ℕ, ◌+◌, eqb, cond, List, [], ◌∷◌, ◌++◌, Option, Some, None, inl, inr, sym, ap, subst, arith}
 use Rattle.std.proofs.lemmas.Bool.{cases_eq}
 use Rattle.std.proofs.lemmas.Bool.Decides.{nat_tests}
+use Rattle.cp_connection.specs.declared.event.ConnectionStats.{ConnectionStats}
 use Rattle.cp_objects.specs.ObjectTable.{ObjectTableKind}
 use Rattle.net_host.specs.declared.end.End.{End}
 use Rattle.net_host.specs.declared.end.Ended.{Ended}
@@ -9,7 +10,7 @@ use Rattle.net_host.specs.declared.host.HostEvent.{HostEvent}
 use Rattle.net_host.specs.declared.host.HostEvent.TheVariants as all_news
 use Rattle.net_host.proofs.Serving.{works_number}
 use Rattle.net_host.specs.Floor.{Begins, Floor, Puts, QueuesEnd, Rounds, Tells, Turns, begins, ends, goes_on, rests, sweeps, turns, wakes, wakes_none, wakes_short}
-use Rattle.net_host.specs.HostedConnections.{Served}
+use Rattle.net_host.specs.HostedConnections.{Served, stats_of}
 use Rattle.net_host.specs.Once.{Has, IsGone, IsGoneBy, IsOnce, ends_of}
 use Rattle.net_host.specs.Waking.{key_of}
 
@@ -67,9 +68,9 @@ module _ {H : Type 0} where
       ]
 
   -- one was taken out, and its end is to be told
-  once_out : (old new : Floor H) (number key : ℕ) (one : Served H) (end : End) → old.served key ≡ Some one → Puts old.served key None new.served
-      → QueuesEnd old one end new → IsOnce old number → IsOnce new number
-  once_out old new number key one end was puts ended once =
+  once_out : (old new : Floor H) (number key : ℕ) (one : Served H) (end : End) (stats : ConnectionStats) → old.served key ≡ Some one → Puts old.served key None new.served
+      → QueuesEnd old one end stats new → IsOnce old number → IsOnce new number
+  once_out old new number key one end stats was puts ended once =
       let count : ends_of number new.ended ≡ ends_of number old.ended + cond (eqb one.number number) 1 0 = ap (λ es. ends_of number es) ended ∙ ends_of-push number old.ended _ in
       elim (cases_eq one.number number) [
         | inl named ↦
@@ -89,9 +90,9 @@ module _ {H : Type 0} where
             }
       ]
 
-  gone_out : (old new : Floor H) (number key : ℕ) (one : Served H) (end : End) → old.served key ≡ Some one → Puts old.served key None new.served
-      → QueuesEnd old one end new → IsGone old number → IsGone new number
-  gone_out old new number key one end was puts ended gone =
+  gone_out : (old new : Floor H) (number key : ℕ) (one : Served H) (end : End) (stats : ConnectionStats) → old.served key ≡ Some one → Puts old.served key None new.served
+      → QueuesEnd old one end stats new → IsGone old number → IsGone new number
+  gone_out old new number key one end stats was puts ended gone =
       let other : one.number ≢ number = λ named. gone.unserved key (record { one = one; there = was; named = named }) in
       let count : ends_of number new.ended ≡ ends_of number old.ended + cond (eqb one.number number) 1 0 = ap (λ es. ends_of number es) ended ∙ ends_of-push number old.ended _ in
       record {
@@ -105,13 +106,13 @@ module _ {H : Type 0} {table : ObjectTableKind H} where
       once_by old new number (λ key has. subst (λ (slot : Option (Served H)). Has slot number) (r.same key) has) r.ended once
   once_turn old new number (goes_on key one next woken was stays puts same noted added awaits) once =
       once_by old new number (back_over old.served new.served key one next number was (works_number stays.works) puts) same once
-  once_turn old new number (ends key one woken end was by puts ended forgotten added due) once = once_out old new number key one end was puts ended once
+  once_turn old new number (ends key one last woken end was by puts ended forgotten added due) once = once_out old new number key one end (stats_of last) was puts ended once
   once_turn old new number (wakes waker one next first served rouses puts same budget awaits) once =
       once_by old new number (back_over old.served new.served (key_of waker.session) one next number served.there (ap (λ (x : Served H). x.number) rouses.1) puts) same once
   once_turn old new number (wakes_none waker first unserved still same budget due) once =
       once_by old new number (λ key has. subst (λ (slot : Option (Served H)). Has slot number) (still key) has) same once
   once_turn old new number (wakes_short waker one end first served short puts ended forgotten due) once =
-      once_out old new number (key_of waker.session) one end served.there puts ended once
+      once_out old new number (key_of waker.session) one end (stats_of one) served.there puts ended once
   once_turn old new number (sweeps still same budget waits first) once =
       once_by old new number (λ key has. subst (λ (slot : Option (Served H)). Has slot number) (still key) has) same once
 
@@ -120,13 +121,13 @@ module _ {H : Type 0} {table : ObjectTableKind H} where
       gone_by old new number (λ key has. subst (λ (slot : Option (Served H)). Has slot number) (r.same key) has) r.ended gone
   gone_turn old new number (goes_on key one next woken was stays puts same noted added awaits) gone =
       gone_by old new number (back_over old.served new.served key one next number was (works_number stays.works) puts) same gone
-  gone_turn old new number (ends key one woken end was by puts ended forgotten added due) gone = gone_out old new number key one end was puts ended gone
+  gone_turn old new number (ends key one last woken end was by puts ended forgotten added due) gone = gone_out old new number key one end (stats_of last) was puts ended gone
   gone_turn old new number (wakes waker one next first served rouses puts same budget awaits) gone =
       gone_by old new number (back_over old.served new.served (key_of waker.session) one next number served.there (ap (λ (x : Served H). x.number) rouses.1) puts) same gone
   gone_turn old new number (wakes_none waker first unserved still same budget due) gone =
       gone_by old new number (λ key has. subst (λ (slot : Option (Served H)). Has slot number) (still key) has) same gone
   gone_turn old new number (wakes_short waker one end first served short puts ended forgotten due) gone =
-      gone_out old new number (key_of waker.session) one end served.there puts ended gone
+      gone_out old new number (key_of waker.session) one end (stats_of one) served.there puts ended gone
   gone_turn old new number (sweeps still same budget waits first) gone =
       gone_by old new number (λ key has. subst (λ (slot : Option (Served H)). Has slot number) (still key) has) same gone
 
@@ -173,21 +174,21 @@ module _ {H : Type 0} where
   once_tells old new (Some (all_news.Connected n peer)) number h once = subst (λ (x : Floor H). IsOnce x number) (sym h.0) once
   once_tells old new (Some (all_news.Refused peer)) number h once = subst (λ (x : Floor H). IsOnce x number) (sym h.0) once
   once_tells old new (Some all_news.Woken) number h once = subst (λ (x : Floor H). IsOnce x number) (sym h.0) once
-  once_tells old new (Some (all_news.Ended n peer end)) number h once = once_told old new number _ h.0 h.1 once
+  once_tells old new (Some (all_news.Ended n peer end stats)) number h once = once_told old new number _ h.0 h.1 once
 
   pub gone_tells : (old new : Floor H) (news : Option HostEvent) (number : ℕ) → Tells old news new → IsGone old number → IsGone new number
   gone_tells old new None number h gone = subst (λ (x : Floor H). IsGone x number) (sym h.0) gone
   gone_tells old new (Some (all_news.Connected n peer)) number h gone = subst (λ (x : Floor H). IsGone x number) (sym h.0) gone
   gone_tells old new (Some (all_news.Refused peer)) number h gone = subst (λ (x : Floor H). IsGone x number) (sym h.0) gone
   gone_tells old new (Some all_news.Woken) number h gone = subst (λ (x : Floor H). IsGone x number) (sym h.0) gone
-  gone_tells old new (Some (all_news.Ended n peer end)) number h gone = gone_told old new number _ h.0 h.1 gone
+  gone_tells old new (Some (all_news.Ended n peer end stats)) number h gone = gone_told old new number _ h.0 h.1 gone
 
   pub reported_tells : (old new : Floor H) (news : Option HostEvent) (number : ℕ) → Tells old news new → IsOnce old number → IsGoneBy news number new
   reported_tells old new None number h once = tt
   reported_tells old new (Some (all_news.Connected n peer)) number h once = tt
   reported_tells old new (Some (all_news.Refused peer)) number h once = tt
   reported_tells old new (Some all_news.Woken) number h once = tt
-  reported_tells old new (Some (all_news.Ended n peer end)) number h once = λ named. gone_reported old new number _ h.0 h.1 named once
+  reported_tells old new (Some (all_news.Ended n peer end stats)) number h once = λ named. gone_reported old new number _ h.0 h.1 named once
 
 module _ {H : Type 0} {table : ObjectTableKind H} where
   -- a connection that begins, whose number none had

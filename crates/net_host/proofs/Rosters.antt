@@ -20,7 +20,7 @@ pub hears_after : {a b : Roster} (news : Option HostEvent) (c : Roster) → Goes
 hears_after None c h k = (goes_both h k.0, k.1)
 hears_after (Some (all_news.Connected number peer)) c h k = comes_after number peer h k
 hears_after (Some (all_news.Refused peer)) c h k = (goes_both h k.0, k.1)
-hears_after (Some (all_news.Ended number peer end)) c h k = goes_both h k
+hears_after (Some (all_news.Ended number peer end stats)) c h k = goes_both h k
 hears_after (Some all_news.Woken) c h k = let later = rw h.rest at k in record { rest = later.rest; no_more = omega (arith, h.no_more, k.no_more) }
 
 -- the time that the program named hadn't come at first, if no time passed until it hadn't come
@@ -34,7 +34,7 @@ pub on_time_after : {a b : Roster} (first began now : ℕ) (news : Option HostEv
 on_time_after first began now None h none k = unmet first began h none k
 on_time_after first began now (Some (all_news.Connected number peer)) h none k = unmet first began h none k
 on_time_after first began now (Some (all_news.Refused peer)) h none k = unmet first began h none k
-on_time_after first began now (Some (all_news.Ended number peer end)) h none k = tt
+on_time_after first began now (Some (all_news.Ended number peer end stats)) h none k = tt
 on_time_after first began now (Some all_news.Woken) h none k = subst (λ alarm. ComesBy now alarm) (ap (λ r. r.alarm) h.rest) k
 
 -- what came is on time where the time that the program named hadn't come
@@ -42,5 +42,5 @@ pub on_time_accepted : (old new : Roster) (news : HostEvent) (alarm : Option ℕ
     → IsOnTime alarm first now (Some news)
 on_time_accepted old new (all_news.Connected number peer) alarm first now accepts late = late
 on_time_accepted old new (all_news.Refused peer) alarm first now accepts late = late
-on_time_accepted old new (all_news.Ended number peer end) alarm first now accepts late = tt
+on_time_accepted old new (all_news.Ended number peer end stats) alarm first now accepts late = tt
 on_time_accepted old new all_news.Woken alarm first now accepts late = absurd accepts

@@ -26,8 +26,8 @@ use Rattle.net_host.specs.declared.end.End.TheVariants as all_ends
 use Rattle.net_host.specs.Feeding.{IsFed}
 use Rattle.net_sockets.specs.Flow.{Flow, Moves, Rests}
 use Rattle.net_host.proofs.Fed.{at_both, at_none, at_one, parts}
-use Rattle.net_host.proofs.Flowing.{flows_both, flows_none, flows_still}
-use Rattle.net_host.specs.HostedConnections.{Adds, Breaks, Closes, EndsBy, Fails, FailsBy, HandsOver, HandsSome, HasFailed, Hears, IsShort, IsTooMuch, IsWhy, Lasts, Minds, Passes, Proceeds, Sends, Served, Serves, Shuts, Stops, StopsAfter, TakesIn, Works, breaks_off, end_after, end_of, end_or, ends_broken, ends_short, ends_whole, fails_short, fails_whole, heard, is_short, kept_by, minds_full, minds_none, none, or_before, passes_on, some}
+use Rattle.net_sockets.proofs.Flowing.{flows_both, flows_none, flows_still}
+use Rattle.net_host.specs.HostedConnections.{Adds, Breaks, Closes, EndsBy, Fails, FailsBy, HandsOver, HandsSome, HasFailed, Hears, IsShort, IsTooMuch, IsWhy, Lasts, Minds, Passes, Proceeds, Sends, Served, Serves, Shuts, Stops, StopsAfter, TakesIn, Works, breaks_off, end_after, end_of, end_or, ends_broken, ends_short, ends_whole, fails_short, fails_whole, heard, is_short, kept_by, minds_full, minds_none, none, or_before, passes_on, some, stats_of}
 use Rattle.net_host.specs.Waking.{HandsAll, HandsOut, hands_more, hands_none}
 
 -- events, and more of them
@@ -435,14 +435,15 @@ module _ {H : Type 0} {table : ObjectTableKind H} where
   lasts_peer (passes_on through) = passes_peer through
 
   -- it is closed, and keeps its number and peer
-  closed : {most now : ℕ} {woken : List Waker} (old last new : Served H) (end : End) → last.number ≡ old.number → last.peer ≡ old.peer → EndsBy table most now old woken end
+  closed : {most now : ℕ} {woken : List Waker} (old last new : Served H) (end : End) → last.number ≡ old.number → last.peer ≡ old.peer → EndsBy table most now old woken last end
       → new ≡ record last { end = None } → Closes table most now old woken end new
-  closed old last new end number peer by is = (ap (λ (x : Served H). x.number) is ∙ number, ap (λ (x : Served H). x.peer) is ∙ peer, by)
+  closed old last new end number peer by is =
+      (ap (λ (x : Served H). x.number) is ∙ number, ap (λ (x : Served H). x.peer) is ∙ peer, last, by, ap (λ (x : Served H). stats_of x) is)
 
   -- once all are handed out
   pub closes : {most now : ℕ} {woken : List Waker} (old last new : Served H) (end : End) → Works table most now old woken last → IsWhy table most last end
       → new ≡ record last { end = None } → Closes table most now old woken end new
-  closes old last new end h why is = closed old last new end (works_number h) (works_peer h) (ends_whole last h why) is
+  closes old last new end h why is = closed old last new end (works_number h) (works_peer h) (ends_whole h why) is
 
   -- as memory ran out
   pub closes_short : {most now : ℕ} {woken : List Waker} (old last new : Served H) (end : End) → Works table most now old woken last → IsShort last end
@@ -455,7 +456,7 @@ module _ {H : Type 0} {table : ObjectTableKind H} where
   closes_failed old last new error end (fails_whole broken served breaks shuts hands) why is =
       closed old last new end (ap (λ (x : Served H). x.number) hands.1 ∙ ap (λ (x : Served H). x.number) shuts.1 ∙ breaks.0.1.1.number)
       (ap (λ (x : Served H). x.peer) hands.1 ∙ ap (λ (x : Served H). x.peer) shuts.1 ∙ breaks.0.1.1.peer)
-      (ends_broken broken served last error breaks shuts hands why) is
+      (ends_broken broken served error breaks shuts hands why) is
   closes_failed old last new error end (fails_short served lasts hands short) why is =
       closed old last new end (ap (λ (x : Served H). x.number) hands.1 ∙ lasts_number lasts) (ap (λ (x : Served H). x.peer) hands.1 ∙ lasts_peer lasts)
-      (ends_short served last lasts hands (error, short, why)) is
+      (ends_short served lasts hands (error, short, why)) is

@@ -27,14 +27,14 @@ module _ {H : Type 0} where
   told old new (Some (all_news.Connected n peer)) h within = same old.budget new.budget (ap (λ (f : Floor H). f.budget) h.0) within
   told old new (Some (all_news.Refused peer)) h within = same old.budget new.budget (ap (λ (f : Floor H). f.budget) h.0) within
   told old new (Some all_news.Woken) h within = same old.budget new.budget (ap (λ (f : Floor H). f.budget) h.0) within
-  told old new (Some (all_news.Ended n peer end)) h within = same old.budget new.budget h.2 within
+  told old new (Some (all_news.Ended n peer end stats)) h within = same old.budget new.budget h.2 within
 
 module _ {H : Type 0} {table : ObjectTableKind H} where
   turned : (old new : Floor H) → Turns table old new → IsWithin old.budget → IsWithin new.budget
   turned old new (rests r) within = same old.budget new.budget r.budget within
   turned old new (goes_on key one next woken was stays puts ended note added awaits) within =
       noted old.budget new.budget (number_of key) (kept_by table next) stays.within note within
-  turned old new (ends key one woken end was by puts ended forgets added due) within = forgotten old.budget new.budget (number_of key) forgets within
+  turned old new (ends key one last woken end was by puts ended forgets added due) within = forgotten old.budget new.budget (number_of key) forgets within
   turned old new (wakes waker one next first served rouses puts ended as_much awaits) within = same old.budget new.budget as_much within
   turned old new (wakes_none waker first unserved still ended as_much due) within = same old.budget new.budget as_much within
   turned old new (wakes_short waker one end first served short puts ended forgets due) within =

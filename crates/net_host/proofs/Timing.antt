@@ -1,7 +1,8 @@
 -- What follows of a test of a time.
-use Rattle.std.proofs.Common.{◌≡◌, ◌≤◌, ◌↔◌, ◌∙◌, ◌==◌, ℕ, Bool, false, IsTrue, Option, Some, None, sym, ap, subst, arith}
+use Rattle.std.proofs.Common.{◌≡◌, ◌≤◌, ◌↔◌, ◌∙◌, ◌==◌, ℕ, min, Bool, false, IsTrue, Option, Some, None, refl, sym, ap, subst, arith}
 use Rattle.std.proofs.lemmas.Bool.{eq-eqb, eqb-true, false≢true}
-use Rattle.net_host.specs.Timing.{ComesBy}
+use Rattle.cp_session.specs.Progress.{earlier}
+use Rattle.net_host.specs.Timing.{ComesBy, IsNoLonger}
 
 pub same_some : (a b : ℕ) → Some a ≡ Some b → a ≡ b
 same_some a b e = grind (arith, e)
@@ -29,3 +30,9 @@ is_at time at last b is there = (
 
 pub is_none : (time : Option ℕ) (at : ℕ) → None ≡ time → IsTrue false ↔ (time ≡ Some at)
 is_none time at none = (λ t. absurd (false≢true t), λ same. absurd (grind (arith, none, same)))
+
+-- the earlier of two times comes no later than one of them
+pub no_longer : (one other : Option ℕ) → IsNoLonger (earlier one other) one
+no_longer None other = λ longest none. absurd (grind (arith, none))
+no_longer (Some first) None = λ longest same. (first, refl, omega (arith, same_some first longest same))
+no_longer (Some first) (Some second) = λ longest same. (min first second, refl, omega (arith, same_some first longest same))

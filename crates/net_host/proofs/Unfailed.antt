@@ -28,7 +28,7 @@ module _ {H : Type 0} where
   told old new (Some (all_news.Connected n peer)) h none = unfailed_same old.served new.served (ap (λ (f : Floor H). f.served) h.0) none
   told old new (Some (all_news.Refused peer)) h none = unfailed_same old.served new.served (ap (λ (f : Floor H). f.served) h.0) none
   told old new (Some all_news.Woken) h none = unfailed_same old.served new.served (ap (λ (f : Floor H). f.served) h.0) none
-  told old new (Some (all_news.Ended n peer end)) h none = unfailed_same old.served new.served h.0 none
+  told old new (Some (all_news.Ended n peer end stats)) h none = unfailed_same old.served new.served h.0 none
 
 module _ {H : Type 0} {table : ObjectTableKind H} where
   pub begins_unfailed : (old new : Floor H) (one : Served H) → Begins table old one new → one.failure ≡ None → NoneFailed old → NoneFailed new
@@ -39,7 +39,7 @@ module _ {H : Type 0} {table : ObjectTableKind H} where
   turned old new (goes_on key one next woken was stays puts ended note added awaits) none =
       let had : one.failure ≡ None = subst (λ (s : Option (Served H)). IsUnfailed s) was (none key) in
       unfailed_puts old.served new.served key (Some next) puts none (works_failure stays.works ∙ had)
-  turned old new (ends key one woken end was by puts ended forgets added due) none = unfailed_puts old.served new.served key None puts none tt
+  turned old new (ends key one last woken end was by puts ended forgets added due) none = unfailed_puts old.served new.served key None puts none tt
   turned old new (wakes waker one next first served rouses puts ended budget awaits) none =
       let had : one.failure ≡ None = subst (λ (s : Option (Served H)). IsUnfailed s) served.there (none (key_of waker.session)) in
       unfailed_puts old.served new.served (key_of waker.session) (Some next) puts none (ap (λ (x : Served H). x.failure) rouses.1 ∙ had)

@@ -2,6 +2,7 @@
 use Rattle.std.specs.Prelude.{◌≡◌, ◌≢◌, ◌%◌, ◌^◌, Contains, ℕ, true, List, [], ◌∷◌, ◌++◌, Option, Some, None, option_map}
 use Rattle.std.specs.FinMap as map
 use Rattle.slab.specs.Slab.{Slab, get}
+use Rattle.cp_connection.specs.declared.event.ConnectionStats.{ConnectionStats}
 use Rattle.cp_refs.specs.Memory.{counted}
 use Rattle.cp_objects.specs.declared.waker.Waker.{Waker}
 use Rattle.cp_objects.specs.ObjectTable.{ObjectTableKind}
@@ -25,7 +26,7 @@ use Rattle.net_host.specs.declared.host.Look.TheVariants as looks
 use Rattle.net_host.specs.declared.limits.HostLimits.{HostLimits}
 use Rattle.net_host.specs.declared.pending.PendingConnection.{PendingConnection}
 use Rattle.net_host.specs.declared.config.HostConfig.{HostConfig}
-use Rattle.net_host.specs.HostedConnections.{Served, kept_by, served_of, new_served, forgetting, noting, EndsBy, IsOverdue, IsShort, Rouses, Stays}
+use Rattle.net_host.specs.HostedConnections.{Served, kept_by, served_of, new_served, forgetting, noting, EndsBy, IsOverdue, IsShort, Rouses, Stays, stats_of}
 use Rattle.net_host.specs.Limits.{pool_of, share_of}
 use Rattle.net_host.specs.Timing.{ComesBy}
 use Rattle.net_host.specs.Waking.{key_of, session_of}
@@ -114,15 +115,15 @@ module _ {H : Type 0} where
   abbrev pub waking : Floor H → Waker → Floor H
   waking floor waker = record floor { wakes = floor.wakes ++ waker ∷ [] }
 
-  -- news of its end is to come, with its number and peer
-  abbrev pub QueuesEnd : Floor H → Served H → End → Floor H → Type 0
-  QueuesEnd old one end new = new.ended ≡ old.ended ++ record { number = one.number; peer = one.peer; end = end } ∷ []
+  -- news of its end is to come, with its number and peer, and what it took and sent
+  abbrev pub QueuesEnd : Floor H → Served H → End → ConnectionStats → Floor H → Type 0
+  QueuesEnd old one end stats new = new.ended ≡ old.ended ++ record { number = one.number; peer = one.peer; end = end; stats = stats } ∷ []
 
-  -- News of an end is that of the first connection of whose end there was none: its number, its peer, and how it ended. Other news is told, or that all is over,
-  -- only where there was news of each end.
+  -- News of an end is that of the first connection of whose end there was none: its number, its peer, how it ended, and what it took and sent. Other news is told, or
+  -- that all is over, only where there was news of each end.
   abbrev pub Tells : Floor H → Option HostEvent → Floor H → Type 0
-  Tells old (Some (all_news.Ended number peer end)) new =
-      (new.served ≡ old.served) × (old.ended ≡ record { number = number; peer = peer; end = end } ∷ new.ended) × (new.budget ≡ old.budget) × (new.wakes ≡ old.wakes) × (new.due ≡ old.due)
+  Tells old (Some (all_news.Ended number peer end stats)) new =
+      (new.served ≡ old.served) × (old.ended ≡ record { number = number; peer = peer; end = end; stats = stats } ∷ new.ended) × (new.budget ≡ old.budget) × (new.wakes ≡ old.wakes) × (new.due ≡ old.due)
   Tells old other new = (new ≡ old) × (old.ended ≡ [])
 
 module _ {H : Type 0} (table : ObjectTableKind H) where
@@ -160,24 +161,24 @@ module _ {H : Type 0} (table : ObjectTableKind H) where
   abbrev pub Awaits : Floor H → Served H → Floor H → Type 0
   Awaits old next new = new.due ≡ earlier old.due (due_of table next.session)
 
-  -- One connection has a turn, at the host's time. It goes on; or it ended, is served no more, and news of that is to come, with its number and peer. Whom its objects want to be woken
-  -- is to be, in order. Or the first object that is to be woken is woken, in the session that its waker names; or that isn't served any more, and nothing was done;
-  -- or memory ran out for it, and its connection ended. Nothing was done with any other. Where one goes on, limits of time are looked at by its deadline. Or they were
-  -- looked at, and are when the first is met.
+  -- One connection has a turn, at the host's time. It goes on; or it ended, is served no more, and news of that is to come, with its number and peer, and what it took
+  -- and sent. Whom its objects want to be woken is to be, in order. Or the first object that is to be woken is woken, in the session that its waker names; or that
+  -- isn't served any more, and nothing was done; or memory ran out for it, and its connection ended. Nothing was done with any other. Where one goes on, limits of time
+  -- are looked at by its deadline. Or they were looked at, and are when the first is met.
   pub data Turns (old new : Floor H) : Type 0 where
     rests : Rests old new → Turns old new
     goes_on : (key : ℕ) (one next : Served H) (woken : List Waker) → old.served key ≡ Some one → Stays table (most_for old key) old.now one woken next
         → Puts old.served key (Some next) new.served → new.ended ≡ old.ended → Notes old key (kept_by table next) new → new.wakes ≡ old.wakes ++ woken
         → Awaits old next new → Turns old new
-    ends : (key : ℕ) (one : Served H) (woken : List Waker) (end : End) → old.served key ≡ Some one → EndsBy table (most_for old key) old.now one woken end
-        → Puts old.served key None new.served → QueuesEnd old one end new → Forgets old key new → new.wakes ≡ old.wakes ++ woken
+    ends : (key : ℕ) (one last : Served H) (woken : List Waker) (end : End) → old.served key ≡ Some one → EndsBy table (most_for old key) old.now one woken last end
+        → Puts old.served key None new.served → QueuesEnd old one end (stats_of last) new → Forgets old key new → new.wakes ≡ old.wakes ++ woken
         → new.due ≡ old.due → Turns old new
     wakes : (waker : Waker) (one next : Served H) → old.wakes ≡ waker ∷ new.wakes → IsServed old waker one → Rouses table waker.object one next
         → Puts old.served (key_of waker.session) (Some next) new.served → new.ended ≡ old.ended → new.budget ≡ old.budget → Awaits old next new → Turns old new
     wakes_none : (waker : Waker) → old.wakes ≡ waker ∷ new.wakes → ((one : Served H) → IsServed old waker one → ⊥)
         → ((key : ℕ) → new.served key ≡ old.served key) → new.ended ≡ old.ended → new.budget ≡ old.budget → new.due ≡ old.due → Turns old new
     wakes_short : (waker : Waker) (one : Served H) (end : End) → old.wakes ≡ waker ∷ new.wakes → IsServed old waker one → IsShort one end
-        → Puts old.served (key_of waker.session) None new.served → QueuesEnd old one end new → Forgets old (key_of waker.session) new
+        → Puts old.served (key_of waker.session) None new.served → QueuesEnd old one end (stats_of one) new → Forgets old (key_of waker.session) new
         → new.due ≡ old.due → Turns old new
     sweeps : ((key : ℕ) → new.served key ≡ old.served key) → new.ended ≡ old.ended → new.budget ≡ old.budget → new.wakes ≡ old.wakes
         → IsFirst new.due new.served → Turns old new

@@ -4,6 +4,7 @@ use Rattle.std.specs.FinMap as map
 use Rattle.std.specs.IoError.{error_kind, raw_os_error}
 use Rattle.std.specs.declared.io.Error.{Error}
 use Rattle.std.specs.declared.io.ErrorKind.TheVariants as kinds
+use Rattle.cp_connection.specs.declared.event.ConnectionStats.{ConnectionStats}
 use Rattle.cp_objects.specs.declared.waker.Waker.{Waker}
 use Rattle.cp_objects.specs.ObjectTable.{ObjectTableKind}
 use Rattle.cp_session.specs.declared.event.SessionEvent.{SessionEvent}
@@ -13,7 +14,7 @@ use Rattle.cp_session.specs.declared.progress.Limit.{Limit}
 use Rattle.cp_session.specs.declared.progress.Limit.TheVariants as limits
 use Rattle.cp_session.specs.declared.progress.Phase.TheVariants as phases
 use Rattle.cp_session.specs.Doing as doing
-use Rattle.cp_session.specs.Doing.{IsRefused, MayTake, Ticks, Wakes, Writes, due_of}
+use Rattle.cp_session.specs.Doing.{IsRefused, KeepsRest, MayTake, Ticks, Wakes, Writes, due_of}
 use Rattle.cp_session.specs.Kept.{kept_of}
 use Rattle.cp_session.specs.Progress.{IsDraining, Meets}
 use Rattle.cp_session.specs.Runs.{Transfer, Runs, nothing}
@@ -24,6 +25,7 @@ use Rattle.net_sockets.specs.Reading.{failure_of, flow_of, may_read, may_write}
 use Rattle.net_host.specs.declared.allowance.Allowance.{Allowance}
 use Rattle.net_host.specs.declared.end.End.{End}
 use Rattle.net_host.specs.declared.end.End.TheVariants as ends
+use Rattle.net_host.specs.declared.end.Ended.{Ended}
 use Rattle.net_host.specs.declared.hosted_connection.HostedConnection.{HostedConnection}
 use Rattle.net_host.specs.declared.pending.PendingConnection.{PendingConnection}
 use Rattle.net_host.specs.declared.hosted_connection.Turn.{Turn}
@@ -54,6 +56,14 @@ served_of state flow hosted = record {
   failure = failure_of hosted.stream;
   flow = flow_of flow hosted.stream;
 }
+
+-- what was taken of its peer, and sent to it
+abbrev pub stats_of : {H : Type 0} → Served H → ConnectionStats
+stats_of served = (link_of served.session).stats
+
+-- it ended in this way
+abbrev pub ended_of : {H : Type 0} → Served H → End → Ended
+ended_of served end = record { number = served.number; peer = served.peer; end = end; stats = stats_of served }
 
 -- how many bytes are kept for it
 abbrev pub kept_by : {H : Type 0} → ObjectTableKind H → Served H → ℕ
@@ -120,6 +130,10 @@ HasFailed last error = (last.failure ≡ Some (raw_os_error error)) ⊎ (error_k
 -- it ended as memory ran out, if no event said before how it did
 abbrev pub IsShort : {H : Type 0} → Served H → End → Type 0
 IsShort last end = (error : Error) × (error_kind error ≡ kinds.OutOfMemory) × (end ≡ end_or last.end (ends.Failed error))
+
+-- no object of it is woken, as memory ran out
+abbrev pub IsUnroused : {H : Type 0} → Served H → Served H → Type 0
+IsUnroused old new = KeepsRest old.session new.session × (new ≡ record old { session = new.session })
 
 -- its stream failed with this error, and neither gave nor took bytes
 abbrev pub FailsBy : {H : Type 0} → Served H → Error → Served H → Type 0
@@ -232,13 +246,13 @@ module _ {H : Type 0} (table : ObjectTableKind H) where
     fails_whole : (broken last : Served H) → Breaks now old error broken → Shuts now broken last → HandsOver last woken new → Fails most now old woken error new
     fails_short : (last : Served H) → Lasts most now old last → HandsSome last woken new → error_kind error ≡ kinds.OutOfMemory → Fails most now old woken error new
 
-  -- It went on for the last time, and this is how it ended: its stream failed, or memory ran out; or nothing failed, and this is why. All objects of others that are
-  -- to be woken were handed out; or memory ran out for that, once these were.
-  pub data EndsBy (most now : ℕ) (old : Served H) (woken : List Waker) (end : End) : Type 0 where
-    ends_broken : (broken served last : Served H) (error : Error) → Breaks now old error broken → Shuts now broken served → HandsOver served woken last
-        → end ≡ end_or last.end (ends.Failed error) → EndsBy most now old woken end
-    ends_whole : (last : Served H) → Works most now old woken last → IsWhy table most last end → EndsBy most now old woken end
-    ends_short : (served last : Served H) → Lasts most now old served → HandsSome served woken last → IsShort last end → EndsBy most now old woken end
+  -- It went on for the last time, which left it so, and this is how it ended: its stream failed, or memory ran out; or nothing failed, and this is why. All objects of
+  -- others that are to be woken were handed out; or memory ran out for that, once these were.
+  pub data EndsBy (most now : ℕ) (old : Served H) (woken : List Waker) (last : Served H) (end : End) : Type 0 where
+    ends_broken : (broken served : Served H) (error : Error) → Breaks now old error broken → Shuts now broken served → HandsOver served woken last
+        → end ≡ end_or last.end (ends.Failed error) → EndsBy most now old woken last end
+    ends_whole : Works most now old woken last → IsWhy table most last end → EndsBy most now old woken last end
+    ends_short : (served : Served H) → Lasts most now old served → HandsSome served woken last → IsShort last end → EndsBy most now old woken last end
 
   -- It went on; by this time its session met no limit, but the one of which its peer is told. No more is kept for it than this.
   pub record Stays (most now : ℕ) (old : Served H) (woken : List Waker) (new : Served H) : Type 0 where
@@ -248,9 +262,10 @@ module _ {H : Type 0} (table : ObjectTableKind H) where
         → IsTooMuch table works.passes.worked.session
     pub within : kept_by table new ≤ most
 
-  -- it is closed, and has its number and its peer
+  -- it is closed, has its number and its peer, and took and sent no more than when it went on for the last time
   abbrev pub Closes : ℕ → ℕ → Served H → List Waker → End → Served H → Type 0
-  Closes most now old woken end new = (new.number ≡ old.number) × (new.peer ≡ old.peer) × EndsBy most now old woken end
+  Closes most now old woken end new =
+      (new.number ≡ old.number) × (new.peer ≡ old.peer) × (last : Served H) × EndsBy most now old woken last end × (stats_of new ≡ stats_of last)
 
   -- what a turn at this time does with it, where so many bytes may be kept for it
   abbrev pub Visits : ℕ → ℕ → Served H → List Waker → Turn → Served H → Type 0

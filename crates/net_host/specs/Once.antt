@@ -32,7 +32,7 @@ module _ {H : Type 0} where
 
   -- if this is news of the end of the connection of this number, it is gone
   abbrev pub IsGoneBy : Option HostEvent → ℕ → Floor H → Type 0
-  IsGoneBy (Some (all_news.Ended named peer end)) number floor = named ≡ number → IsGone floor number
+  IsGoneBy (Some (all_news.Ended named peer end stats)) number floor = named ≡ number → IsGone floor number
   IsGoneBy other number floor = Unit {0}
 
 module _ {H : Type 0} (table : ObjectTableKind H) where

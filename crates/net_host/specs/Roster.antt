@@ -58,14 +58,14 @@ IsOver r = (r.served ≡ 0) × (r.count ≤ r.came)
 abbrev pub Hears : Roster → Option HostEvent → Roster → Type 0
 Hears old (Some (all_news.Connected number peer)) new = Comes old number peer new
 Hears old (Some (all_news.Refused peer)) new = GoesOn old new × Refuses new
-Hears old (Some (all_news.Ended number peer end)) new = GoesOn old new
+Hears old (Some (all_news.Ended number peer end stats)) new = GoesOn old new
 Hears old (Some all_news.Woken) new = GoesOn (record old { alarm = None }) new
 Hears old None new = GoesOn old new × IsOver new
 
 -- News that the time has come that the program named is given once it has, by now. Where it had come by the time at first, no other is given but of an end.
 abbrev pub IsOnTime : Option ℕ → ℕ → ℕ → Option HostEvent → Type 0
 IsOnTime alarm first now (Some all_news.Woken) = ComesBy now alarm
-IsOnTime alarm first now (Some (all_news.Ended number peer end)) = Unit {0}
+IsOnTime alarm first now (Some (all_news.Ended number peer end stats)) = Unit {0}
 IsOnTime alarm first now other = ComesBy first alarm → ⊥
 
 -- how many are served with the one that waited for its objects
@@ -83,7 +83,7 @@ Accepts old None new = new ≡ old
 Accepts old (Some (all_news.Connected number peer)) new =
     (number ≡ old.came + 1) × (new ≡ record old { came = number; awaits = Some (number, peer) }) × HasRoom old.plan.limits old.served
 Accepts old (Some (all_news.Refused peer)) new = (new ≡ old) × Refuses old
-Accepts old (Some (all_news.Ended number peer end)) new = ⊥
+Accepts old (Some (all_news.Ended number peer end stats)) new = ⊥
 Accepts old (Some all_news.Woken) new = ⊥
 
 -- a round of turns, by which some may have ended

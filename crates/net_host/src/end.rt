@@ -3,7 +3,7 @@
 ghost use Rattle.std.specs.Prelude.{◌≡◌};
 ghost use Rattle.net_host.specs.HostedConnections.{end_of};
 
-use cp_connection::ConnectionFault;
+use cp_connection::{ConnectionFault, ConnectionStats};
 use cp_session::{Limit, SessionEvent};
 use cp_vat_machine::Reason;
 use net_sockets::Peer;
@@ -30,6 +30,8 @@ pub(crate) struct Ended {
     pub number: u64,
     pub peer: Peer,
     pub end: End,
+    /// What was taken of its peer, and sent to it, in all.
+    pub stats: ConnectionStats,
 }
 
 impl End {

@@ -73,8 +73,8 @@ impl<S: DrivenSession, D: Socket> EventLoop<S, D> {
         ensures same { Keeps incoming.old incoming.new }
     {
         let poll = Poll::new(rt)?;
-        incoming.register(poll.registry(), LISTENER)?;
         let alloc = rt.alloc();
+        incoming.register(alloc, poll.registry(), LISTENER)?;
         let events = Events::with_capacity(alloc, EVENTS)?;
         let piece = vec![in alloc; 0u8; PIECE]?;
         let guests = Slab::with_capacity(alloc, limits.connections.min(ROOM))?;

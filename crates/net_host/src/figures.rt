@@ -9,8 +9,8 @@ use cp_session::DrivenSession;
 use net_sockets::Socket;
 use slab::Slab;
 
-/// What the connections did that a host serves, and what is kept for them, at one moment. Those that ended count no more. A number that a
-/// u64 can't hold is its greatest one.
+/// What the connections did that a host serves, and what is kept for them, at one moment. Those that ended count no more: `HostEvent::Ended`
+/// said what they did. A number that a u64 can't hold is its greatest one.
 #[derive(Clone, Copy)]
 pub struct HostFigures {
     /// How many connections are served.

@@ -20,6 +20,7 @@ use crate::figures::HostFigures;
 use crate::limits::WhenFull;
 use crate::pending::PendingConnection;
 use crate::time::{earlier, has_come};
+use cp_connection::ConnectionStats;
 use cp_objects::Waker;
 use cp_session::{DrivenSession, Session};
 use net_sockets::{Incoming, Listener, Peer, StreamSocket};
@@ -28,19 +29,26 @@ use std::io::{self, ErrorKind};
 use std::net::Net;
 use std::time::{Clock, Duration};
 
-/// The milliseconds after which a listener that failed is tried again.
-const AGAIN: u64 = 100;
-
 /// What a host tells its program.
 #[derive(Drop)]
 pub enum HostEvent {
     /// One came: give it its objects by `admit`, or it is closed. Numbers go up from 1.
     /// The application makes them, so it can look at the peer first.
-    Connected { number: u64, peer: Peer },
+    Connected {
+        number: u64,
+        peer: Peer,
+    },
     /// One came and was closed, as there were as many as the host allows.
-    Refused { peer: Peer },
-    /// One ended, and its objects were dropped.
-    Ended { number: u64, peer: Peer, end: End },
+    Refused {
+        peer: Peer,
+    },
+    /// One ended, and its objects were dropped. It took and sent so much in all, which `Host::figures` counts no more.
+    Ended {
+        number: u64,
+        peer: Peer,
+        end: End,
+        stats: ConnectionStats,
+    },
     /// The time has come that the program named by `wake_after`. It is told once.
     Woken,
 }
@@ -201,8 +209,8 @@ impl<S: DrivenSession> SessionHost<S> {
         Ok(())
     }
 
-    /// What the connections did that are served now, and what is kept for them. It looks at each of them: so ask now and then, and not at
-    /// each event.
+    /// What the connections did that are served now, and what is kept for them. What each of the others did, `HostEvent::Ended` said: with
+    /// that the totals never fall. It looks at each connection: so ask now and then, and not at each event.
     pub fn figures(&self) -> HostFigures
         ensures { IsOfAll S.table S.state self.now result }
     {
@@ -294,35 +302,36 @@ impl<S: DrivenSession> SessionHost<S> {
         let wait = self.wait();
         let has_event = self.event_loop.wait(rt, wait.map(Duration::from_millis))?;
         self.incoming.begin_round(has_event);
+        self.incoming.hear(has_event, self.event_loop.now());
         self.event_loop.round(&self.plan.limits)
     }
 
     /// How many milliseconds the next wait may take: none while a connection can go on or can be taken, else those until limits of time
-    /// are looked at, or the program is told. Where there are none an event is waited for: a host that has nothing to do takes no time of
-    /// a processor.
+    /// are looked at, the program is told, or the listener is tried again. Where there are none an event is waited for: a host that has
+    /// nothing to do takes no time of a processor.
     fn wait(&self) -> Option<u64>
         ensures { IsNoLonger result (until self.now.event_loop.time self.now.alarm) }
     {
         if self.event_loop.has_turns() || self.incoming.has_burst() {
             return Some(0);
         }
-        let until = self.event_loop.until(self.alarm);
-        if self.incoming.has_failed() {
-            return earlier(until, Some(AGAIN));
-        }
-        until
+        earlier(
+            self.event_loop.until(self.alarm),
+            self.incoming.retry_after(),
+        )
     }
 }
 
 impl HostEvent {
     /// The news of a connection that ended.
     fn ended(ended: Ended) -> HostEvent
-        ensures { result ≡ all_news.Ended ended.number ended.peer ended.end }
+        ensures { result ≡ all_news.Ended ended.number ended.peer ended.end ended.stats }
     {
         HostEvent::Ended {
             number: ended.number,
             peer: ended.peer,
             end: ended.end,
+            stats: ended.stats,
         }
     }
 }

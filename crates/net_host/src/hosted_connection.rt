@@ -5,7 +5,7 @@ ghost use Rattle.cp_session.specs.Doing.{due_of};
 ghost use Rattle.cp_session.specs.State.{link_of};
 ghost use Rattle.net_sockets.specs.Reading.{Fits, came_by, ends_by};
 ghost use Rattle.net_host.specs.Feeding.{IsFed};
-ghost use Rattle.net_host.specs.HostedConnections.{Accounts, Adds, Breaks, CanTake, CanWrite, ClosesAdding, FailsAdding, FailsBy, HandsOver, HandsSome, Hears, IsOverdue, IsShort, MayHaveBytes, Minds, Proceeds, Rouses, Sends, Serves, StaysAdding, StopsShort, TakesIn, VisitsAdding, WorksAdding, end_or, heard, kept_by, new_served, served_of};
+ghost use Rattle.net_host.specs.HostedConnections.{Accounts, Adds, Breaks, CanTake, CanWrite, ClosesAdding, FailsAdding, FailsBy, HandsOver, HandsSome, Hears, IsOverdue, IsShort, IsUnroused, MayHaveBytes, Minds, Proceeds, Rouses, Sends, Serves, StaysAdding, StopsShort, TakesIn, VisitsAdding, WorksAdding, end_or, ended_of, heard, kept_by, new_served, served_of};
 ghost use Rattle.net_host.specs.Waking.{session_of};
 
 use crate::allowance::Allowance;
@@ -72,12 +72,13 @@ impl<S: DrivenSession, D: Socket> HostedConnection<S, D> {
 
     /// It ended in this way.
     pub(crate) fn ended(&self, end: End) -> Ended
-        ensures { result ≡ record { number = self.now.number; peer = self.now.peer; end = end } }
+        ensures { let at = served_of S.state D.flow in result ≡ ended_of (at self.now) end }
     {
         Ended {
             number: self.number,
             peer: self.peer,
             end,
+            stats: self.stats(),
         }
     }
 
@@ -132,7 +133,7 @@ impl<S: DrivenSession, D: Socket> HostedConnection<S, D> {
     /// Wakes an object. Says whether it comes into the queue.
     pub(crate) fn wake(&mut self, object: u32) -> Result<bool, AllocError>
         ensures woken { let at = served_of S.state D.flow in OnOk result (Rouses S.table object (at self.old) (at self.new)) }
-        ensures err { let at = served_of S.state D.flow in OnErr result (at self.new ≡ record (at self.old) { session = (at self.new).session }) }
+        ensures err { let at = served_of S.state D.flow in OnErr result (IsUnroused (at self.old) (at self.new)) }
     {
         self.session.wake(object)?;
         let enters = !self.queued;

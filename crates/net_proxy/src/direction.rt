@@ -51,6 +51,8 @@ pub(crate) struct Direction {
     sent: usize,
     /// Why nothing more is read.
     ended: Option<DirectionEnd>,
+    /// How many bytes were read of the source.
+    pub taken: u64,
 }
 
 // Not derived: who lets one go calls this function, and need not prove the drop of what it holds.
@@ -64,6 +66,7 @@ impl Drop for Direction {
             out: _,
             sent: _,
             ended: _,
+            taken: _,
         } = self;
     }
 }
@@ -83,6 +86,7 @@ impl Direction {
             out: Vec::new(alloc),
             sent: 0,
             ended: None,
+            taken: 0,
         })
     }
 
@@ -178,8 +182,9 @@ impl Direction {
         }
     }
 
-    /// Counts the bytes that were read of the caller.
-    fn charge(&self, guard: &mut Option<PairGuard>, count: usize) {
+    /// Counts the bytes that were read, and charges the caller for its own.
+    fn charge(&mut self, guard: &mut Option<PairGuard>, count: usize) {
+        self.taken = self.taken.saturating_add(count as u64);
         if let Some(guard) = guard {
             if self.is_callers {
                 guard.charge(count);

@@ -1,5 +1,6 @@
 //! What lets the messages of a connection through: a relay for each direction, or filters that share a guard.
 
+use crate::figures::CallFigures;
 use crate::read_buffer::PIECE;
 use crate::watch::Watch;
 use cp_relay::{Breach, Filter, FilterFault, Guard, Relay, RelayCause, RelayFault, Rules};
@@ -25,6 +26,8 @@ pub(crate) struct PairGuard<'r> {
     pub answers: Vec<u8>,
     /// How many bytes of the caller may still be read in this second.
     allowance: u32,
+    /// What became of its calls.
+    pub calls: CallFigures,
 }
 
 // Not derived: who lets one go calls this function, and need not prove the drop of what it holds.
@@ -35,6 +38,7 @@ impl<'r> Drop for PairGuard<'r> {
             plan: _,
             answers: _,
             allowance: _,
+            calls: _,
         } = self;
     }
 }
@@ -67,6 +71,7 @@ impl<'r> PairGuard<'r> {
             plan,
             answers: Vec::new(alloc),
             allowance: plan.bytes_a_second,
+            calls: CallFigures::none(),
         }
     }
 
@@ -86,12 +91,13 @@ impl<'r> PairGuard<'r> {
         self.allowance = self.allowance.saturating_sub(count.min(PIECE) as u32);
     }
 
-    /// Prints the last message, if it is a call and calls are printed.
-    fn log<W: Write + Drop>(&self, watch: &mut Watch<W>) {
-        if !self.plan.logs {
+    /// Counts the last message, if it is a call, and prints it if calls are printed.
+    fn note<W: Write + Drop>(&mut self, watch: &mut Watch<W>) {
+        let Some(call) = self.guard.last_call() else {
             return;
-        }
-        if let Some(call) = self.guard.last_call() {
+        };
+        self.calls.note(call.cause);
+        if self.plan.logs {
             watch.log(self.plan.rules, &call);
         }
     }
@@ -173,7 +179,7 @@ fn filtered<W: Write + Drop>(
             return Ok(0);
         };
         left = back;
-        guard.log(watch);
+        guard.note(watch);
     }
     Ok(left.len())
 }

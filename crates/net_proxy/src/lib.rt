@@ -2,6 +2,7 @@
 #![tactic(auto)]
 
 mod direction;
+mod figures;
 mod gate;
 mod pair;
 mod plan;

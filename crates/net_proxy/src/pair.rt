@@ -1,6 +1,7 @@
 //! A connection and the one that was made for it.
 
 use crate::direction::{Direction, DirectionEnd, is_reset};
+use crate::figures::{CallFigures, PairFigures};
 use crate::gate::PairGuard;
 use crate::plan::RelayPlan;
 use crate::tape::{PairTape, Tape};
@@ -177,6 +178,18 @@ impl<'r> Pair<'r> {
     /// Its number, from 1 on.
     pub(crate) fn number(&self) -> u64 {
         self.number
+    }
+
+    /// What went over it.
+    pub(crate) fn figures(&self) -> PairFigures {
+        PairFigures {
+            there: self.there.taken,
+            back: self.back.taken,
+            calls: match &self.guard {
+                Some(guard) => guard.calls,
+                None => CallFigures::none(),
+            },
+        }
     }
 
     /// Has the readiness of its streams reported: of the near one under this token, of the far one under the next.

@@ -23,6 +23,8 @@ pub struct RelayPlan<'r> {
     pub guard: Option<GuardPlan<'r>>,
     /// How they are recorded, if they are.
     pub record: Option<RecordPlan<'r>>,
+    /// The path of the file into which each second is written what was relayed, as text for Prometheus, if it is.
+    pub figures: Option<&'r str>,
 }
 
 impl<'r> RelayPlan<'r> {

@@ -4,12 +4,13 @@ ghost use Rattle.std.specs.Prelude.{◌<◌, IsTrue};
 ghost use Rattle.net_sockets.specs.Incoming.{came_of, count_of};
 
 use crate::direction::DirectionEnd;
+use crate::figures::{PairFigures, RelayFigures};
 use crate::pair::{Pair, PairEnd, PairTurn};
 use crate::plan::RelayPlan;
 use crate::tape::Tape;
 use crate::target::Target;
 use crate::watch::Watch;
-use cp_commands::ACCEPTED;
+use cp_commands::{ACCEPTED, FIGURES_EVERY};
 use cp_relay::{Breach, Cause, MethodId};
 use mio::{Events, Poll, Token};
 use net_sockets::{Incoming, NonblockingStream};
@@ -37,9 +38,6 @@ const MOST_RECORDED: usize = 192;
 /// The most capacity that is kept for the next long frame.
 const MOST_SPARE: usize = 4_194_304;
 
-/// The milliseconds after which a listener that failed is tried again.
-const AGAIN: u64 = 100;
-
 /// The milliseconds of the longest wait while a guard counts seconds.
 const SECOND: u64 = 250;
 
@@ -60,6 +58,7 @@ pub(crate) struct Proxy<'a, 'p, 'r> {
     /// The second, from the start on, that guards count.
     second: u64,
     status: u8,
+    figures: RelayFigures<'r>,
 }
 
 // Not derived: who lets one go calls this function, and need not prove the drop of all that it holds.
@@ -78,6 +77,7 @@ impl<'a, 'p, 'r> Drop for Proxy<'a, 'p, 'r> {
             start: _,
             second: _,
             status: _,
+            figures: _,
         } = self;
     }
 }
@@ -106,6 +106,7 @@ impl<'a, 'p, 'r> Proxy<'a, 'p, 'r> {
             start,
             second: 0,
             status: ACCEPTED,
+            figures: RelayFigures::new(plan.figures),
         })
     }
 
@@ -119,12 +120,15 @@ impl<'a, 'p, 'r> Proxy<'a, 'p, 'r> {
     where
         N: Net + Clock + Files<File = File> + AllocGlobal,
     {
+        // The first numbers are there at once.
+        self.tell(rt, err);
         for _ in 0..u64::MAX {
             if self.incoming.is_full() && self.pairs.is_empty() {
                 break;
             }
             self.round(rt, watch, err)?;
         }
+        self.tell(rt, err);
         Ok(self.status)
     }
 
@@ -155,7 +159,22 @@ impl<'a, 'p, 'r> Proxy<'a, 'p, 'r> {
         if let Some(fault) = watch.tape.take_fault() {
             let _ = writeln!(err, "recording ended: {fault}");
         }
+        let start = self.start;
+        if self.figures.is_due(rt, start)? {
+            self.tell(rt, err);
+        }
         watch.end_round()
+    }
+
+    /// Writes what was relayed, if it is to be.
+    fn tell<N: Files + AllocGlobal, E: Write>(&mut self, rt: &N, err: &mut E) {
+        let mut open = PairFigures::none();
+        for entry in &self.pairs {
+            let (_, pair) = entry;
+            open = open.and(pair.figures());
+        }
+        let count = self.pairs.len();
+        self.figures.tell(rt, count, open, err);
     }
 
     /// How long the next wait may take: no time while a pair can go on or a connection can be taken.
@@ -163,10 +182,12 @@ impl<'a, 'p, 'r> Proxy<'a, 'p, 'r> {
         if !self.queue.is_empty() || self.incoming.has_burst() || self.can_accept() {
             return Some(Duration::from_millis(0));
         }
-        if self.incoming.has_failed() {
-            Some(Duration::from_millis(AGAIN))
+        if let Some(again) = self.incoming.retry_after() {
+            Some(Duration::from_millis(again))
         } else if self.plan.guard.is_some() && !self.pairs.is_empty() {
             Some(Duration::from_millis(SECOND))
+        } else if self.figures.is_told() {
+            Some(Duration::from_millis(FIGURES_EVERY))
         } else {
             None
         }
@@ -240,6 +261,7 @@ impl<'a, 'p, 'r> Proxy<'a, 'p, 'r> {
                 continue;
             };
             let number = self.incoming.admit();
+            self.figures.note_came();
             if let Err(error) = self.admit(rt, near, number, &mut watch.tape) {
                 // A target that can't be reached counts as one that failed.
                 let end = DirectionEnd::Unwritten(error);
@@ -308,6 +330,7 @@ impl<'a, 'p, 'r> Proxy<'a, 'p, 'r> {
     fn close(&mut self, key: usize, tape: &mut Tape) {
         if let Some(mut pair) = self.pairs.try_remove(key) {
             tape.end(pair.tape.take());
+            self.figures.note_gone(pair.figures());
             drop(pair);
         }
     }
@@ -320,6 +343,7 @@ impl<'a, 'p, 'r> Proxy<'a, 'p, 'r> {
         number: u64,
         ended: PairEnd,
     ) {
+        self.figures.note_end(&ended);
         let status = ended.status();
         if self.status == ACCEPTED {
             self.status = status;
@@ -352,7 +376,8 @@ impl<'a, 'p, 'r> Proxy<'a, 'p, 'r> {
 /// What waits for the listener, and room for its events.
 fn polled<N: Net + AllocGlobal>(rt: &N, incoming: &mut Incoming) -> io::Result<(Poll, Events)> {
     let poll = Poll::new(rt)?;
-    incoming.register(poll.registry(), LISTENER)?;
-    let events = Events::with_capacity(rt.alloc(), EVENTS)?;
+    let alloc = rt.alloc();
+    incoming.register(alloc, poll.registry(), LISTENER)?;
+    let events = Events::with_capacity(alloc, EVENTS)?;
     Ok((poll, events))
 }

@@ -1,0 +1,3 @@
+pub mod Flowing
+pub mod Hearing
+pub mod Headers

@@ -1,4 +1,6 @@
 pub mod Flow
+pub mod Greeting
 pub mod Incoming
+pub mod ProxyHeader
 pub mod Reading
 pub mod Sockets

@@ -20,6 +20,14 @@ impl StreamSocket {
         let _ = stream.set_nodelay(true);
         Ok(StreamSocket::Tcp(stream))
     }
+
+    /// Has its readiness reported no more.
+    pub(crate) fn deregister(&mut self, registry: &Registry) -> io::Result<()> {
+        match self {
+            StreamSocket::Tcp(stream) => registry.deregister(stream),
+            StreamSocket::Unix(stream) => registry.deregister(stream),
+        }
+    }
 }
 
 impl Socket for StreamSocket {

@@ -1,5 +1,5 @@
 //! Serves the store of tests/store/store.capnp on a path. The texts lie in Redis, so that several processes share them, and none is lost with
-//! one. `store-shared PATH REDIS`, each the path of a Unix socket.
+//! one. `store-shared PATH REDIS`, each the path of a Unix socket. Connections come by a proxy, which says whose each is.
 
 use anyhow::anyhow;
 use jamdrosek::host::{Host, HostConfig, HostEvent, Listener};
@@ -132,7 +132,7 @@ pub fn run(rt: &HostRuntime) -> anyhow::Result<()> {
     stream.set_read_timeout(Some(Duration::from_secs(1)))?;
     let alloc = rt.alloc();
     let redis = Rc::new(alloc, Redis { alloc, stream })?;
-    let listener = Listener::bind_path(rt, path.as_str())?;
+    let listener = Listener::bind_path(rt, path.as_str())?.behind_proxy();
     let mut host = Host::new(rt, HostConfig::standard(), listener)?;
     for _ in 0..u64::MAX {
         if let Some(HostEvent::Connected { .. }) = host.next(rt)? {

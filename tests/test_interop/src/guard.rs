@@ -5,8 +5,8 @@ use crate::fault::Fault;
 use crate::frame::lines_of;
 use crate::row::{decoded, expect, parts_of};
 use cp_frame::Mode;
-use cp_methods::{named_methods, ruled_method};
-use cp_relay::{CallLimits, Filter, Guard, MethodId, MethodName, Output, Rules};
+use cp_methods::{RuledGiven, named_methods, ruled_given, ruled_method};
+use cp_relay::{CallLimits, Callable, Filter, Guard, MethodId, MethodName, Output, Rules};
 use cp_schema::{MethodNumber, Schema};
 use cp_words::Limits;
 use std::alloc::Global;
@@ -187,9 +187,42 @@ fn add_rule(
     name: &str,
     text: &mut String,
 ) -> Result<(), Fault> {
+    let (name, given) = match name.split_once("->") {
+        Some((name, given)) => (name, Some(given)),
+        None => (name, None),
+    };
     match ruled_method(alloc, schema, name) {
-        Ok(number) => Ok(rules.add_rule(id_of(number))?),
+        Ok(number) => {
+            rules.add_rule(id_of(number))?;
+            match given {
+                Some(given) => add_grant(alloc, schema, rules, id_of(number), given),
+                None => Ok(()),
+            }
+        }
         Err(fault) => Ok(write!(text, "{fault}|")?),
+    }
+}
+
+/// Adds rules on what calls of a method gave.
+fn add_grant(
+    alloc: Global,
+    schema: &Schema,
+    rules: &mut Rules,
+    after: MethodId,
+    given: &str,
+) -> Result<(), Fault> {
+    for one in ruled_given(alloc, schema, given).map_err(|_| Fault::Row)? {
+        rules.add_grant(after, callable_of(one))?;
+    }
+    Ok(())
+}
+
+/// What may be called, as rules have it.
+fn callable_of(given: RuledGiven) -> Callable {
+    match given {
+        RuledGiven::All => Callable::All,
+        RuledGiven::Interface(interface) => Callable::Interface(interface),
+        RuledGiven::Method(number) => Callable::Method(id_of(number)),
     }
 }
 

@@ -2,4 +2,6 @@
 
 mod acting;
 mod connections;
+mod figures;
 mod recordings;
+mod replays;

@@ -1,5 +1,6 @@
 //! A host of 127.0.0.1, and a client in the same thread.
 
+use cp_connection::ConnectionStats;
 use cp_frame::Mode;
 use cp_objects::{Objects, ServedObject, ServantObject};
 use cp_servants::Desk;
@@ -14,7 +15,7 @@ use std::process::Abort;
 use std::time::Clock;
 
 /// The frames of two Bootstraps, questions 7 and 8.
-const TWO: [u8; 96] = [
+pub(super) const TWO: [u8; 96] = [
     0x00, 0x00, 0x00, 0x00, 0x05, 0x00, 0x00, 0x00, 0x00, 0x00, 0x00, 0x00, 0x01, 0x00, 0x01, 0x00,
     0x08, 0x00, 0x00, 0x00, 0x00, 0x00, 0x00, 0x00, 0x00, 0x00, 0x00, 0x00, 0x01, 0x00, 0x01, 0x00,
     0x07, 0x00, 0x00, 0x00, 0x00, 0x00, 0x00, 0x00, 0x00, 0x00, 0x00, 0x00, 0x00, 0x00, 0x00, 0x00,
@@ -24,7 +25,7 @@ const TWO: [u8; 96] = [
 ];
 
 /// One connection, plain, of which each turn takes one message.
-fn plan() -> HostConfig {
+pub(super) fn plan() -> HostConfig {
     HostConfig {
         mode: Mode::Plain,
         messages: Limits::standard(),
@@ -181,7 +182,7 @@ where
 }
 
 /// Serves the connection that came with a desk.
-fn admit_desk(rt: &impl Abort, alloc: Global, host: &mut Host<ServantObject<Desk>>) {
+pub(super) fn admit_desk(rt: &impl Abort, alloc: Global, host: &mut Host<ServantObject<Desk>>) {
     let mut objects = Objects::new(alloc);
     drop(objects.add(ServantObject::new(Desk::new(alloc))).expect(rt, "memory"));
     host.admit(objects).expect(rt, "a connection");
@@ -194,6 +195,11 @@ fn expect_return(rt: &impl Abort, alloc: Global, mut client: TcpStream, question
     drop(client);
     check!(rt; answer.len() > 40 && answer[16] == 3 && answer[32] == question);
     drop(answer);
+}
+
+/// Whether these are the numbers of a connection that took one of the frames, and sent its Return.
+fn is_of_one(stats: &ConnectionStats) -> bool {
+    stats.messages == 1 && stats.bytes == 48 && stats.sent == 1
 }
 
 #[test]
@@ -218,7 +224,7 @@ fn each_client_gets_its_own_answer(rt: HostRuntime) {
     // The ends of both are heard, and each is reported before there is nothing more to tell.
     for _ in 0..2 {
         let news = host.next(&rt).expect(&rt, "a host");
-        check!(&rt; matches!(&news, Some(HostEvent::Ended { end: End::Ended, .. })));
+        check!(&rt; matches!(&news, Some(HostEvent::Ended { end: End::Ended, stats, .. }) if is_of_one(stats)));
         drop(news);
     }
     check!(&rt; matches!(next_told(&rt, &mut host), Told::Nothing));

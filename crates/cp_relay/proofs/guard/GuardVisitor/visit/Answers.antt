@@ -1,4 +1,4 @@
-use Rattle.std.proofs.Common.{rules, Some}
+use Rattle.std.proofs.Common.{rules}
 use Rattle.cp_rpc.specs.Viewed.{viewed}
 use Rattle.cp_relay.specs.declared.guard.Guard.{Guard}
 use Rattle.cp_relay.specs.Guard.{HasJudged}

@@ -34,8 +34,8 @@ returns-in-Waits-clause-turns g c =
 pub returns-in-Over-clause-turns : goal.returns-in-Over-clause-turns
 returns-in-Over-clause-turns g c =
     let over = rw (c.allowed.ensures, c.number_of-account.ensures, c.now.ensures) at c.in-Over.ensures.visits in
-    let is = ended_as c.ended-ended.result _ _ _ _ c.in-Over.end c.ended-ended.ensures over.2.0 over.2.1 in
-    ends c.in-Some.key (served_of g.S.DrivenSession.state g.D.Socket.flow c.in-Some-get_mut.hosted.now) over.0 c.in-Over.end (sym (ap (λ o. option_map (served_of g.S.DrivenSession.state g.D.Socket.flow) o) c.in-Some-get_mut.ensures.value)) over.2.2
+    let is = ended_as c.ended-ended.result _ _ _ _ c.in-Over.end _ _ c.ended-ended.ensures over.2.0 over.2.1 over.2.4 in
+    ends c.in-Some.key (served_of g.S.DrivenSession.state g.D.Socket.flow c.in-Some-get_mut.hosted.now) over.2.2 over.0 c.in-Over.end (sym (ap (λ o. option_map (served_of g.S.DrivenSession.state g.D.Socket.flow) o) c.in-Some-get_mut.ensures.value)) over.2.3
     (seen_taken g.S.DrivenSession.state g.D.Socket.flow c.args.self.now.guests c.close.new.self.guests _ c.in-Some-get_mut.hosted.now c.turn.new.self c.in-Some-get_mut.ensures.value c.close.ensures.updates)
     (rw c.reserve.ensures.items at (c.close.ensures.ended ∙ ap (λ x. c.reserve.new.self.items ++ x ∷ []) is))
     (rw (← c.number_of-account.ensures) (c.close.ensures.budget ∙ c.in-Over.ensures.accounts)) (ap (λ w. w.items) c.close.ensures.wakes ∙ over.1) (ap (λ t. t.sweep_at) c.close.ensures.time)

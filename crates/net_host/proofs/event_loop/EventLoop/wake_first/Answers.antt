@@ -42,10 +42,10 @@ pub returns-in-Err-clause-turns : goal.returns-in-Err-clause-turns
 returns-in-Err-clause-turns g c =
     let hosted = c.in-Some-get_mut.hosted.now in
     let short = ran_out (served_of g.S.DrivenSession.state g.D.Socket.flow hosted) (served_of g.S.DrivenSession.state g.D.Socket.flow c.wake.new.self) (served_of g.S.DrivenSession.state g.D.Socket.flow c.run_out-end.new.self) c.run_out-end.result c.in-Err.ensures.err c.run_out-end.ensures.same c.run_out-end.ensures.end in
-    let is = ended_as c.ended-ended.result _ _ _ _ c.run_out-end.result c.ended-ended.ensures short.0 short.1 in
+    let is = ended_as c.ended-ended.result _ _ _ _ c.run_out-end.result _ _ c.ended-ended.ensures short.0 short.1 short.2 in
     wakes_short c.in-Some.waker (served_of g.S.DrivenSession.state g.D.Socket.flow hosted) c.run_out-end.result (c.in-Some.ensures.items ∙ ap (λ w. c.in-Some.waker ∷ w.items) (sym c.close.ensures.wakes))
     (is_served g.S.DrivenSession.state g.D.Socket.flow c.args.self.now c.in-Some.waker c.key_of-key.result c.session.result hosted c.key_of-key.ensures c.in-Some-get_mut.ensures.value c.session.ensures c.if-session-waker.false)
-    short.2
+    short.3
     (written_at c.key_of-key.ensures
     (seen_taken g.S.DrivenSession.state g.D.Socket.flow c.args.self.now.guests c.close.new.self.guests c.key_of-key.result hosted c.run_out-end.new.self c.in-Some-get_mut.ensures.value c.close.ensures.updates))
     (c.close.ensures.ended ∙ ap (λ x. c.args.self.now.ended.items ++ x ∷ []) is)

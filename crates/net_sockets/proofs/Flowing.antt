@@ -1,5 +1,5 @@
 -- How what goes through a socket follows each other.
-use Rattle.std.proofs.Common.{◌≡◌, ◌+◌, ◌∙◌, ℕ, List, [], ◌++◌, Option, Some, None, refl, sym, append-nil, arith}
+use Rattle.std.proofs.Common.{◌≡◌, ◌+◌, ◌∙◌, ℕ, List, [], ◌++◌, Option, Some, None, refl, sym, subst, append-nil, arith}
 use Rattle.std.specs.Io.KnownBytes.{Appends, Consumes}
 use Rattle.std.proofs.KnownBytes.{Appends-trans, Consumes-trans}
 use Rattle.net_sockets.specs.Flow.{Flow, Moves, Rests, Rises}
@@ -34,3 +34,11 @@ flows_both {a = a} {b = b} {c = c} {came = came} {more = more} {one = one} {othe
   ended = rises_both a.ends b.ends c.ends one other h.ended k.ended;
   taken = Appends-trans a.sent b.sent c.sent took also h.taken k.taken;
 }
+
+-- nothing after it
+pub flows_still : {a b c : Flow} {came : List ℕ} {one : ℕ} {took : List ℕ} → Moves a came one took b → Rests b c → Moves a came one took c
+flows_still {a = a} {c = c} {came = came} {one = one} {took = took} h k =
+    let ends : one + 0 ≡ one = omega arith in
+    subst (λ (n : ℕ). Moves a came n took c) ends
+    (subst (λ (xs : List ℕ). Moves a came (one + 0) xs c) (append-nil took)
+    (subst (λ (xs : List ℕ). Moves a xs (one + 0) (took ++ []) c) (append-nil came) (flows_both h k)))

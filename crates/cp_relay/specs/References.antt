@@ -1,0 +1,143 @@
+-- The references that a caller was given on a connection, and the marks of the rules by whose calls they came.
+use Rattle.std.specs.Prelude.{ℕ, min, nat_lt, nat_le, ◌+◌, ◌-◌, ◌^◌, ◌&&◌, Bool, true, false, if◌then◌else◌, List, [], ◌∷◌, length, Option, Some, None}
+use Rattle.std.specs.Option.{option_map}
+use Rattle.std.specs.FinMap.{get, insert, remove, empty, len}
+use Rattle.std.specs.Int.RustNames.{bit_or}
+use Rattle.cp_tables.specs.Table.{Table}
+use Rattle.cp_messages.specs.declared.target.Target.{Target}
+use Rattle.cp_messages.specs.declared.target.Target.TheVariants as targets
+use Rattle.cp_messages.specs.declared.descriptor.Descriptor.{Descriptor}
+use Rattle.cp_messages.specs.declared.descriptor.Descriptor.TheVariants as descriptors
+use Rattle.cp_messages.specs.declared.returned.Returned.{Returned}
+use Rattle.cp_messages.specs.declared.returned.Returned.TheVariants as returns
+use Rattle.cp_messages.specs.declared.resolve.Resolution.{Resolution}
+use Rattle.cp_messages.specs.declared.resolve.Resolution.TheVariants as resolutions
+use Rattle.cp_messages.specs.declared.small.Finish.{Finish}
+use Rattle.cp_relay.specs.declared.references.Given.{Given}
+use Rattle.cp_relay.specs.declared.references.QuestionStage.{QuestionStage}
+use Rattle.cp_relay.specs.declared.references.QuestionStage.TheVariants as stages
+use Rattle.cp_relay.specs.declared.references.Question.{Question}
+use Rattle.cp_relay.specs.declared.references.References.{References}
+
+-- the references of a connection on which nothing was sent
+abbrev pub no_references : References
+no_references = record { given = empty; questions = empty; calls = empty; kept = 0 }
+
+-- the number that a descriptor gives: that of an object of its sender, or of a promise
+abbrev pub hosted_number : Descriptor → Option ℕ
+hosted_number (descriptors.SenderHosted id) = Some id
+hosted_number (descriptors.SenderPromise id) = Some id
+hosted_number descriptors.None = None
+hosted_number (descriptors.ReceiverHosted id) = None
+hosted_number (descriptors.ReceiverAnswer answer) = None
+hosted_number (descriptors.ThirdPartyHosted tree) = None
+hosted_number (descriptors.Unknown number) = None
+
+abbrev pub first_if : Option ℕ → List ℕ → List ℕ
+first_if (Some id) ids = id ∷ ids
+first_if None ids = ids
+
+-- the numbers that a table gives
+abbrev pub hosted_numbers : List Descriptor → List ℕ
+hosted_numbers [] = []
+hosted_numbers (d ∷ table) = first_if (hosted_number d) (hosted_numbers table)
+
+-- the numbers that a Return gives: those of its results
+abbrev pub returned_numbers : Returned → List ℕ
+returned_numbers (returns.Results payload) = hosted_numbers payload.cap_table
+returned_numbers (returns.Exception exception) = []
+returned_numbers returns.Canceled = []
+returned_numbers returns.ResultsSentElsewhere = []
+returned_numbers (returns.TakeFromOtherQuestion question) = []
+returned_numbers (returns.AcceptFromThirdParty tree) = []
+returned_numbers (returns.Unknown number) = []
+
+-- the number that a promise's resolution gives
+abbrev pub resolved_number : Resolution → Option ℕ
+resolved_number (resolutions.Cap d) = hosted_number d
+resolved_number (resolutions.Exception exception) = None
+resolved_number (resolutions.Unknown number) = None
+
+-- a number is given once more, with these marks beside those that it has
+abbrev pub given_more : Option Given → ℕ → Given
+given_more (Some g) marks = record { count = min (g.count + 1) (2 ^ 32 - 1); marks = bit_or g.marks marks }
+given_more None marks = record { count = 1; marks = marks }
+
+abbrev pub raised : Table Given → ℕ → ℕ → Table Given
+raised given id marks = insert given id (given_more (get given id) marks)
+
+abbrev pub raised_all : Table Given → ℕ → List ℕ → Table Given
+raised_all given marks [] = given
+raised_all given marks (id ∷ ids) = raised_all (raised given id marks) marks ids
+
+-- A number is given back so often. At the last time it is free, and whatever is given under it later has other marks.
+abbrev pub lowered_by : Table Given → ℕ → ℕ → Option Given → Table Given
+lowered_by given id n (Some g) = if nat_lt n g.count then insert given id (record g { count = g.count - n }) else remove given id
+lowered_by given id n None = given
+
+abbrev pub lowered : Table Given → ℕ → ℕ → Table Given
+lowered given id n = lowered_by given id n (get given id)
+
+abbrev pub lowered_all : Table Given → List ℕ → Table Given
+lowered_all given [] = given
+lowered_all given (id ∷ ids) = lowered_all (lowered given id 1) ids
+
+-- given back where that is said
+abbrev pub lowered_if : Bool → Table Given → List ℕ → Table Given
+lowered_if true given ids = lowered_all given ids
+lowered_if false given ids = given
+
+-- The marks of what a call goes to, if the caller was given it: of a number, or of what a question's results give.
+abbrev pub marks_of : References → Target → Option ℕ
+marks_of refs (targets.ImportedCap id) = option_map (λ g. g.marks) (get refs.given id)
+marks_of refs (targets.PromisedAnswer answer) = option_map (λ q. q.marks) (get refs.questions answer.question_id)
+marks_of refs (targets.Unknown number) = None
+
+-- how many references are kept at most, and how many questions and numbers beside them
+abbrev pub most_kept : ℕ
+most_kept = 65536
+
+abbrev pub has_room : References → ℕ → Bool
+has_room refs n = nat_le n (most_kept - refs.kept) && nat_le n (most_kept - len refs.given)
+
+-- a question that isn't answered has come so far
+abbrev pub noted : References → ℕ → ℕ → QuestionStage → References
+noted refs question marks stage = record refs { questions = insert refs.questions question (record { stage = stage; marks = marks; numbers = [] }) }
+
+-- a question is asked, whose results give what has these marks
+abbrev pub opened : References → ℕ → ℕ → References
+opened refs question marks = noted (record refs { kept = refs.kept + 1 }) question marks stages.Open
+
+-- a question is over, and what its results gave is given back if that is said
+abbrev pub closed_by : References → ℕ → Bool → Option Question → References
+closed_by refs question release (Some q) =
+    record refs { given = lowered_if release refs.given q.numbers; questions = remove refs.questions question; kept = refs.kept - 1 - length q.numbers }
+closed_by refs question release None = refs
+
+abbrev pub closed : References → ℕ → Bool → References
+closed refs question release = closed_by refs question release (get refs.questions question)
+
+-- a call of the callee is answered, and what its params gave is given back if that is said
+abbrev pub answered_by : References → ℕ → Bool → Option (List ℕ) → References
+answered_by refs call release (Some numbers) = record refs { given = lowered_if release refs.given numbers; calls = remove refs.calls call; kept = refs.kept - length numbers }
+answered_by refs call release None = refs
+
+abbrev pub answered : References → ℕ → Bool → References
+answered refs call release = answered_by refs call release (get refs.calls call)
+
+abbrev pub finished_stage : Bool → QuestionStage
+finished_stage release = if release then stages.Released else stages.Finished
+
+-- A Finish goes. After the Return the question is over. Before it, it says what becomes of what the results will give; a second one gives that back.
+abbrev pub finished_at : References → Finish → ℕ → QuestionStage → References
+finished_at refs finish marks stages.Returned = closed refs finish.question_id finish.release_result_caps
+finished_at refs finish marks stages.Open = noted refs finish.question_id marks (finished_stage finish.release_result_caps)
+finished_at refs finish marks stages.Finished = noted refs finish.question_id marks stages.Released
+finished_at refs finish marks stages.Released = noted refs finish.question_id marks stages.Released
+
+abbrev pub finished_by : References → Finish → Option Question → References
+finished_by refs finish (Some q) = finished_at refs finish q.marks q.stage
+finished_by refs finish None = refs
+
+abbrev pub finished : References → Finish → References
+finished refs finish = finished_by refs finish (get refs.questions finish.question_id)
