@@ -12,6 +12,7 @@
 #   peers     sessions of C++ clients, and of peers at fault                   15 seconds
 #   matrix    clients and servers of the C++ and the Rust library, each with each   the proofs of two programs of its own, and some minutes
 #   relay     sessions of C++ clients and of peers at fault through a relay    a minute
+#   recordings    sessions that relay --record keeps, shown and made again   a minute, as root with a full disk too
 #   guard     11,000 random sessions of the C++ library through a guard        some minutes
 #   fields    texts of schemas, read by generated code and by the reference tool   half an hour
 #   schemas   random schemas, shown and read by generated code as by the reference tool   half an hour, and the proofs of three crates of its own
@@ -31,6 +32,7 @@
 #   services  promises, objects made in calls and times, with both libraries     the proof of a program of its own, and five minutes
 #   notebook  objects made in calls, and pushes, with the reference library    the proof of examples, and half a minute
 #   lives     an hour of 950 connections that watch, open pages and go       the proof of examples, and an hour, with a fifth of a processor
+#   queue     a queue of jobs, with clients and workers of the reference library   the proof of a program of its own, and half a minute
 #   chat      a chat room with 999 silent members of the reference library      the proof of a program of its own, and half a minute
 #   groups    groups that are members of unions, chosen by both libraries     the proof of a program of its own, and some seconds
 #   netns     servers and clients over a slow, lossy link, as root              the proof of examples, and three minutes
@@ -55,7 +57,7 @@
 set -u
 here=$(cd "$(dirname "${BASH_SOURCE[0]}")" && pwd)
 . "$here/../tools/crates.sh"
-all=(look proofs memory moves peers matrix relay guard fields schemas texts json canonical host load operate callees large faults readme interfaces services notebook lives chat groups netns sessions crowd served pieces starved embed fuzz words made edits planted plants)
+all=(look proofs memory moves peers matrix relay recordings guard fields schemas texts json canonical host load operate callees large faults readme interfaces services notebook lives queue chat groups netns sessions crowd served pieces starved embed fuzz words made edits planted plants)
 alone=night # runs only where it is named: it takes as long as all others
 of_plants=(cp_words cp_tables cp_writing cp_packed cp_frame cp_messages cp_rpc cp_stream cp_refs cp_vat cp_serve)
 
@@ -132,6 +134,8 @@ netns() {
 
 relay() { built && "$here/relay/run.sh" "$server" "$folder/relayed"; }
 
+recordings() { built && "$here/recordings/run.sh" "$server" "$folder/recordings"; }
+
 guard() { built && "$here/guard/run.sh" "$server" "$folder"; }
 
 fields() {
@@ -177,7 +181,9 @@ notebook() { "$root/tools/build.sh" examples && "$here/notebook/run.sh" "$root/c
 
 lives() { "$root/tools/build.sh" examples && "$here/notebook/lives.sh" "$root/crates/examples/out/examples" "$folder/lives"; }
 
-more_examples() { lay_tests "$folder/more" store chat shapes more_examples && (cd "$folder/more/crates/more_examples" && rt run); }
+more_examples() { lay_tests "$folder/more" store jobs chat shapes more_examples && (cd "$folder/more/crates/more_examples" && rt run); }
+
+queue() { more_examples && "$here/jobs/run.sh" "$folder/more/crates/more_examples/out/more_examples" "$folder/jobs"; }
 
 chat() { more_examples && "$here/chat/run.sh" "$folder/more/crates/more_examples/out/more_examples" "$folder/chat"; }
 

@@ -1,4 +1,5 @@
-//! Runs each example on its file of `data/`, under a heading. With the word `chat` it serves a chat room. With `store` it serves a store,
+//! Runs each example on its file of `data/`, under a heading. With the word `chat` it serves a chat room. With `jobs` it serves a queue of jobs,
+//! for which it works with `job`, and to which it submits the text after that. With `store` it serves a store,
 //! with `store-shared` one whose texts lie in Redis, and calls it with `store-client` and `store-returning`. With `again` it calls the notebook
 //! that `server` serves, with `way` and a number it serves so many calls, and with `shapes` it runs that example alone. Those of
 //! `crates/examples` are laid out beside them, as the file `also` says.
@@ -13,6 +14,9 @@ mod connection;
 mod copies;
 mod count;
 mod draft;
+mod jobs_client;
+mod jobs_server;
+mod jobs_test;
 mod notebook_client;
 mod notebook_server;
 mod notebook_test;
@@ -35,6 +39,8 @@ fn main(rt: HostRuntime) -> anyhow::Result<()> {
         Some(word) if word.as_str() == "chat" => chat_server::run(&rt),
         Some(word) if word.as_str() == "server" => notebook_server::run(&rt),
         Some(word) if word.as_str() == "client" => notebook_client::run(&rt),
+        Some(word) if word.as_str() == "jobs" => jobs_server::run(&rt),
+        Some(word) if word.as_str() == "job" => jobs_client::run(&rt, env::args(&rt)?.nth(2)),
         Some(word) if word.as_str() == "store" => store_server::run(&rt),
         Some(word) if word.as_str() == "store-client" => store_client::run(&rt),
         Some(word) if word.as_str() == "again" => again::run(&rt),
@@ -75,7 +81,9 @@ fn run_all(rt: &HostRuntime) -> anyhow::Result<()> {
     heading(rt, "call")?;
     call::run(rt)?;
     heading(rt, "chat_test")?;
-    chat_test::run(rt)
+    chat_test::run(rt)?;
+    heading(rt, "jobs_test")?;
+    jobs_test::run(rt)
 }
 
 /// Prints an example's name on a line of its own.
