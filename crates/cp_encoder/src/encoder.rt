@@ -4,15 +4,16 @@ use crate::fault::EncodeFault;
 use crate::making::object_of;
 use crate::reader::Reader;
 use crate::room::Room;
-use cp_schema::{Node, Notation, Schema, Structure};
+use cp_schema::{Brand, Node, Notation, Schema, Structure};
 use cp_tree::Object;
 use std::alloc::Global;
 
-/// By what texts are read: a schema, the struct that each text is, and whether it is JSON.
+/// By what texts are read: a schema, the struct that each text is with what its type binds, and whether it is JSON.
 #[derive(Clone, Copy)]
 pub struct Encoder<'s> {
     schema: &'s Schema,
     of: &'s Structure,
+    brand: Option<&'s Brand>,
     is_json: bool,
 }
 
@@ -34,9 +35,13 @@ impl<'s> Encoder<'s> {
         None
     }
 
-    /// By the struct of this number, if a schema has it.
-    pub fn by_number(schema: &'s Schema, id: u64) -> Option<Encoder<'s>> {
-        Encoder::of(schema, schema.find(id)?)
+    /// By the struct of this number with this brand, if a schema has it.
+    pub fn by_number(schema: &'s Schema, id: u64, brand: &'s Brand) -> Option<Encoder<'s>> {
+        let encoder = Encoder::of(schema, schema.find(id)?)?;
+        Some(Encoder {
+            brand: Some(brand),
+            ..encoder
+        })
     }
 
     /// The same in this notation.
@@ -71,6 +76,9 @@ impl<'s> Encoder<'s> {
         caps: Option<Vec<String>>,
     ) -> Result<Encoded, EncodeFault> {
         let mut reader = Reader::new(alloc, self.schema, self.is_json, text, caps);
+        if let Some(brand) = self.brand {
+            reader.generics.begin(brand);
+        }
         let fields = reader.body(self.of, Room::in_root());
         match reader.end() {
             Ok(caps) => {
@@ -90,6 +98,7 @@ impl<'s> Encoder<'s> {
         Some(Encoder {
             schema,
             of: node.structure()?,
+            brand: None,
             is_json: false,
         })
     }

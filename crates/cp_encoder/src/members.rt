@@ -7,7 +7,7 @@ use crate::reader::Reader;
 use crate::room::Room;
 use crate::token::Token;
 use crate::value::{Fields, TextPointer, TextValue};
-use cp_schema::{Base, FieldKind, Schema, StructField, Structure, UnionNames};
+use cp_schema::{Base, FieldKind, StructField, Structure, UnionNames};
 use std::alloc::{AllocError, Global};
 
 /// The deepest that structs may lie in the places of others' fields.
@@ -15,10 +15,10 @@ const MOST_FLAT: u32 = 8;
 
 /// What members are fields of: a struct or a group, whose union has these names, by names that begin with a prefix.
 #[derive(Clone, Copy)]
-pub(crate) struct Shape<'f> {
-    pub(crate) of: &'f Structure,
-    pub(crate) names: UnionNames<'f>,
-    pub(crate) prefix: &'f [u8],
+pub(crate) struct Shape<'s, 'p> {
+    pub(crate) of: &'s Structure,
+    pub(crate) names: UnionNames<'s>,
+    pub(crate) prefix: &'p [u8],
     /// Whether an object has no other members.
     pub(crate) is_whole: bool,
 }
@@ -42,8 +42,8 @@ impl<'s, 't> Reader<'s, 't> {
     #[cycle(value)]
     pub(crate) fn object(
         &mut self,
-        of: &Structure,
-        names: UnionNames<'_>,
+        of: &'s Structure,
+        names: UnionNames<'s>,
         into: &mut Fields,
         room: Room,
     ) {
@@ -63,7 +63,7 @@ impl<'s, 't> Reader<'s, 't> {
 
     /// The members of the object that begins at `start`, as fields of this shape.
     #[cycle(value)]
-    fn members(&mut self, shape: &Shape<'_>, start: &'t [u8], into: &mut Fields, room: Room) {
+    fn members(&mut self, shape: &Shape<'s, '_>, start: &'t [u8], into: &mut Fields, room: Room) {
         // The tag may stand behind what it tells of.
         let set = self.tagged(shape, start, into);
         self.enter(start);
@@ -86,7 +86,7 @@ impl<'s, 't> Reader<'s, 't> {
 
     /// A member: its name, and its value.
     #[cycle(value)]
-    fn member(&mut self, shape: &Shape<'_>, given: &mut Given, into: &mut Fields, room: Room) {
+    fn member(&mut self, shape: &Shape<'s, '_>, given: &mut Given, into: &mut Fields, room: Room) {
         let Token::Text(raw) = self.token else {
             self.miss("the name of a member");
             return;
@@ -115,7 +115,7 @@ impl<'s, 't> Reader<'s, 't> {
     #[cycle(value)]
     fn field_member(
         &mut self,
-        shape: &Shape<'_>,
+        shape: &Shape<'s, '_>,
         index: usize,
         given: &mut Given,
         into: &mut Fields,
@@ -138,8 +138,8 @@ impl<'s, 't> Reader<'s, 't> {
     #[cycle(value)]
     fn inner(
         &mut self,
-        shape: &Shape<'_>,
-        field: &StructField,
+        shape: &Shape<'s, '_>,
+        field: &'s StructField,
         start: &'t [u8],
         into: &mut Fields,
         room: Room,
@@ -148,7 +148,8 @@ impl<'s, 't> Reader<'s, 't> {
             self.starve();
             return;
         };
-        match (inner_shape(self.schema, field, &prefix), &field.kind) {
+        let (kind, entered) = self.generics.enter(field);
+        match (self.inner_shape(field, &kind, &prefix), &kind) {
             (Some(inner), FieldKind::Slot(slot)) => {
                 self.inner_pointer(&inner, slot.place, start, into, room)
             }
@@ -158,6 +159,7 @@ impl<'s, 't> Reader<'s, 't> {
             },
             (None, _) => self.miss("a struct that the schema has"),
         }
+        self.generics.leave(entered);
         drop(prefix);
     }
 
@@ -165,7 +167,7 @@ impl<'s, 't> Reader<'s, 't> {
     #[cycle(value)]
     fn inner_pointer(
         &mut self,
-        inner: &Shape<'_>,
+        inner: &Shape<'s, '_>,
         place: u32,
         start: &'t [u8],
         into: &mut Fields,
@@ -182,7 +184,12 @@ impl<'s, 't> Reader<'s, 't> {
     }
 
     /// The member of the union that the tag names in the object that begins at `start`. It is noted.
-    fn tagged(&mut self, shape: &Shape<'_>, start: &'t [u8], into: &mut Fields) -> Option<usize> {
+    fn tagged(
+        &mut self,
+        shape: &Shape<'s, '_>,
+        start: &'t [u8],
+        into: &mut Fields,
+    ) -> Option<usize> {
         let tag = shape.names.tag?;
         self.enter(start);
         for place in 0..=self.most() {
@@ -228,9 +235,9 @@ impl<'s, 't> Reader<'s, 't> {
     }
 
     /// What the member of this name is, where the field at the place `set` is the union's member that is set.
-    fn found(&self, shape: &Shape<'_>, name: &[u8], set: Option<usize>) -> Member {
+    fn found(&mut self, shape: &Shape<'s, '_>, name: &[u8], set: Option<usize>) -> Member {
         match name.strip_prefix(shape.prefix) {
-            Some(own) => find(self.schema, shape, own, set, MOST_FLAT),
+            Some(own) => self.find(shape, own, set, MOST_FLAT),
             None => Member::Unknown,
         }
     }
@@ -285,7 +292,7 @@ impl<'s, 't> Reader<'s, 't> {
     }
 
     /// Ends the reading here, where the tag doesn't name the member of the union whose value this is.
-    fn miss_tag(&mut self, shape: &Shape<'_>) {
+    fn miss_tag(&mut self, shape: &Shape<'s, '_>) {
         let tag = shape.names.tag.unwrap_or("");
         let mut wanted = String::new(self.alloc);
         match write!(wanted, "a member of the union that {tag} names") {
@@ -308,14 +315,114 @@ impl<'s, 't> Reader<'s, 't> {
     }
 
     /// Ends the reading here, where a member is wanted and there is another name.
-    fn miss_name(&mut self, shape: &Shape<'_>, name: &[u8]) {
+    fn miss_name(&mut self, shape: &Shape<'s, '_>, name: &[u8]) {
         let mut nearest = Nearest::new(self.alloc, name);
         add_name(&mut nearest, shape.names.tag);
         add_name(&mut nearest, shape.names.value);
-        add_names(&mut nearest, self.schema, shape.of, MOST_FLAT);
+        self.add_names(&mut nearest, shape.of, MOST_FLAT);
         let wanted = nearest.wanted("a member");
         drop(nearest);
         self.miss_made(wanted);
+    }
+
+    /// Adds the names of a struct's fields, and of those that stand in the places of these under their own names.
+    fn add_names(&mut self, nearest: &mut Nearest<'_, 's>, of: &'s Structure, depth: u32) {
+        for field in &of.fields {
+            let (kind, entered) = self.generics.enter(field);
+            match self.inner_shape(field, &kind, &[]) {
+                None => nearest.add(field.json_name()),
+                Some(inner) if depth > 0 && prefix_of(field).is_empty() => {
+                    self.add_names(nearest, inner.of, depth - 1)
+                }
+                Some(_) => {}
+            }
+            self.generics.leave(entered);
+        }
+    }
+
+    /// What the member of this name is among those of a shape, with structs in others' places no deeper than this.
+    #[cycle(find)]
+    fn find(
+        &mut self,
+        shape: &Shape<'s, '_>,
+        name: &[u8],
+        set: Option<usize>,
+        depth: u32,
+    ) -> Member {
+        if is(shape.names.tag, name) {
+            return Member::Tag;
+        }
+        if is(shape.names.value, name) {
+            return match set {
+                Some(index) => Member::Field(index),
+                None => Member::Unset,
+            };
+        }
+        let mut found = Member::Unknown;
+        for (index, field) in shape.of.fields.iter().enumerate() {
+            let is_unset = field.is_member() && set != Some(index);
+            if field.json.prefix.is_some() {
+                if depth > 0 && self.has_inner(field, name, depth - 1) {
+                    found = if is_unset {
+                        Member::Unset
+                    } else {
+                        Member::Inner(index)
+                    };
+                }
+            } else if field.json_name().as_bytes() == name
+                && !(field.is_member() && shape.names.value.is_some())
+            {
+                return Member::Field(index);
+            }
+            if let Member::Inner(_) = found {
+                break;
+            }
+        }
+        found
+    }
+
+    /// Whether the member of this name is one of a struct or a group that stands in its place.
+    #[cycle(find)]
+    fn has_inner(&mut self, field: &'s StructField, name: &[u8], depth: u32) -> bool {
+        let Some(own) = name.strip_prefix(prefix_of(field)) else {
+            return false;
+        };
+        let (kind, entered) = self.generics.enter(field);
+        let has = match self.inner_shape(field, &kind, &[]) {
+            Some(inner) => !matches!(self.find(&inner, own, None, depth), Member::Unknown),
+            None => false,
+        };
+        self.generics.leave(entered);
+        has
+    }
+
+    /// The shape of the struct or the group whose fields stand in its place, if a field of this kind is one.
+    fn inner_shape<'p>(
+        &self,
+        field: &'s StructField,
+        kind: &FieldKind,
+        prefix: &'p [u8],
+    ) -> Option<Shape<'s, 'p>> {
+        let _ = field.json.prefix.as_ref()?;
+        let (id, is_group) = match kind {
+            FieldKind::Group(id) => (*id, true),
+            FieldKind::Slot(slot) => match slot.of.of {
+                Base::Struct(id) => (id, false),
+                _ => return None,
+            },
+            FieldKind::Unknown => return None,
+        };
+        let of = self.structure(id)?;
+        Some(Shape {
+            of,
+            names: if is_group {
+                field.union_names()
+            } else {
+                of.json.union_names(None)
+            },
+            prefix,
+            is_whole: false,
+        })
     }
 }
 
@@ -324,94 +431,6 @@ fn add_name<'k>(nearest: &mut Nearest<'_, 'k>, name: Option<&'k str>) {
     if let Some(name) = name {
         nearest.add(name);
     }
-}
-
-/// Adds the names of a struct's fields, and of those that stand in the places of these under their own names.
-fn add_names<'s>(nearest: &mut Nearest<'_, 's>, schema: &'s Schema, of: &'s Structure, depth: u32) {
-    for field in &of.fields {
-        match inner_shape(schema, field, &[]) {
-            None => nearest.add(field.json_name()),
-            Some(inner) if depth > 0 && prefix_of(field).is_empty() => {
-                add_names(nearest, schema, inner.of, depth - 1)
-            }
-            Some(_) => {}
-        }
-    }
-}
-
-/// What the member of this name is among those of a shape, with structs in others' places no deeper than this.
-#[cycle(find)]
-fn find(schema: &Schema, shape: &Shape<'_>, name: &[u8], set: Option<usize>, depth: u32) -> Member {
-    if is(shape.names.tag, name) {
-        return Member::Tag;
-    }
-    if is(shape.names.value, name) {
-        return match set {
-            Some(index) => Member::Field(index),
-            None => Member::Unset,
-        };
-    }
-    let mut found = Member::Unknown;
-    for (index, field) in shape.of.fields.iter().enumerate() {
-        let is_unset = field.is_member() && set != Some(index);
-        if field.json.prefix.is_some() {
-            if depth > 0 && has_inner(schema, field, name, depth - 1) {
-                found = if is_unset {
-                    Member::Unset
-                } else {
-                    Member::Inner(index)
-                };
-            }
-        } else if field.json_name().as_bytes() == name
-            && !(field.is_member() && shape.names.value.is_some())
-        {
-            return Member::Field(index);
-        }
-        if let Member::Inner(_) = found {
-            break;
-        }
-    }
-    found
-}
-
-/// Whether the member of this name is one of a struct or a group that stands in its place.
-#[cycle(find)]
-fn has_inner(schema: &Schema, field: &StructField, name: &[u8], depth: u32) -> bool {
-    let Some(own) = name.strip_prefix(prefix_of(field)) else {
-        return false;
-    };
-    match inner_shape(schema, field, &[]) {
-        Some(inner) => !matches!(find(schema, &inner, own, None, depth), Member::Unknown),
-        None => false,
-    }
-}
-
-/// The shape of the struct or the group whose fields stand in its place, if a field is one.
-fn inner_shape<'f>(
-    schema: &'f Schema,
-    field: &'f StructField,
-    prefix: &'f [u8],
-) -> Option<Shape<'f>> {
-    let _ = field.json.prefix.as_ref()?;
-    let (id, is_group) = match &field.kind {
-        FieldKind::Group(id) => (*id, true),
-        FieldKind::Slot(slot) => match slot.of.of {
-            Base::Struct(id) => (id, false),
-            _ => return None,
-        },
-        FieldKind::Unknown => return None,
-    };
-    let of = schema.find(id)?.structure()?;
-    Some(Shape {
-        of,
-        names: if is_group {
-            field.union_names()
-        } else {
-            of.json.union_names(None)
-        },
-        prefix,
-        is_whole: false,
-    })
 }
 
 /// What the names of a field's own fields begin with.

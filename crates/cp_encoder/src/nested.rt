@@ -11,7 +11,7 @@ use cp_schema::{Base, DataForm, FieldKind, Slot, StructField, Structure, Type, U
 impl<'s, 't> Reader<'s, 't> {
     /// A struct.
     #[cycle(value)]
-    pub(crate) fn body(&mut self, of: &Structure, room: Room) -> Fields {
+    pub(crate) fn body(&mut self, of: &'s Structure, room: Room) -> Fields {
         let mut fields = self.no_fields(of);
         self.fields(of, of.json.union_names(None), &mut fields, room);
         fields
@@ -40,7 +40,7 @@ impl<'s, 't> Reader<'s, 't> {
         if of.lists > 0 {
             let element = Type {
                 lists: of.lists.saturating_sub(1),
-                of: of.of,
+                ..of
             };
             return self.list(element, inner);
         }
@@ -65,7 +65,7 @@ impl<'s, 't> Reader<'s, 't> {
 
     /// The fields of a struct or a group, whose union has these names in JSON.
     #[cycle(value)]
-    fn fields(&mut self, of: &Structure, names: UnionNames<'_>, into: &mut Fields, room: Room) {
+    fn fields(&mut self, of: &'s Structure, names: UnionNames<'s>, into: &mut Fields, room: Room) {
         if self.is_json {
             self.object(of, names, into, room);
             return;
@@ -82,7 +82,7 @@ impl<'s, 't> Reader<'s, 't> {
 
     /// A field: its name, and its value.
     #[cycle(value)]
-    fn field(&mut self, of: &Structure, given: &mut Given, into: &mut Fields, room: Room) {
+    fn field(&mut self, of: &'s Structure, given: &mut Given, into: &mut Fields, room: Room) {
         let Some(field) = self.named(of, given) else {
             return;
         };
@@ -95,17 +95,19 @@ impl<'s, 't> Reader<'s, 't> {
 
     /// The value of a field.
     #[cycle(value)]
-    pub(crate) fn content(&mut self, field: &StructField, into: &mut Fields, room: Room) {
-        match &field.kind {
+    pub(crate) fn content(&mut self, field: &'s StructField, into: &mut Fields, room: Room) {
+        let (kind, entered) = self.generics.enter(field);
+        match &kind {
             FieldKind::Slot(slot) => self.slot(slot, into, room),
             FieldKind::Group(id) => self.group(*id, field.union_names(), into, room),
             FieldKind::Unknown => self.miss("a field of a kind that is known"),
         }
+        self.generics.leave(entered);
     }
 
     /// The fields of the group of this node, whose union has these names in JSON.
     #[cycle(value)]
-    fn group(&mut self, id: u64, names: UnionNames<'_>, into: &mut Fields, room: Room) {
+    fn group(&mut self, id: u64, names: UnionNames<'s>, into: &mut Fields, room: Room) {
         match (self.structure(id), room.in_group()) {
             (Some(of), Some(inner)) => self.fields(of, names, into, inner),
             _ => self.miss("a group that the schema has"),
@@ -131,7 +133,7 @@ impl<'s, 't> Reader<'s, 't> {
         if !self.is_next(b'[') {
             self.miss_type(Type {
                 lists: element.lists.saturating_add(1),
-                of: element.of,
+                ..element
             });
             return TextValue::Null;
         }

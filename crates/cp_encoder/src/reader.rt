@@ -4,7 +4,7 @@ use crate::fault::{EncodeFault, NotationFault};
 use crate::json::after_json_blanks;
 use crate::naming::put_type;
 use crate::token::{Token, after_blanks, first_json_token, first_token};
-use cp_schema::{Schema, Structure, Type};
+use cp_schema::{Generics, Schema, Structure, Type};
 use std::alloc::{AllocError, Global};
 
 /// How many bytes of a token a fault shows at most.
@@ -15,6 +15,8 @@ const SHOWN: usize = 40;
 pub(crate) struct Reader<'s, 't> {
     pub(crate) alloc: Global,
     pub(crate) schema: &'s Schema,
+    /// What the parameters of generics stand for in the structs that are read.
+    pub(crate) generics: Generics<'s>,
     pub(crate) is_json: bool,
     text: &'t [u8],
     /// The token that is next.
@@ -40,6 +42,7 @@ impl<'s, 't> Reader<'s, 't> {
         let mut reader = Reader {
             alloc,
             schema,
+            generics: Generics::new(alloc),
             is_json,
             text,
             token: Token::End,
@@ -57,9 +60,13 @@ impl<'s, 't> Reader<'s, 't> {
         if !matches!(self.token, Token::End) {
             self.miss("the end");
         }
+        if self.generics.is_starved() {
+            self.starve();
+        }
         let Reader {
             alloc,
             schema: _,
+            generics: _,
             is_json: _,
             text: _,
             token: _,

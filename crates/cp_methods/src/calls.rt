@@ -275,7 +275,8 @@ impl<'s> CallReader<'s> {
 
     /// By what the params of a method are read.
     fn encoder(&self, number: MethodNumber) -> Option<Encoder<'s>> {
-        Encoder::by_number(self.schema, method_at(self.schema, number)?.params)
+        let method = method_at(self.schema, number)?;
+        Encoder::by_number(self.schema, method.params, &method.params_brand)
     }
 
     /// A name where an interface is wanted.

@@ -33,7 +33,7 @@ pub fn call_line(
     params: View<'_>,
 ) -> Result<Option<String>, DecodeFault> {
     match Named::find(schema, number) {
-        Some(named) => named.line(alloc, plain, " i=", named.method.params, params),
+        Some(named) => named.line(alloc, plain, " i=", named.params(), params),
         None => Ok(None),
     }
 }
@@ -47,7 +47,7 @@ pub fn return_line(
     results: View<'_>,
 ) -> Result<Option<String>, DecodeFault> {
     match Named::find(schema, number) {
-        Some(named) => named.line(alloc, plain, " {", named.method.results, results),
+        Some(named) => named.line(alloc, plain, " {", named.results(), results),
         None => Ok(None),
     }
 }
@@ -64,7 +64,7 @@ pub fn results_json(
     let Some(named) = Named::find(schema, number) else {
         return Ok(None);
     };
-    let Some(decoder) = Decoder::by_number(schema, named.method.results) else {
+    let Some(decoder) = named.results() else {
         return Ok(None);
     };
     let decoder = decoder.written_as(Notation::Json { is_pretty });
@@ -95,16 +95,26 @@ impl<'s> Named<'s> {
         }
     }
 
-    /// The line `plain` up to `mark`, the names, the content by the struct of this number, and the capabilities of `plain`.
+    /// By what its params are shown, if the schema has their struct.
+    fn params(&self) -> Option<Decoder<'s>> {
+        Decoder::by_number(self.schema, self.method.params, &self.method.params_brand)
+    }
+
+    /// By what its results are shown, if the schema has their struct.
+    fn results(&self) -> Option<Decoder<'s>> {
+        Decoder::by_number(self.schema, self.method.results, &self.method.results_brand)
+    }
+
+    /// The line `plain` up to `mark`, the names, the content, and the capabilities of `plain`.
     fn line(
         &self,
         alloc: Global,
         plain: &str,
         mark: &str,
-        structure: u64,
+        decoder: Option<Decoder<'s>>,
         content: View<'_>,
     ) -> Result<Option<String>, DecodeFault> {
-        let Some(decoder) = Decoder::by_number(self.schema, structure) else {
+        let Some(decoder) = decoder else {
             return Ok(None);
         };
         let mut line = decoder.line_after(alloc, String::new(alloc));

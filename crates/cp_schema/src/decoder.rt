@@ -1,6 +1,7 @@
 //! Structs, lists and values, as the reference prints them.
 
 use crate::annotation::{DataForm, UnionNames};
+use crate::brand::Brand;
 use crate::field::{FieldKind, Slot, StructField};
 use crate::kind::{Base, Type};
 use crate::line::Line;
@@ -17,11 +18,12 @@ use std::{fmt, mem};
 /// The deepest that structs and lists may lie within one another, and groups too.
 const DEEPEST: u32 = 4_096;
 
-/// By what messages are shown: a schema, the struct that each message is, and the notation.
+/// By what messages are shown: a schema, the struct that each message is with what its type binds, and the notation.
 #[derive(Clone, Copy)]
 pub struct Decoder<'s> {
     schema: &'s Schema,
     of: &'s Structure,
+    brand: Option<&'s Brand>,
     notation: Notation,
 }
 
@@ -59,12 +61,13 @@ impl<'s> Decoder<'s> {
         None
     }
 
-    /// By the struct of this number, if a schema has it.
-    pub(crate) fn by_number(schema: &'s Schema, id: u64) -> Option<Decoder<'s>> {
-        match schema.find(id) {
-            Some(node) => Decoder::of(schema, node),
-            None => None,
-        }
+    /// By the struct of this number with this brand, if a schema has it.
+    pub(crate) fn by_number(schema: &'s Schema, id: u64, brand: &'s Brand) -> Option<Decoder<'s>> {
+        let decoder = Decoder::of(schema, schema.find(id)?)?;
+        Some(Decoder {
+            brand: Some(brand),
+            ..decoder
+        })
     }
 
     /// The same in this notation.
@@ -81,6 +84,9 @@ impl<'s> Decoder<'s> {
     pub(crate) fn put(&self, line: &mut Line<'s>, view: View<'_>) {
         match StructReader::of(PointerReader::of_view(view)) {
             Ok(at) => {
+                if let Some(brand) = self.brand {
+                    line.generics.begin(brand);
+                }
                 let first = line.open_struct();
                 fields(line, self.of, self.of.json.union_names(None), &at, DEEPEST);
                 line.close_struct(first);
@@ -95,6 +101,7 @@ impl<'s> Decoder<'s> {
             NodeKind::Struct(of) => Some(Decoder {
                 schema,
                 of,
+                brand: None,
                 notation: Notation::Text,
             }),
             _ => None,
@@ -187,40 +194,57 @@ fn show_field<'s>(
     at: &StructReader<'_>,
     depth: u32,
 ) {
-    match (&field.json.prefix, &field.kind) {
+    let (kind, entered) = line.generics.enter(field);
+    match (&field.json.prefix, &kind) {
         (Some(prefix), _) if line.is_json() => {
             line.begin(prefix.as_str());
-            flat_fields(line, field, at, depth);
+            flat_fields(line, field, &kind, at, depth);
             line.end();
         }
         (_, FieldKind::Group(id)) => {
             line.field(name);
             node(line, *id, Some(field.union_names()), at, depth);
         }
-        (_, FieldKind::Slot(slot)) => {
-            let is_null = is_pointer(slot.of) && at.pointer(slot.place).is_null();
-            // As the reference does, which shows all but the first member of a union in texts, and all of them in JSON.
-            if is_null && (!field.is_member() || field.tag == 0 && !line.is_json()) {
-                return;
-            }
-            line.field(name);
-            match &field.default {
-                SchemaValue::Text(text) if is_null => line.characters(text.as_str()),
-                SchemaValue::Data(bytes) if is_null => {
-                    line.data(&DataReader::of_slice(bytes), slot.data)
-                }
-                SchemaValue::Tree(tree) if is_null => default_value(line, slot.of, tree, depth),
-                _ => value(line, slot, at, depth),
-            }
-        }
+        (_, FieldKind::Slot(slot)) => show_slot(line, field, slot, name, at, depth),
         (_, FieldKind::Unknown) => {}
+    }
+    line.generics.leave(entered);
+}
+
+/// The same of a field that isn't a group, and lies there.
+#[cycle(show)]
+fn show_slot(
+    line: &mut Line<'_>,
+    field: &StructField,
+    slot: &Slot,
+    name: &str,
+    at: &StructReader<'_>,
+    depth: u32,
+) {
+    let is_null = is_pointer(slot.of) && at.pointer(slot.place).is_null();
+    // As the reference does, which shows all but the first member of a union in texts, and all of them in JSON.
+    if is_null && (!field.is_member() || field.tag == 0 && !line.is_json()) {
+        return;
+    }
+    line.field(name);
+    match &field.default {
+        SchemaValue::Text(text) if is_null => line.characters(text.as_str()),
+        SchemaValue::Data(bytes) if is_null => line.data(&DataReader::of_slice(bytes), slot.data),
+        SchemaValue::Tree(tree) if is_null => default_value(line, slot.of, tree, depth),
+        _ => value(line, slot, at, depth),
     }
 }
 
-/// Adds the fields of a field that stand in its place.
+/// Adds the fields of a field of this kind that stand in its place.
 #[cycle(show)]
-fn flat_fields<'s>(line: &mut Line<'s>, field: &'s StructField, at: &StructReader<'_>, depth: u32) {
-    match &field.kind {
+fn flat_fields<'s>(
+    line: &mut Line<'s>,
+    field: &'s StructField,
+    kind: &FieldKind,
+    at: &StructReader<'_>,
+    depth: u32,
+) {
+    match kind {
         FieldKind::Group(id) => node_fields(line, *id, Some(field.union_names()), at, depth),
         FieldKind::Slot(slot) if at.pointer(slot.place).is_null() && !field.is_member() => {}
         FieldKind::Slot(slot) => {
@@ -337,7 +361,7 @@ fn list(line: &mut Line<'_>, slot: &Slot, at: &StructReader<'_>, depth: u32) {
     }
     let element = only(Type {
         lists: slot.of.lists.saturating_sub(1),
-        of: slot.of.of,
+        ..slot.of
     });
     // Seen as structs, elements of another edition's list are shown too, and narrower numbers, which the reference tool refuses.
     match at.list::<StructReader<'_>>(slot.place) {

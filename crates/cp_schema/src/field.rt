@@ -1,8 +1,9 @@
 //! The fields of structs.
 
 use crate::annotation::{DataForm, JsonOptions, UnionNames};
+use crate::brand::Brand;
 use crate::fault::RequestFault;
-use crate::kind::{Base, DEEPEST, Type, type_of};
+use crate::kind::{Base, Type, type_of};
 use crate::load::{Load, text_of};
 use crate::value::{SchemaValue, bits_of, value_of};
 use cp_schema_capnp::{FieldReader, FieldSlotReader, FieldWhich};
@@ -17,6 +18,8 @@ pub struct StructField {
     /// Its number in the schema, if it isn't a group.
     pub ordinal: u16,
     pub kind: FieldKind,
+    /// What its type binds.
+    pub brand: Brand,
     pub default: SchemaValue,
     pub json: JsonOptions,
 }
@@ -91,11 +94,12 @@ fn with_default(
     json: JsonOptions,
 ) -> Result<StructField, RequestFault> {
     match named(alloc, view, &default, json.data) {
-        Ok((name, kind)) => Ok(StructField {
+        Ok((name, kind, brand)) => Ok(StructField {
             name,
             tag: view.discriminant_value(),
             ordinal: view.ordinal().explicit(),
             kind,
+            brand,
             default,
             json,
         }),
@@ -107,15 +111,30 @@ fn with_default(
     }
 }
 
-/// The name of a field with this default, and what it is.
+/// The name of a field with this default, what it is, and what its type binds.
 fn named(
     alloc: Global,
     view: &FieldReader<'_>,
     default: &SchemaValue,
     data: DataForm,
-) -> Result<(String, FieldKind), RequestFault> {
+) -> Result<(String, FieldKind, Brand), RequestFault> {
     let kind = kind_of(view, default, data)?;
-    Ok((text_of(alloc, view.name())?, kind))
+    let brand = brand_of(alloc, view)?;
+    match text_of(alloc, view.name()) {
+        Ok(name) => Ok((name, kind, brand)),
+        Err(fault) => {
+            drop(brand);
+            Err(fault)
+        }
+    }
+}
+
+/// What the type of a field binds.
+fn brand_of(alloc: Global, view: &FieldReader<'_>) -> Result<Brand, RequestFault> {
+    match view.which() {
+        FieldWhich::Slot => Brand::of_type(alloc, &view.slot().type_()?),
+        _ => Ok(Brand::none()),
+    }
 }
 
 /// The default of a field.
@@ -145,7 +164,7 @@ fn slot_of(
     default: &SchemaValue,
     data: DataForm,
 ) -> Result<FieldKind, RequestFault> {
-    let of = type_of(&view.type_()?, DEEPEST)?;
+    let of = type_of(&view.type_()?)?;
     Ok(FieldKind::Slot(Slot {
         place: view.offset(),
         of,

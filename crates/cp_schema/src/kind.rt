@@ -1,16 +1,25 @@
 //! The types of fields, constants and elements.
 
 use crate::fault::RequestFault;
-use cp_schema_capnp::{TypeReader, TypeWhich};
+use cp_schema_capnp::{TypeAnyPointerWhich, TypeReader, TypeWhich};
 
 /// The deepest that lists may lie within one another.
-pub(crate) const DEEPEST: u32 = 16;
+const DEEPEST: u32 = 16;
 
 /// A type: lists of lists, as many as `lists` says, of elements of the type `of`.
 #[derive(Clone, Copy)]
 pub struct Type {
     pub lists: u32,
     pub of: Base,
+    /// The parameter of a generic that it is. Bound to nothing, that is a pointer of any kind, as `of` says.
+    pub parameter: Option<Parameter>,
+}
+
+/// A parameter of a generic, by the node of that and by its number there.
+#[derive(Clone, Copy)]
+pub struct Parameter {
+    pub scope: u64,
+    pub index: u16,
 }
 
 /// A type that isn't one of lists. Numbers have their widths in bits, named types their nodes.
@@ -29,23 +38,55 @@ pub enum Base {
     AnyPointer,
 }
 
-/// A type, with lists no deeper than this.
-pub(crate) fn type_of(view: &TypeReader<'_>, deepest: u32) -> Result<Type, RequestFault> {
+/// A type.
+pub(crate) fn type_of(view: &TypeReader<'_>) -> Result<Type, RequestFault> {
+    let (lists, inner) = innermost(view)?;
+    Ok(Type {
+        lists,
+        of: base_of(&inner, inner.which()),
+        parameter: parameter_of(&inner),
+    })
+}
+
+/// As how many lists of lists a type is, and of what.
+pub(crate) fn innermost<'n>(view: &TypeReader<'n>) -> Result<(u32, TypeReader<'n>), RequestFault> {
+    inside(view, DEEPEST)
+}
+
+/// The same of lists no deeper than this.
+fn inside<'n>(view: &TypeReader<'n>, deepest: u32) -> Result<(u32, TypeReader<'n>), RequestFault> {
     if deepest == 0 {
         return Err(RequestFault::TooDeep);
     }
     match view.which() {
         TypeWhich::List => {
-            let inner = type_of(&view.list().element_type()?, deepest - 1)?;
-            Ok(Type {
-                lists: inner.lists.saturating_add(1),
-                of: inner.of,
+            let (lists, inner) = inside(&view.list().element_type()?, deepest - 1)?;
+            Ok((lists.saturating_add(1), inner))
+        }
+        _ => Ok((
+            0,
+            TypeReader {
+                body: view.body.reborrow(),
+            },
+        )),
+    }
+}
+
+/// The parameter of a generic that a type is.
+fn parameter_of(view: &TypeReader<'_>) -> Option<Parameter> {
+    if view.which() != TypeWhich::AnyPointer {
+        return None;
+    }
+    let any = view.any_pointer();
+    match any.which() {
+        TypeAnyPointerWhich::Parameter => {
+            let parameter = any.parameter();
+            Some(Parameter {
+                scope: parameter.scope_id(),
+                index: parameter.parameter_index(),
             })
         }
-        which => Ok(Type {
-            lists: 0,
-            of: base_of(view, which),
-        }),
+        _ => None,
     }
 }
 

@@ -2,6 +2,7 @@
 #![tactic(auto)]
 
 mod annotation;
+mod brand;
 mod call;
 mod decoder;
 mod fault;
@@ -15,11 +16,12 @@ mod number;
 mod value;
 
 pub use annotation::{DataForm, JsonOptions, UnionNames};
+pub use brand::{Brand, Entered, Generics};
 pub use call::{MethodNumber, call_line, json_string, results_json, return_line};
 pub use decoder::{DecodeFault, Decoder, push_message};
 pub use fault::RequestFault;
 pub use field::{FieldKind, Slot, StructField};
-pub use kind::{Base, Type};
+pub use kind::{Base, Parameter, Type};
 pub use node::{
     Comments, ConstNode, Enumerant, File, Interface, Method, Node, NodeKind, Schema, Structure,
 };

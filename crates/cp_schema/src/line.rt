@@ -1,6 +1,7 @@
 //! A message as text, as it is put together.
 
 use crate::annotation::DataForm;
+use crate::brand::Generics;
 use crate::decoder::DecodeFault;
 use crate::node::{Enumerant, Schema};
 use crate::notation::Notation;
@@ -15,6 +16,8 @@ use std::mem;
 pub(crate) struct Line<'s> {
     pub(crate) alloc: Global,
     pub(crate) schema: &'s Schema,
+    /// What the parameters of generics stand for in the open structs.
+    pub(crate) generics: Generics<'s>,
     notation: Notation,
     pub(crate) text: String,
     /// Whether a bracket was opened last.
@@ -46,6 +49,7 @@ impl<'s> Line<'s> {
         Line {
             alloc,
             schema,
+            generics: Generics::new(alloc),
             notation,
             text,
             opened: true,
@@ -63,7 +67,7 @@ impl<'s> Line<'s> {
     /// The text with its line feed, if it is right.
     pub(crate) fn done(mut self) -> Result<String, DecodeFault> {
         self.push('\n');
-        if self.is_full {
+        if self.is_full || self.generics.is_starved() {
             return Err(DecodeFault::OutOfMemory);
         }
         if self.is_deep {

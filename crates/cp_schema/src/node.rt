@@ -1,9 +1,10 @@
 //! The nodes of a request: its files, structs, enums, interfaces and constants.
 
 use crate::annotation::JsonOptions;
+use crate::brand::Brand;
 use crate::fault::RequestFault;
 use crate::field::StructField;
-use crate::kind::{DEEPEST, Type, type_of};
+use crate::kind::{Type, type_of};
 use crate::load::{Load, load_all, text_of};
 use crate::value::{SchemaValue, value_of};
 use cp_fields::PointerReader;
@@ -127,6 +128,9 @@ pub struct Method {
     pub name: String,
     pub params: u64,
     pub results: u64,
+    /// What the types of its params and results bind.
+    pub params_brand: Brand,
+    pub results_brand: Brand,
 }
 
 /// A constant.
@@ -307,7 +311,7 @@ fn methods_of(alloc: Global, view: &NodeInterfaceReader<'_>) -> Result<Vec<Metho
 
 /// A constant.
 fn constant_of(alloc: Global, view: &NodeConstReader<'_>) -> Result<NodeKind, RequestFault> {
-    let of = type_of(&view.type_()?, DEEPEST)?;
+    let of = type_of(&view.type_()?)?;
     Ok(NodeKind::Const(ConstNode {
         of,
         value: value_of(alloc, &view.value()?)?,
@@ -350,12 +354,39 @@ impl<'n> Load<SuperclassReader<'n>> for u64 {
 
 impl<'n> Load<MethodReader<'n>> for Method {
     fn load(alloc: Global, view: &MethodReader<'n>) -> Result<Method, RequestFault> {
-        Ok(Method {
-            name: text_of(alloc, view.name())?,
-            params: view.param_struct_type(),
-            results: view.result_struct_type(),
-        })
+        let (params_brand, results_brand) = brands_of(alloc, view)?;
+        match text_of(alloc, view.name()) {
+            Ok(name) => Ok(Method {
+                name,
+                params: view.param_struct_type(),
+                results: view.result_struct_type(),
+                params_brand,
+                results_brand,
+            }),
+            Err(fault) => {
+                drop(params_brand);
+                drop(results_brand);
+                Err(fault)
+            }
+        }
     }
+}
+
+/// What the types of a method's params and results bind.
+fn brands_of(alloc: Global, view: &MethodReader<'_>) -> Result<(Brand, Brand), RequestFault> {
+    let params = Brand::load(alloc, &view.param_brand()?)?;
+    match results_brand_of(alloc, view) {
+        Ok(results) => Ok((params, results)),
+        Err(fault) => {
+            drop(params);
+            Err(fault)
+        }
+    }
+}
+
+/// What the type of a method's results binds.
+fn results_brand_of(alloc: Global, view: &MethodReader<'_>) -> Result<Brand, RequestFault> {
+    Brand::load(alloc, &view.result_brand()?)
 }
 
 impl<'n> Load<CodeGeneratorRequestRequestedFileReader<'n>> for File {

@@ -1,3 +1,5 @@
+pub mod BrandBinding
+pub mod BrandScope
 pub mod Field
 pub mod Node
 pub mod Type_

@@ -1,5 +1,7 @@
 -- The enums and unions of `type_` of schema.capnp.
 use Rattle.std.specs.Prelude.{ℕ, ◌==◌, if◌then◌else◌}
+use Rattle.cp_schema_capnp.specs.declared.type_.TypeAnyPointerWhich.TheVariants as type_any_pointer_whichs
+use Rattle.cp_schema_capnp.specs.declared.type_.TypeAnyPointerWhich.{TypeAnyPointerWhich}
 use Rattle.cp_schema_capnp.specs.declared.type_.TypeWhich.TheVariants as type_whichs
 use Rattle.cp_schema_capnp.specs.declared.type_.TypeWhich.{TypeWhich}
 
@@ -26,3 +28,11 @@ type_which_of n =
     (if n == 17 then type_whichs.Interface else
     (if n == 18 then type_whichs.AnyPointer else
     type_whichs.Unknown n))))))))))))))))))
+
+-- the value of a number
+abbrev pub type_any_pointer_which_of : ℕ → TypeAnyPointerWhich
+type_any_pointer_which_of n =
+    if n == 0 then type_any_pointer_whichs.Unconstrained else
+    (if n == 1 then type_any_pointer_whichs.Parameter else
+    (if n == 2 then type_any_pointer_whichs.ImplicitMethodParameter else
+    type_any_pointer_whichs.Unknown n))

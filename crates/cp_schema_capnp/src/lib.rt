@@ -2,6 +2,9 @@
 #![tactic(auto)]
 
 mod annotation;
+mod brand;
+mod brand_binding;
+mod brand_scope;
 mod code_generator_request;
 mod code_generator_request_requested_file;
 mod code_generator_request_requested_file_import;
@@ -16,6 +19,9 @@ mod type_;
 mod value;
 
 pub use annotation::AnnotationReader;
+pub use brand::BrandReader;
+pub use brand_binding::{BrandBindingReader, BrandBindingWhich};
+pub use brand_scope::{BrandScopeReader, BrandScopeWhich};
 pub use code_generator_request::CodeGeneratorRequestReader;
 pub use code_generator_request_requested_file::CodeGeneratorRequestRequestedFileReader;
 pub use code_generator_request_requested_file_import::CodeGeneratorRequestRequestedFileImportReader;
@@ -32,6 +38,7 @@ pub use node_source_info::NodeSourceInfoReader;
 pub use node_source_info_member::NodeSourceInfoMemberReader;
 pub use superclass::SuperclassReader;
 pub use type_::{
-    TypeEnumReader, TypeInterfaceReader, TypeListReader, TypeReader, TypeStructReader, TypeWhich,
+    TypeAnyPointerParameterReader, TypeAnyPointerReader, TypeAnyPointerWhich, TypeEnumReader,
+    TypeInterfaceReader, TypeListReader, TypeReader, TypeStructReader, TypeWhich,
 };
 pub use value::{ValueReader, ValueWhich};

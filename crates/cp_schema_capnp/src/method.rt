@@ -4,8 +4,9 @@ ghost use Rattle.std.specs.Prelude.{◌≡◌, []};
 ghost use Rattle.cp_words.specs.declared.pointer.ElementSize.TheVariants as sizes;
 ghost use Rattle.cp_tree.specs.Seen.{pointee_of};
 ghost use Rattle.cp_fields.specs.Numbers.{plain};
-ghost use Rattle.cp_fields.specs.Pointers.{text_field};
+ghost use Rattle.cp_fields.specs.Pointers.{Reads, struct_field, text_field};
 
+use crate::brand::BrandReader;
 use cp_fields::{Element, StructReader, TextReader, WrongKind};
 
 /// Schema for method of an interface.
@@ -57,5 +58,23 @@ impl<'a> MethodReader<'a> {
         ensures { result ≡ plain self.now.body 64 2 }
     {
         self.body.u64(2)
+    }
+
+    /// Brand of param struct type.
+    pub fn param_brand(&self) -> Result<BrandReader<'a>, WrongKind>
+        ensures { Reads result (λ x. x.body) (struct_field (pointee_of self.now.body 2)) }
+    {
+        Ok(BrandReader {
+            body: self.body.structure(2)?,
+        })
+    }
+
+    /// Brand of result struct type.
+    pub fn result_brand(&self) -> Result<BrandReader<'a>, WrongKind>
+        ensures { Reads result (λ x. x.body) (struct_field (pointee_of self.now.body 3)) }
+    {
+        Ok(BrandReader {
+            body: self.body.structure(3)?,
+        })
     }
 }

@@ -5,9 +5,10 @@ ghost use Rattle.cp_words.specs.declared.pointer.ElementSize.TheVariants as size
 ghost use Rattle.cp_tree.specs.Seen.{pointee_of};
 ghost use Rattle.cp_fields.specs.Numbers.{plain};
 ghost use Rattle.cp_fields.specs.Pointers.{Reads, struct_field};
-ghost use Rattle.cp_schema_capnp.specs.Type_.{type_which_of};
+ghost use Rattle.cp_schema_capnp.specs.Type_.{type_which_of, type_any_pointer_which_of};
 
-use cp_fields::{Element, StructReader, UnknownEnumerant, WrongKind};
+use crate::brand::BrandReader;
+use cp_fields::{Element, PointerReader, StructReader, UnknownEnumerant, WrongKind};
 
 /// Represents a type expression.
 #[derive(Drop)]
@@ -72,6 +73,15 @@ impl<'a> TypeReader<'a> {
         ensures { result.body ≡ self.now.body }
     {
         TypeInterfaceReader {
+            body: self.body.reborrow(),
+        }
+    }
+
+    /// Group `anyPointer`.
+    pub fn any_pointer(&self) -> TypeAnyPointerReader<'a>
+        ensures { result.body ≡ self.now.body }
+    {
+        TypeAnyPointerReader {
             body: self.body.reborrow(),
         }
     }
@@ -184,6 +194,15 @@ impl<'a> TypeStructReader<'a> {
     {
         self.body.u64(1)
     }
+
+    /// `brand @22`.
+    pub fn brand(&self) -> Result<BrandReader<'a>, WrongKind>
+        ensures { Reads result (λ x. x.body) (struct_field (pointee_of self.now.body 0)) }
+    {
+        Ok(BrandReader {
+            body: self.body.structure(0)?,
+        })
+    }
 }
 
 /// `group Type.interface`.
@@ -199,5 +218,81 @@ impl<'a> TypeInterfaceReader<'a> {
         ensures { result ≡ plain self.now.body 64 1 }
     {
         self.body.u64(1)
+    }
+}
+
+/// This is actually a reference to a type parameter defined within this scope.
+#[derive(Drop)]
+pub struct TypeAnyPointerParameterReader<'a> {
+    /// The struct, by the places of its fields.
+    pub body: StructReader<'a>,
+}
+
+impl<'a> TypeAnyPointerParameterReader<'a> {
+    /// ID of the generic type whose parameter we're referencing. This should be a parent of the
+    /// current scope.
+    pub fn scope_id(&self) -> u64
+        ensures { result ≡ plain self.now.body 64 2 }
+    {
+        self.body.u64(2)
+    }
+
+    /// Index of the parameter within the generic type's parameter list.
+    pub fn parameter_index(&self) -> u16
+        ensures { result ≡ plain self.now.body 16 5 }
+    {
+        self.body.u16(5)
+    }
+}
+
+/// `group Type.anyPointer`.
+#[derive(Drop)]
+pub struct TypeAnyPointerReader<'a> {
+    /// The struct, by the places of its fields.
+    pub body: StructReader<'a>,
+}
+
+impl<'a> TypeAnyPointerReader<'a> {
+    /// Which member of the union is set.
+    pub fn which(&self) -> TypeAnyPointerWhich
+        ensures { result ≡ type_any_pointer_which_of (plain self.now.body 16 4) }
+    {
+        TypeAnyPointerWhich::of(self.body.u16(4))
+    }
+
+    /// This is actually a reference to a type parameter defined within this scope.
+    pub fn parameter(&self) -> TypeAnyPointerParameterReader<'a>
+        ensures { result.body ≡ self.now.body }
+    {
+        TypeAnyPointerParameterReader {
+            body: self.body.reborrow(),
+        }
+    }
+}
+
+/// The members of the union of `Type.anyPointer`.
+#[derive(Clone, Copy, PartialEq, Eq)]
+pub enum TypeAnyPointerWhich {
+    Unconstrained,
+    Parameter,
+    ImplicitMethodParameter,
+    /// A number that a newer schema has.
+    Unknown(UnknownEnumerant<2>),
+}
+
+impl TypeAnyPointerWhich {
+    /// The value of this number.
+    pub fn of(number: u16) -> TypeAnyPointerWhich
+        ensures { result ≡ type_any_pointer_which_of number }
+    {
+        match number {
+            0 => TypeAnyPointerWhich::Unconstrained,
+            1 => TypeAnyPointerWhich::Parameter,
+            2 => TypeAnyPointerWhich::ImplicitMethodParameter,
+            _ => match UnknownEnumerant::new(number) {
+                Some(number) => TypeAnyPointerWhich::Unknown(number),
+                None => unreachable!(),
+            },
+        }
     }
 }

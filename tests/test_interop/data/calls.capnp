@@ -54,3 +54,12 @@ struct Place {
 }
 
 const limit :Int32 = -3;
+
+interface Exchange {
+  swap @0 Couple(Text, List(UInt8)) -> Couple(List(UInt8), Text);
+}
+
+struct Couple(A, B) {
+  left @0 :A;
+  right @1 :B;
+}

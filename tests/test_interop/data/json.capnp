@@ -97,3 +97,24 @@ struct Herd $Json.discriminator(name = "kind") {
     fish @5 :Void;
   }
 }
+
+struct Holder(T) {
+  held @0 :T $Json.flatten(prefix = "in_");
+  pair @1 :Pair(T, Data);
+  union {
+    pairs @2 :List(Pair(Text, Data)) = [(left = "l", right = "r")];
+    other @3 :T;
+    wide @4 :Pair(List(UInt64), Data);
+  }
+
+  struct Pair(A, B) {
+    left @0 :A;
+    right @1 :B $Json.hex;
+    both :group { held @2 :T; more @3 :Pair(A, B); }
+  }
+}
+
+struct Holders {
+  inner @0 :Holder(Inner);
+  outer @1 :Holder(Holder(Inner));
+}

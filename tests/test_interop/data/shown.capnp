@@ -32,3 +32,12 @@ interface Cell @0xe5a1000000000002 {
   add @0 (amount :UInt64, gift :Cell) -> (value :UInt64);
   get @1 () -> (value :UInt64);
 }
+
+interface Exchange @0xe5a1000000000003 {
+  swap @0 Couple(Text, List(UInt8)) -> Couple(List(UInt8), Text);
+}
+
+struct Couple(A, B) {
+  left @0 :A;
+  right @1 :B;
+}

@@ -49,3 +49,30 @@ struct Thing {
   short @35 :Int16;
   wide @36 :Int32;
 }
+
+struct Pair(A, B) {
+  # What its fields are is told by what has it.
+
+  first @0 :A;
+  place :group {
+    second @1 :B;
+    within @2 :Within;
+  }
+  struct Within {
+    own @0 :A;
+    back @1 :Pair(B, A);
+    union { none @2 :Void; other @3 :B; }
+  }
+  pairs @3 :List(List(Pair(A, Text)));
+  any @4 :Pair;
+}
+
+struct Pairs {
+  texts @0 :Pair(Text, Data);
+  lists @1 :Pair(List(UInt8), List(List(Colour)));
+  pairs @2 :Pair(List(Pair(Text, Data)), Pair(Box, Colours));
+  within @3 :Pair(Text, Data).Within;
+  unbound @4 :Pair;
+}
+
+struct Colours { colours @0 :List(Colour) = [red]; }

@@ -29,8 +29,11 @@ decreases-value l = left l.depth 3
 abbrev pub decreases-default_value : goal.decreases-default_value
 decreases-default_value l = left l.depth 3
 
+abbrev pub decreases-show_slot : goal.decreases-show_slot
+decreases-show_slot l = left l.depth 4
+
 abbrev pub decreases-show_field : goal.decreases-show_field
-decreases-show_field l = left l.depth 4
+decreases-show_field l = left l.depth 5
 
 abbrev pub decreases-show_member : goal.decreases-show_member
-decreases-show_member l = left l.depth 5
+decreases-show_member l = left l.depth 6

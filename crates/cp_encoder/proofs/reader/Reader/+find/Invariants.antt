@@ -1,5 +1,5 @@
 use Rattle.std.proofs.Common.{◌+◌, ◌*◌}
-use Rattle.cp_encoder.proofs.members.+find.Given as goal
+use Rattle.cp_encoder.proofs.reader.Reader.+find.Given as goal
 
 abbrev pub decreases-find : goal.decreases-find
 decreases-find l = 2 * l.depth
