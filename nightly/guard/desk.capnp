@@ -18,8 +18,8 @@ interface Drawer @0xb7d1e6a2c4f80002 extends(Lamp) {
 }
 
 interface Caller @0xb7d1e6a2c4f80003 {
-  call @0 (desk :Desk) -> Found;
-  # Called by the server. It may call the desk in turn, and give what that call gives.
+  call @0 (desk :Desk, drawer :Drawer) -> Found;
+  # Called by the server, which passes a drawer of its own. It may call the desk in turn, and give what that call gives.
 }
 
 interface Desk @0xb7d1e6a2c4f80004 {

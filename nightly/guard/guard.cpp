@@ -64,6 +64,7 @@ struct DeskServer final : Desk::Server {
     allowed++;
     auto request = context.getParams().getCaller().callRequest();
     request.setDesk(thisCap());
+    request.setDrawer(kj::heap<DrawerServer>(9));
     return request.send().then([context](auto&& results) mutable { context.getResults().setDrawer(results.getDrawer()); });
   }
   kj::Promise<void> echo(EchoContext context) override {
@@ -105,7 +106,11 @@ struct OwnCaller final : Caller::Server {
       auto request = desk.openRequest();
       request.setValue(7);
       if (tail) return context.tailCall(kj::mv(request));
-      return request.send().then([context](auto&& results) mutable { context.getResults().setDrawer(results.getDrawer()); });
+      // What the server passes to an object that `ask` was given has come by `ask`, so it may be looked at.
+      return context.getParams().getDrawer().lookRequest().send().then([context, request = kj::mv(request)](auto&& results) mutable {
+        KJ_REQUIRE(results.getValue() == 9);
+        return request.send();
+      }).then([context](auto&& results) mutable { context.getResults().setDrawer(results.getDrawer()); });
     }
     auto request = desk.destroyRequest();
     request.initDrawers(0);

@@ -1,7 +1,8 @@
 #!/usr/bin/env bash
 # run.sh COMMAND BUILD [COUNT]    COUNT random sessions (10,000 by default) of the reference library's client and server through a guard with
 #                                 rules: nothing that isn't allowed comes to the server, and all else goes as it does without the guard.
-#                                 Then the same by rules on what calls gave: a drawer's methods go on what `open` and `ask` gave
+#                                 Then the same by rules on what calls gave: a drawer's methods go on what `open` and `ask` gave, or the
+#                                 server passed to an object that `ask` was given
 set -eu
 command=$1 build=$2 count=${3:-10000}
 served=17121 relayed=17122

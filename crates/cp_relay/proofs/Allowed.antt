@@ -23,9 +23,9 @@ use Rattle.cp_relay.specs.declared.ruling.Breach.{Breach}
 use Rattle.cp_relay.specs.declared.ruling.Cause.{Cause}
 use Rattle.cp_relay.specs.declared.ruling.Ruling.TheVariants as rulings
 use Rattle.cp_relay.specs.Rules.{follows}
-use Rattle.cp_relay.specs.Followed.{Followed}
+use Rattle.cp_relay.specs.Followed.{Followed, followed_from}
 use Rattle.cp_relay.specs.State.{Refused, may_go, is_broken, without_broken, target_cause, descriptor_cause, limit_cause}
-use Rattle.cp_relay.specs.Judged.{most_unfinished, refused_so, call_judged, bootstrap_judged, finish_judged, returned_judged, resolution_judged, target_judged, Judgement, ruled, followed_from, goes as lets, keeping_of}
+use Rattle.cp_relay.specs.Judged.{most_unfinished, refused_so, call_judged, bootstrap_judged, finish_judged, returned_judged, resolution_judged, target_judged, Judgement, ruled, goes as lets, keeping_of}
 use Rattle.cp_relay.specs.Allowed.{Goes, IsAllowed, IsAllowedReturn, IsAllowedResolution, OnlyAllowed, AllowedPass}
 use Rattle.cp_relay.proofs.Kept.{ruled_from_refs}
 

@@ -1,15 +1,17 @@
 -- What becomes of a message where rules are on what calls gave, beside what becomes of it by the questions that were refused.
-use Rattle.std.proofs.Common.{◌≡◌, ◌⊎◌, inl, inr, ℕ, Bool, true, false, ◌&&◌, ◌==◌, nat_lt, List, length, Option, Some, None, refl, sym, ◌∙◌, ap, true≢false}
+use Rattle.std.proofs.Common.{◌≡◌, ◌⊎◌, inl, inr, ℕ, Bool, true, false, ◌&&◌, ◌==◌, nat_lt, List, [], length, Option, Some, None, refl, sym, ◌∙◌, ap, true≢false}
 use Rattle.std.proofs.lemmas.Option.{none-some}
 use Rattle.std.specs.FinMap.{get}
 use Rattle.cp_messages.specs.declared.call.Call.{Call}
 use Rattle.cp_messages.specs.declared.message.Message.{Message}
 use Rattle.cp_messages.specs.declared.message.Message.TheVariants as messages
 use Rattle.cp_relay.specs.declared.rules.Rules.{Rules}
+use Rattle.cp_relay.specs.declared.rules.Grant.{Grant}
 use Rattle.cp_messages.specs.declared.returned.Return.{Return}
 use Rattle.cp_relay.specs.declared.references.QuestionStage.{QuestionStage}
 use Rattle.cp_relay.specs.declared.references.QuestionStage.TheVariants as stages
 use Rattle.cp_relay.specs.declared.references.Question.{Question}
+use Rattle.cp_relay.specs.declared.references.Side.{Side}
 use Rattle.cp_relay.specs.declared.references.References.{References}
 use Rattle.cp_relay.specs.declared.state.GuardState.{GuardState}
 use Rattle.cp_relay.specs.declared.ruling.Cause.{Cause}
@@ -18,9 +20,9 @@ use Rattle.cp_relay.specs.declared.ruling.Ruling.{Ruling}
 use Rattle.cp_relay.specs.declared.ruling.Ruling.TheVariants as rulings
 use Rattle.cp_relay.specs.Rules.{follows}
 use Rattle.cp_relay.specs.References.{marks_of, has_room, hosted_numbers, returned_numbers, resolved_number}
-use Rattle.cp_relay.specs.Followed.{Followed, asked_by, gained, followed, results_followed, then_closed, return_at, return_by, params_followed, call_by, resolve_by, followed_back}
+use Rattle.cp_relay.specs.Followed.{Between, Followed, asked_by, gained, followed, results_followed, then_closed, return_at, return_by, return_followed, then_answered, resolve_by, followed_from}
 use Rattle.cp_relay.specs.State.{may_reach, may_go, target_cause, limit_cause}
-use Rattle.cp_relay.specs.Judged.{Judgement, most_unfinished, refused_so, asked, unless_reused, call_judged, finish_by, answered_by, ruled, ruled_back, ruled_from, goes, followed_from, keeping_of, judged_from, judged}
+use Rattle.cp_relay.specs.Judged.{Judgement, most_unfinished, refused_so, asked, unless_reused, call_judged, finish_by, answered_by, ruled, ruled_back, ruled_from, goes, keeping_of, judged_from, judged}
 
 -- the references stay in each judgement by the questions that were refused
 refused_refs : (rules : Rules) (s : GuardState) (question : ℕ) (elsewhere : Bool) (cause : Cause) (strict few : Bool) → rules.strict ≡ strict → nat_lt s.unfinished most_unfinished ≡ few → (refused_so rules s question elsewhere cause).state.references ≡ s.references
@@ -99,6 +101,21 @@ kept_after side rules s m =
       | inr go ↦ inr (go.0, go.1 ∙ ap (λ (refs : References). (followed_from side rules refs m).references) same)
     ]
 
+-- where it goes, it closes nothing
+kept_goes : (j : Judgement) (kept : Followed) (b : Bool) (breach : Option Breach) → (goes j.ruling ≡ true → b ≡ true) → kept.breach ≡ breach → goes (keeping_of b j kept).ruling ≡ true → (kept.breach ≡ None) × ((keeping_of b j kept).state.references ≡ kept.references)
+kept_goes j kept false breach all e g = absurd (true≢false (sym (all g)))
+kept_goes j kept true (Some x) all e g = absurd (true≢false (sym (rw e at g)))
+kept_goes j kept true None all e g = (e, rw e refl)
+
+pub kept_if_goes : (side : Bool) (rules : Rules) (s : GuardState) (m : Message) → follows rules ≡ true → goes (judged_from side rules s m).ruling ≡ true
+    → ((followed_from side rules s.references m).breach ≡ None) × ((judged_from side rules s m).state.references ≡ (followed_from side rules s.references m).references)
+kept_if_goes side rules s m f g =
+    let j = ruled_from side rules s m in
+    let same = ruled_from_refs side rules s m in
+    let kept = followed_from side rules j.state.references m in
+    let h = kept_goes j kept (follows rules && goes j.ruling) kept.breach (λ e. rw (f, e) refl) refl g in
+    (sym (ap (λ (refs : References). (followed_from side rules refs m).breach) same) ∙ h.0, h.1 ∙ ap (λ (refs : References). (followed_from side rules refs m).references) same)
+
 -- what goes, goes by the questions that were refused too
 goes_by : (j : Judgement) (kept : Followed) (b : Bool) (breach : Option Breach) → kept.breach ≡ breach → goes (keeping_of b j kept).ruling ≡ true → goes j.ruling ≡ true
 goes_by j kept false breach e g = g
@@ -118,7 +135,7 @@ module _ (rules : Rules) (s : GuardState) where
   call_may c None None true r m t g = (refl, refl)
 
 -- a call that goes may reach what it goes to
-pub call_reaches : (rules : Rules) (s : GuardState) (c : Call) → follows rules ≡ true → goes (judged rules s (messages.Call c)).ruling ≡ true → may_reach rules c (marks_of s.references c.target) ≡ true
+pub call_reaches : (rules : Rules) (s : GuardState) (c : Call) → follows rules ≡ true → goes (judged rules s (messages.Call c)).ruling ≡ true → may_reach rules c (marks_of s.references.callee c.target) ≡ true
 call_reaches rules s c f g =
     let j = ruled rules s (messages.Call c) in
     let kept = followed_from false rules j.state.references (messages.Call c) in
@@ -130,73 +147,61 @@ pub judged_so : (side : Bool) (rules : Rules) (s mid new : GuardState) (m : Mess
     → record { breach = None; references = new.references } ≡ followed_from side rules mid.references m → new ≡ record mid { references = new.references } → record { ruling = v; state = new } ≡ judged_from side rules s m
 judged_so side rules s mid new m v e f g k state = rw (← e, f, g, ← k, ← state) refl
 
--- where a message closes the connection, the references stay
-asked_same : (refs : References) (question marks : ℕ) (q : Option Question) (room : Bool) (b : Breach) → has_room refs 1 ≡ room → (asked_by refs question marks q).breach ≡ Some b → (asked_by refs question marks q).references ≡ refs
-asked_same refs question marks (Some q) room b r e = refl
-asked_same refs question marks None true b r e = absurd (none-some b (rw r at e))
-asked_same refs question marks None false b r e = rw r refl
+-- where a message closes the connection, what both ends gave stays
+abbrev Same : Side → Side → Between → Type 0
+Same from to b = (b.from ≡ from) × (b.to ≡ to)
 
-results_same : (refs : References) (question marks : ℕ) (numbers : List ℕ) (room : Bool) (b : Breach) → has_room refs (length numbers) ≡ room → (results_followed refs question marks numbers).breach ≡ Some b → (results_followed refs question marks numbers).references ≡ refs
-results_same refs question marks numbers true b r e = absurd (none-some b (rw r at e))
-results_same refs question marks numbers false b r e = rw r refl
+asked_same : (from to : Side) (question marks : ℕ) (numbers : List ℕ) (q : Option Question) (room : Bool) (b : Breach) → (has_room to 1 && has_room from (length numbers)) ≡ room → (asked_by from to question marks numbers q).breach ≡ Some b → Same from to (asked_by from to question marks numbers q)
+asked_same from to question marks numbers (Some q) room b r e = (refl, refl)
+asked_same from to question marks numbers None true b r e = absurd (none-some b (rw r at e))
+asked_same from to question marks numbers None false b r e = rw r (refl, refl)
 
-then_same : (refs given : References) (question : ℕ) (breach : Option Breach) (b : Breach) → ((x : Breach) → breach ≡ Some x → given ≡ refs) → (then_closed question breach given).breach ≡ Some b → (then_closed question breach given).references ≡ refs
-then_same refs given question (Some x) b h e = h x refl
-then_same refs given question None b h e = absurd (none-some b e)
+results_same : (side : Side) (question marks : ℕ) (numbers : List ℕ) (room : Bool) (b : Breach) → has_room side (length numbers) ≡ room → (results_followed side question marks numbers).breach ≡ Some b → (results_followed side question marks numbers).side ≡ side
+results_same side question marks numbers true b r e = absurd (none-some b (rw r at e))
+results_same side question marks numbers false b r e = rw r refl
 
-return_at_same : (refs : References) (r : Return) (marks : ℕ) (stage : QuestionStage) (b : Breach) → (return_at refs r marks stage).breach ≡ Some b → (return_at refs r marks stage).references ≡ refs
-return_at_same refs r marks stages.Open b e = results_same refs r.answer_id marks (returned_numbers r.returned) (has_room refs (length (returned_numbers r.returned))) b refl e
-return_at_same refs r marks stages.Finished b e =
-    let given = results_followed refs r.answer_id marks (returned_numbers r.returned) in
-    then_same refs given.references r.answer_id given.breach b (λ x is. results_same refs r.answer_id marks (returned_numbers r.returned) (has_room refs (length (returned_numbers r.returned))) x refl is) e
-return_at_same refs r marks stages.Released b e = absurd (none-some b e)
-return_at_same refs r marks stages.Returned b e = refl
+then_same : (side given : Side) (question : ℕ) (breach : Option Breach) (b : Breach) → ((x : Breach) → breach ≡ Some x → given ≡ side) → (then_closed question breach given).breach ≡ Some b → (then_closed question breach given).side ≡ side
+then_same side given question (Some x) b h e = h x refl
+then_same side given question None b h e = absurd (none-some b e)
 
-return_same : (refs : References) (r : Return) (q : Option Question) (b : Breach) → (return_by refs r q).breach ≡ Some b → (return_by refs r q).references ≡ refs
-return_same refs r (Some q) b e = return_at_same refs r q.marks q.stage b e
-return_same refs r None b e = refl
+return_at_same : (side : Side) (r : Return) (marks : ℕ) (stage : QuestionStage) (b : Breach) → (return_at side r marks stage).breach ≡ Some b → (return_at side r marks stage).side ≡ side
+return_at_same side r marks stages.Open b e = results_same side r.answer_id marks (returned_numbers r.returned) (has_room side (length (returned_numbers r.returned))) b refl e
+return_at_same side r marks stages.Finished b e =
+    let given = results_followed side r.answer_id marks (returned_numbers r.returned) in
+    then_same side given.side r.answer_id given.breach b (λ x is. results_same side r.answer_id marks (returned_numbers r.returned) (has_room side (length (returned_numbers r.returned))) x refl is) e
+return_at_same side r marks stages.Released b e = absurd (none-some b e)
+return_at_same side r marks stages.Returned b e = refl
 
-params_same : (refs : References) (call : ℕ) (numbers : List ℕ) (none room : Bool) (b : Breach) → (length numbers == 0) ≡ none → has_room refs (length numbers) ≡ room → (params_followed refs call numbers).breach ≡ Some b → (params_followed refs call numbers).references ≡ refs
-params_same refs call numbers true room b n r e = rw n refl
-params_same refs call numbers false true b n r e = absurd (none-some b (rw (n, r) at e))
-params_same refs call numbers false false b n r e = rw (n, r) refl
+return_same : (side : Side) (r : Return) (q : Option Question) (b : Breach) → (return_by side r q).breach ≡ Some b → (return_by side r q).side ≡ side
+return_same side r (Some q) b e = return_at_same side r q.marks q.stage b e
+return_same side r None b e = refl
 
-call_same : (refs : References) (call : ℕ) (numbers : List ℕ) (others : Option (List ℕ)) (b : Breach) → (call_by refs call numbers others).breach ≡ Some b → (call_by refs call numbers others).references ≡ refs
-call_same refs call numbers (Some others) b e = refl
-call_same refs call numbers None b e = params_same refs call numbers (length numbers == 0) (has_room refs (length numbers)) b refl refl e
+answered_same : (from to side : Side) (r : Return) (breach : Option Breach) (b : Breach) → ((x : Breach) → breach ≡ Some x → side ≡ from) → (then_answered r to breach side).breach ≡ Some b → Same from to (then_answered r to breach side)
+answered_same from to side r (Some x) b h e = (h x refl, refl)
+answered_same from to side r None b h e = absurd (none-some b e)
 
-resolve_same : (refs : References) (promise : ℕ) (id : Option ℕ) (room : Bool) (b : Breach) → has_room refs 1 ≡ room → (resolve_by refs promise id).breach ≡ Some b → (resolve_by refs promise id).references ≡ refs
-resolve_same refs promise None room b r e = refl
-resolve_same refs promise (Some id) true b r e = absurd (none-some b (rw r at e))
-resolve_same refs promise (Some id) false b r e = rw r refl
+resolve_same : (side : Side) (promise : ℕ) (id : Option ℕ) (room : Bool) (b : Breach) → has_room side 1 ≡ room → (resolve_by side promise id).breach ≡ Some b → (resolve_by side promise id).side ≡ side
+resolve_same side promise None room b r e = refl
+resolve_same side promise (Some id) true b r e = absurd (none-some b (rw r at e))
+resolve_same side promise (Some id) false b r e = rw r refl
 
-followed_same : (rules : Rules) (refs : References) (m : Message) (b : Breach) → (followed rules refs m).breach ≡ Some b → (followed rules refs m).references ≡ refs
-followed_same rules refs (messages.Call c) b e = asked_same refs c.question_id (gained rules refs c) (get refs.questions c.question_id) (has_room refs 1) b refl e
-followed_same rules refs (messages.Bootstrap x) b e = asked_same refs x.question_id 0 (get refs.questions x.question_id) (has_room refs 1) b refl e
-followed_same rules refs (messages.Finish f) b e = absurd (none-some b e)
-followed_same rules refs (messages.Release r) b e = absurd (none-some b e)
-followed_same rules refs (messages.Return r) b e = absurd (none-some b e)
-followed_same rules refs (messages.Unimplemented tree) b e = refl
-followed_same rules refs (messages.Abort exception) b e = refl
-followed_same rules refs (messages.Resolve r) b e = refl
-followed_same rules refs (messages.Disembargo d) b e = refl
-followed_same rules refs (messages.Other which body) b e = refl
-
-followed_back_same : (refs : References) (m : Message) (b : Breach) → (followed_back refs m).breach ≡ Some b → (followed_back refs m).references ≡ refs
-followed_back_same refs (messages.Return r) b e = return_same refs r (get refs.questions r.answer_id) b e
-followed_back_same refs (messages.Call c) b e = call_same refs c.question_id (hosted_numbers c.params.cap_table) (get refs.calls c.question_id) b e
-followed_back_same refs (messages.Resolve r) b e = resolve_same refs r.promise_id (resolved_number r.resolution) (has_room refs 1) b refl e
-followed_back_same refs (messages.Finish f) b e = refl
-followed_back_same refs (messages.Release r) b e = refl
-followed_back_same refs (messages.Bootstrap x) b e = refl
-followed_back_same refs (messages.Unimplemented tree) b e = refl
-followed_back_same refs (messages.Abort exception) b e = refl
-followed_back_same refs (messages.Disembargo d) b e = refl
-followed_back_same refs (messages.Other which body) b e = refl
+followed_same : (grants : List Grant) (from to : Side) (m : Message) (b : Breach) → (followed grants from to m).breach ≡ Some b → Same from to (followed grants from to m)
+followed_same grants from to (messages.Call c) b e = asked_same from to c.question_id (gained grants to c) (hosted_numbers c.params.cap_table) (get to.questions c.question_id) _ b refl e
+followed_same grants from to (messages.Bootstrap x) b e = asked_same from to x.question_id 0 [] (get to.questions x.question_id) _ b refl e
+followed_same grants from to (messages.Finish f) b e = absurd (none-some b e)
+followed_same grants from to (messages.Release r) b e = absurd (none-some b e)
+followed_same grants from to (messages.Return r) b e =
+    let sent = return_followed from r in
+    answered_same from to sent.side r sent.breach b (λ x is. return_same from r (get from.questions r.answer_id) x is) e
+followed_same grants from to (messages.Resolve r) b e = (resolve_same from r.promise_id (resolved_number r.resolution) (has_room from 1) b refl e, refl)
+followed_same grants from to (messages.Unimplemented tree) b e = (refl, refl)
+followed_same grants from to (messages.Abort exception) b e = (refl, refl)
+followed_same grants from to (messages.Disembargo d) b e = (refl, refl)
+followed_same grants from to (messages.Other which body) b e = (refl, refl)
 
 followed_from_same : (side : Bool) (rules : Rules) (refs : References) (m : Message) (b : Breach) → (followed_from side rules refs m).breach ≡ Some b → (followed_from side rules refs m).references ≡ refs
-followed_from_same true rules refs m b e = followed_back_same refs m b e
-followed_from_same false rules refs m b e = followed_same rules refs m b e
+followed_from_same true rules refs m b e = let same = followed_same [] refs.callee refs.caller m b e in rw (same.0, same.1) refl
+followed_from_same false rules refs m b e = let same = followed_same rules.grants.items refs.caller refs.callee m b e in rw (same.0, same.1) refl
 
 pub closed_so : (side : Bool) (rules : Rules) (s mid new : GuardState) (m : Message) (v : Ruling) (breach : Breach) → record { ruling = v; state = mid } ≡ ruled_from side rules s m → follows rules ≡ true → goes v ≡ true
     → record { breach = Some breach; references = new.references } ≡ followed_from side rules mid.references m → new ≡ record mid { references = new.references } → record { ruling = rulings.Closes breach; state = new } ≡ judged_from side rules s m

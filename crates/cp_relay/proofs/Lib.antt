@@ -6,5 +6,6 @@ pub mod Hosted
 pub mod Kept
 pub mod Allowed
 pub mod Given
+pub mod Shared
 pub mod Once
 pub mod Traffic

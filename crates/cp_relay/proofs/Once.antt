@@ -26,9 +26,9 @@ use Rattle.cp_relay.specs.declared.ruling.Breach.{Breach}
 use Rattle.cp_relay.specs.declared.ruling.Ruling.{Ruling}
 use Rattle.cp_relay.specs.declared.ruling.Ruling.TheVariants as rulings
 use Rattle.cp_relay.specs.Rules.{follows}
-use Rattle.cp_relay.specs.Followed.{Followed}
+use Rattle.cp_relay.specs.Followed.{Followed, followed_from}
 use Rattle.cp_relay.specs.State.{Refused, may_go, is_broken, target_cause, descriptor_cause, limit_cause}
-use Rattle.cp_relay.specs.Judged.{most_unfinished, refused_so, call_judged, bootstrap_judged, finish_judged, returned_judged, resolution_judged, target_judged, Judgement, ruled, followed_from, goes, keeping_of}
+use Rattle.cp_relay.specs.Judged.{most_unfinished, refused_so, call_judged, bootstrap_judged, finish_judged, returned_judged, resolution_judged, target_judged, Judgement, ruled, goes, keeping_of}
 use Rattle.cp_relay.specs.Once.{Replies, IsDropped, Asks, Finishes, AnswersFor, Forgets, AnsweredOnce, DropsFinishes, Remembers}
 
 some_is_none : (cause : Cause) → Some cause ≡ None → ⊥

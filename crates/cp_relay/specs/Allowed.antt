@@ -15,7 +15,7 @@ use Rattle.cp_relay.specs.declared.state.GuardState.{GuardState}
 use Rattle.cp_relay.specs.declared.ruling.Ruling.{Ruling}
 use Rattle.cp_relay.specs.declared.ruling.Ruling.TheVariants as rulings
 use Rattle.cp_relay.specs.Rules.{follows}
-use Rattle.cp_relay.specs.Followed.{followed}
+use Rattle.cp_relay.specs.Followed.{followed_from}
 use Rattle.cp_relay.specs.State.{Refused, may_go, is_broken, target_cause, descriptor_cause, limit_cause}
 use Rattle.cp_relay.specs.Judged.{judged}
 
@@ -53,7 +53,7 @@ IsAllowed rules s other = Unit {0}
 
 -- what is kept of a message closes nothing; without a rule on what calls gave nothing is kept
 abbrev pub IsKept : Rules → GuardState → Message → Type 0
-IsKept rules s m = follows rules ≡ true → (followed rules s.references m).breach ≡ None
+IsKept rules s m = follows rules ≡ true → (followed_from false rules s.references m).breach ≡ None
 
 -- the second message goes where the first came
 abbrev pub Goes : Ruling → Message → Message → Type 0

@@ -11,8 +11,8 @@ use Rattle.cp_relay.specs.declared.ruling.Ruling.TheVariants as rulings
 use Rattle.cp_relay.specs.declared.ruling.Breach.{Breach}
 use Rattle.cp_relay.specs.State.{Refused}
 use Rattle.cp_relay.specs.References.{no_references}
-use Rattle.cp_relay.specs.Followed.{finding}
-use Rattle.cp_relay.specs.Judged.{judging, ruled_from, followed_from, judged_from}
+use Rattle.cp_relay.specs.Followed.{finding, followed_from}
+use Rattle.cp_relay.specs.Judged.{judging, ruled_from, judged_from}
 
 -- why a ruling closes the connection
 abbrev pub breach_in : Ruling → Option Breach

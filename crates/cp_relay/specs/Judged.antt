@@ -26,7 +26,7 @@ use Rattle.cp_relay.specs.Answer.{answer_of, exception_of}
 use Rattle.cp_relay.specs.declared.ruling.Breach.{Breach}
 use Rattle.cp_relay.specs.declared.references.References.{References}
 use Rattle.cp_relay.specs.Rules.{follows}
-use Rattle.cp_relay.specs.Followed.{Followed, followed, followed_back}
+use Rattle.cp_relay.specs.Followed.{Followed, followed_from}
 use Rattle.cp_relay.specs.State.{Refused, is_broken, payload_without, descriptor_cause, limit_cause, call_cause, with_one_more, with_one_fewer, with_refused, with_finished}
 
 -- what becomes of a message, and what is known of the connection then
@@ -157,11 +157,6 @@ goes (rulings.Closes breach) = false
 abbrev pub ruled_from : Bool → Rules → GuardState → Message → Judgement
 ruled_from true rules s m = ruled_back s m
 ruled_from false rules s m = ruled rules s m
-
--- what is kept of a message of either
-abbrev pub followed_from : Bool → Rules → References → Message → Followed
-followed_from true rules refs m = followed_back refs m
-followed_from false rules refs m = followed rules refs m
 
 -- what is kept of a message closes the connection, or is known from then on
 abbrev pub kept_by : Judgement → Option Breach → References → Judgement

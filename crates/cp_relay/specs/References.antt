@@ -1,8 +1,8 @@
--- The references that a caller was given on a connection, and the marks of the rules by whose calls they came.
-use Rattle.std.specs.Prelude.{ℕ, min, nat_lt, nat_le, ◌+◌, ◌-◌, ◌^◌, ◌&&◌, Bool, true, false, if◌then◌else◌, List, [], ◌∷◌, length, Option, Some, None}
+-- The references that the ends of a connection gave each other, and the marks of the rules by whose calls they came.
+use Rattle.std.specs.Prelude.{ℕ, min, nat_lt, nat_le, ◌+◌, ◌-◌, ◌^◌, ◌==◌, ◌&&◌, Bool, true, false, if◌then◌else◌, List, [], ◌∷◌, length, Option, Some, None}
 use Rattle.std.specs.Option.{option_map}
 use Rattle.std.specs.FinMap.{get, insert, remove, empty, len}
-use Rattle.std.specs.Int.RustNames.{bit_or}
+use Rattle.std.specs.Int.RustNames.{bit_and, bit_or}
 use Rattle.cp_tables.specs.Table.{Table}
 use Rattle.cp_messages.specs.declared.target.Target.{Target}
 use Rattle.cp_messages.specs.declared.target.Target.TheVariants as targets
@@ -17,11 +17,16 @@ use Rattle.cp_relay.specs.declared.references.Given.{Given}
 use Rattle.cp_relay.specs.declared.references.QuestionStage.{QuestionStage}
 use Rattle.cp_relay.specs.declared.references.QuestionStage.TheVariants as stages
 use Rattle.cp_relay.specs.declared.references.Question.{Question}
+use Rattle.cp_relay.specs.declared.references.Side.{Side}
 use Rattle.cp_relay.specs.declared.references.References.{References}
 
--- the references of a connection on which nothing was sent
+-- what an end gave that sent nothing
+abbrev pub no_side : Bool → Side
+no_side shares = record { shares = shares; given = empty; questions = empty; calls = empty; kept = 0 }
+
+-- The references of a connection on which nothing was sent. One of the callee's has the marks of each way by which it was given, one of the caller's those that all ways share.
 abbrev pub no_references : References
-no_references = record { given = empty; questions = empty; calls = empty; kept = 0 }
+no_references = record { caller = no_side true; callee = no_side false }
 
 -- the number that a descriptor gives: that of an object of its sender, or of a promise
 abbrev pub hosted_number : Descriptor → Option ℕ
@@ -58,17 +63,17 @@ resolved_number (resolutions.Cap d) = hosted_number d
 resolved_number (resolutions.Exception exception) = None
 resolved_number (resolutions.Unknown number) = None
 
--- a number is given once more, with these marks beside those that it has
-abbrev pub given_more : Option Given → ℕ → Given
-given_more (Some g) marks = record { count = min (g.count + 1) (2 ^ 32 - 1); marks = bit_or g.marks marks }
-given_more None marks = record { count = 1; marks = marks }
+-- a number is given once more, with these marks beside those that it has, or with those alone that are among both
+abbrev pub given_more : Bool → Option Given → ℕ → Given
+given_more shares (Some g) marks = record { count = min (g.count + 1) (2 ^ 32 - 1); marks = if shares then bit_and g.marks marks else bit_or g.marks marks }
+given_more shares None marks = record { count = 1; marks = marks }
 
-abbrev pub raised : Table Given → ℕ → ℕ → Table Given
-raised given id marks = insert given id (given_more (get given id) marks)
+abbrev pub raised : Bool → Table Given → ℕ → ℕ → Table Given
+raised shares given id marks = insert given id (given_more shares (get given id) marks)
 
-abbrev pub raised_all : Table Given → ℕ → List ℕ → Table Given
-raised_all given marks [] = given
-raised_all given marks (id ∷ ids) = raised_all (raised given id marks) marks ids
+abbrev pub raised_all : Bool → Table Given → ℕ → List ℕ → Table Given
+raised_all shares given marks [] = given
+raised_all shares given marks (id ∷ ids) = raised_all shares (raised shares given id marks) marks ids
 
 -- A number is given back so often. At the last time it is free, and whatever is given under it later has other marks.
 abbrev pub lowered_by : Table Given → ℕ → ℕ → Option Given → Table Given
@@ -87,57 +92,63 @@ abbrev pub lowered_if : Bool → Table Given → List ℕ → Table Given
 lowered_if true given ids = lowered_all given ids
 lowered_if false given ids = given
 
--- The marks of what a call goes to, if the caller was given it: of a number, or of what a question's results give.
-abbrev pub marks_of : References → Target → Option ℕ
-marks_of refs (targets.ImportedCap id) = option_map (λ g. g.marks) (get refs.given id)
-marks_of refs (targets.PromisedAnswer answer) = option_map (λ q. q.marks) (get refs.questions answer.question_id)
-marks_of refs (targets.Unknown number) = None
+-- The marks of what a call to this end goes to, if it gave that: of a number, or of what a question's results give.
+abbrev pub marks_of : Side → Target → Option ℕ
+marks_of side (targets.ImportedCap id) = option_map (λ g. g.marks) (get side.given id)
+marks_of side (targets.PromisedAnswer answer) = option_map (λ q. q.marks) (get side.questions answer.question_id)
+marks_of side (targets.Unknown number) = None
 
--- how many references are kept at most, and how many questions and numbers beside them
+-- how many references of an end are kept at most, and how many questions and numbers beside them
 abbrev pub most_kept : ℕ
 most_kept = 65536
 
-abbrev pub has_room : References → ℕ → Bool
-has_room refs n = nat_le n (most_kept - refs.kept) && nat_le n (most_kept - len refs.given)
+abbrev pub has_room : Side → ℕ → Bool
+has_room side n = nat_le n (most_kept - side.kept) && nat_le n (most_kept - len side.given)
 
 -- a question that isn't answered has come so far
-abbrev pub noted : References → ℕ → ℕ → QuestionStage → References
-noted refs question marks stage = record refs { questions = insert refs.questions question (record { stage = stage; marks = marks; numbers = [] }) }
+abbrev pub noted : Side → ℕ → ℕ → QuestionStage → Side
+noted side question marks stage = record side { questions = insert side.questions question (record { stage = stage; marks = marks; numbers = [] }) }
 
 -- a question is asked, whose results give what has these marks
-abbrev pub opened : References → ℕ → ℕ → References
-opened refs question marks = noted (record refs { kept = refs.kept + 1 }) question marks stages.Open
+abbrev pub opened : Side → ℕ → ℕ → Side
+opened side question marks = noted (record side { kept = side.kept + 1 }) question marks stages.Open
 
 -- a question is over, and what its results gave is given back if that is said
-abbrev pub closed_by : References → ℕ → Bool → Option Question → References
-closed_by refs question release (Some q) =
-    record refs { given = lowered_if release refs.given q.numbers; questions = remove refs.questions question; kept = refs.kept - 1 - length q.numbers }
-closed_by refs question release None = refs
+abbrev pub closed_by : Side → ℕ → Bool → Option Question → Side
+closed_by side question release (Some q) =
+    record side { given = lowered_if release side.given q.numbers; questions = remove side.questions question; kept = side.kept - 1 - length q.numbers }
+closed_by side question release None = side
 
-abbrev pub closed : References → ℕ → Bool → References
-closed refs question release = closed_by refs question release (get refs.questions question)
+abbrev pub closed : Side → ℕ → Bool → Side
+closed side question release = closed_by side question release (get side.questions question)
 
--- a call of the callee is answered, and what its params gave is given back if that is said
-abbrev pub answered_by : References → ℕ → Bool → Option (List ℕ) → References
-answered_by refs call release (Some numbers) = record refs { given = lowered_if release refs.given numbers; calls = remove refs.calls call; kept = refs.kept - length numbers }
-answered_by refs call release None = refs
+-- params of a call give references under these numbers, with these marks
+abbrev pub lent : Side → ℕ → ℕ → List ℕ → Side
+lent side call marks numbers =
+    if length numbers == 0 then side
+    else record side { given = raised_all side.shares side.given marks numbers; calls = insert side.calls call numbers; kept = side.kept + length numbers }
 
-abbrev pub answered : References → ℕ → Bool → References
-answered refs call release = answered_by refs call release (get refs.calls call)
+-- a call is answered, and what its params gave is given back if that is said
+abbrev pub answered_by : Side → ℕ → Bool → Option (List ℕ) → Side
+answered_by side call release (Some numbers) = record side { given = lowered_if release side.given numbers; calls = remove side.calls call; kept = side.kept - length numbers }
+answered_by side call release None = side
+
+abbrev pub answered : Side → ℕ → Bool → Side
+answered side call release = answered_by side call release (get side.calls call)
 
 abbrev pub finished_stage : Bool → QuestionStage
 finished_stage release = if release then stages.Released else stages.Finished
 
 -- A Finish goes. After the Return the question is over. Before it, it says what becomes of what the results will give; a second one gives that back.
-abbrev pub finished_at : References → Finish → ℕ → QuestionStage → References
-finished_at refs finish marks stages.Returned = closed refs finish.question_id finish.release_result_caps
-finished_at refs finish marks stages.Open = noted refs finish.question_id marks (finished_stage finish.release_result_caps)
-finished_at refs finish marks stages.Finished = noted refs finish.question_id marks stages.Released
-finished_at refs finish marks stages.Released = noted refs finish.question_id marks stages.Released
+abbrev pub finished_at : Side → Finish → ℕ → QuestionStage → Side
+finished_at side finish marks stages.Returned = closed side finish.question_id finish.release_result_caps
+finished_at side finish marks stages.Open = noted side finish.question_id marks (finished_stage finish.release_result_caps)
+finished_at side finish marks stages.Finished = noted side finish.question_id marks stages.Released
+finished_at side finish marks stages.Released = noted side finish.question_id marks stages.Released
 
-abbrev pub finished_by : References → Finish → Option Question → References
-finished_by refs finish (Some q) = finished_at refs finish q.marks q.stage
-finished_by refs finish None = refs
+abbrev pub finished_by : Side → Finish → Option Question → Side
+finished_by side finish (Some q) = finished_at side finish q.marks q.stage
+finished_by side finish None = side
 
-abbrev pub finished : References → Finish → References
-finished refs finish = finished_by refs finish (get refs.questions finish.question_id)
+abbrev pub finished : Side → Finish → Side
+finished side finish = finished_by side finish (get side.questions finish.question_id)

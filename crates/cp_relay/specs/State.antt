@@ -60,7 +60,7 @@ may_reach rules call None = false
 -- The rules allow a call: its method; and where there is a rule on what calls gave, to what it goes to. What is broken isn't judged by that.
 abbrev pub may_go : Rules → GuardState → Call → Bool
 may_go rules s call =
-    if follows rules then (if is_some (target_cause s.refused call.target) then true else may_reach rules call (marks_of s.references call.target))
+    if follows rules then (if is_some (target_cause s.refused call.target) then true else may_reach rules call (marks_of s.references.callee call.target))
     else may_call rules call.interface_id call.method_id
 
 -- Why a call is refused: it isn't allowed; or what it is sent to is broken; or a limit is met.

@@ -3,108 +3,53 @@
 ghost use Rattle.std.specs.Prelude.{◌≡◌, IfOk, OnOk};
 ghost use Rattle.cp_rpc.specs.Viewed.{viewed, viewed_call, viewed_return, viewed_resolve};
 ghost use Rattle.cp_relay.specs.References.{finished, finished_stage};
-ghost use Rattle.cp_relay.specs.Followed.{finding, followed, followed_back, asked, gained, return_followed, results_followed, call_followed, resolve_followed};
+ghost use Rattle.cp_relay.specs.Followed.{finding, sending, between, followed, followed_from, asked, gained, return_followed, results_followed, resolve_followed};
 
 use crate::numbers::{Numbers, resolved_number};
-use crate::references::{Question, QuestionStage, References, lower, raise, raise_all};
-use crate::rules::{MethodId, Rules};
+use crate::references::{Question, QuestionStage, References, Side, lower, raise, raise_all};
+use crate::rules::{Grant, MethodId, Rules, marks_after};
 use crate::ruling::Breach;
 use cp_reading::View;
 use cp_rpc::{CallView, Finish, MessageIn, MessageView, ResolveView, ReturnView};
 use std::alloc::{AllocError, Global};
 
 impl References {
-    /// A message of the caller goes. Says why the connection is closed, if it is.
+    /// A message of the callee goes, or of the caller. Says why the connection is closed, if it is.
     pub(crate) fn follow(
         &mut self,
         alloc: Global,
         rules: &Rules,
+        comes_back: bool,
         message: &MessageView,
     ) -> Result<Option<Breach>, AllocError>
-        ensures { IfOk result (λ b. finding b self.new ≡ followed rules.now self.old (viewed message.now)) }
+        ensures { IfOk result (λ b. finding b self.new ≡ followed_from comes_back rules.now self.old (viewed message.now)) }
     {
-        match message {
-            MessageIn::Call(call) => {
-                let marks = self.gained(rules, call);
-                self.ask(alloc, call.question_id, marks)
-            }
-            MessageIn::Bootstrap(bootstrap) => self.ask(alloc, bootstrap.question_id, 0),
-            MessageIn::Finish(finish) => {
-                self.finish(alloc, finish)?;
-                Ok(None)
-            }
-            MessageIn::Release(release) => {
-                lower(&mut self.given, release.id, release.reference_count);
-                Ok(None)
-            }
-            MessageIn::Return(returned) => {
-                self.answer(returned.answer_id, returned.release_param_caps);
-                Ok(None)
-            }
-            MessageIn::Unimplemented(_) => Ok(Some(Breach::Unimplemented)),
-            MessageIn::Abort(_) => Ok(None),
-            MessageIn::Resolve(_) => Ok(None),
-            MessageIn::Disembargo(_) => Ok(None),
-            MessageIn::Other { .. } => Ok(None),
+        if comes_back {
+            // The rules are on the caller's calls alone.
+            return follow(&mut self.callee, &mut self.caller, alloc, &[], message);
         }
+        let grants = rules.grants.as_slice();
+        follow(&mut self.caller, &mut self.callee, alloc, grants, message)
     }
+}
 
-    /// A message of the callee goes. Says why the connection is closed, if it is.
-    pub(crate) fn follow_back(
-        &mut self,
-        alloc: Global,
-        message: &MessageView,
-    ) -> Result<Option<Breach>, AllocError>
-        ensures { IfOk result (λ b. finding b self.new ≡ followed_back self.old (viewed message.now)) }
+impl Side {
+    /// The marks of what a call to this end gives: those of the rules after its method, and those of what it goes to.
+    fn gained(&self, grants: &[Grant], call: &CallView<View>) -> u64
+        ensures { result ≡ gained grants.now self.now (viewed_call (λ t. t) call.now) }
     {
-        match message {
-            MessageIn::Return(returned) => self.follow_return(alloc, returned),
-            MessageIn::Call(call) => self.follow_call(alloc, call),
-            MessageIn::Resolve(resolve) => self.follow_resolve(resolve),
-            MessageIn::Finish(_) => Ok(None),
-            MessageIn::Release(_) => Ok(None),
-            MessageIn::Bootstrap(_) => Ok(None),
-            MessageIn::Unimplemented(_) => Ok(None),
-            MessageIn::Abort(_) => Ok(None),
-            MessageIn::Disembargo(_) => Ok(None),
-            MessageIn::Other { .. } => Ok(None),
-        }
-    }
-
-    /// A question is asked.
-    fn ask(
-        &mut self,
-        alloc: Global,
-        question: u32,
-        marks: u64,
-    ) -> Result<Option<Breach>, AllocError>
-        ensures { IfOk result (λ b. finding b self.new ≡ asked self.old question marks) }
-    {
-        if self.questions.contains(question) {
-            return Ok(Some(Breach::Reused(question)));
-        }
-        if !self.has_room(1) {
-            return Ok(Some(Breach::Full));
-        }
-        self.open(alloc, question, marks)?;
-        Ok(None)
-    }
-
-    /// The marks of what a call gives: those of the rules after its method, and those of what it goes to.
-    fn gained(&self, rules: &Rules, call: &CallView<View>) -> u64
-        ensures { result ≡ gained rules.now self.now (viewed_call (λ t. t) call.now) }
-    {
-        let after = rules.marks_after(MethodId {
+        let method = MethodId {
             interface: call.interface_id,
             method: call.method_id,
-        });
+        };
+        let after = marks_after(grants, method);
         match self.marks_of(&call.target) {
             Some(marks) => after | marks,
             None => after,
         }
     }
 
-    /// A question's Finish goes.
+    /// A Finish of a question to this end goes.
     fn finish(&mut self, alloc: Global, finish: &Finish) -> Result<(), AllocError>
         ensures { OnOk result (self.new ≡ finished self.old finish.now) }
     {
@@ -126,13 +71,13 @@ impl References {
         self.note(alloc, id, marks, next)
     }
 
-    /// A Return of the callee goes.
+    /// A Return of this end goes.
     fn follow_return(
         &mut self,
         alloc: Global,
         returned: &ReturnView<View>,
     ) -> Result<Option<Breach>, AllocError>
-        ensures { IfOk result (λ b. finding b self.new ≡ return_followed self.old (viewed_return (λ t. t) returned.now)) }
+        ensures { IfOk result (λ b. sending b self.new ≡ return_followed self.old (viewed_return (λ t. t) returned.now)) }
     {
         let id = returned.answer_id;
         let Some(question) = self.questions.get(id) else {
@@ -169,14 +114,14 @@ impl References {
         marks: u64,
         numbers: Numbers,
     ) -> Result<Option<Breach>, AllocError>
-        ensures { IfOk result (λ b. finding b self.new ≡ results_followed self.old question marks numbers) }
+        ensures { IfOk result (λ b. sending b self.new ≡ results_followed self.old question marks numbers) }
     {
         let count = numbers.len();
         if !self.has_room(count) {
             drop(numbers);
             return Ok(Some(Breach::Full));
         }
-        if let Err(error) = raise_all(&mut self.given, numbers.as_slice(), marks) {
+        if let Err(error) = raise_all(&mut self.given, self.shares, numbers.as_slice(), marks) {
             drop(numbers);
             return Err(error);
         }
@@ -193,40 +138,9 @@ impl References {
         Ok(None)
     }
 
-    /// A call of the callee goes, whose params give references. No rule's call gave these.
-    fn follow_call(
-        &mut self,
-        alloc: Global,
-        call: &CallView<View>,
-    ) -> Result<Option<Breach>, AllocError>
-        ensures { IfOk result (λ b. finding b self.new ≡ call_followed self.old (viewed_call (λ t. t) call.now)) }
-    {
-        let id = call.question_id;
-        if self.calls.contains(id) {
-            return Ok(Some(Breach::Reused(id)));
-        }
-        let numbers = Numbers::of_table(alloc, &call.params.cap_table)?;
-        let count = numbers.len();
-        if count == 0 {
-            drop(numbers);
-            return Ok(None);
-        }
-        if !self.has_room(count) {
-            drop(numbers);
-            return Ok(Some(Breach::Full));
-        }
-        if let Err(error) = raise_all(&mut self.given, numbers.as_slice(), 0) {
-            drop(numbers);
-            return Err(error);
-        }
-        self.kept += count;
-        self.calls.put(id, numbers)?;
-        Ok(None)
-    }
-
-    /// A Resolve of the callee goes, which gives a reference as the promise was given.
+    /// A Resolve of this end goes, which gives a reference as the promise was given.
     fn follow_resolve(&mut self, resolve: &ResolveView<View>) -> Result<Option<Breach>, AllocError>
-        ensures { IfOk result (λ b. finding b self.new ≡ resolve_followed self.old (viewed_resolve (λ t. t) resolve.now)) }
+        ensures { IfOk result (λ b. sending b self.new ≡ resolve_followed self.old (viewed_resolve (λ t. t) resolve.now)) }
     {
         let Some(id) = resolved_number(&resolve.resolution) else {
             return Ok(None);
@@ -238,9 +152,77 @@ impl References {
             Some(promise) => promise.marks,
             None => 0,
         };
-        raise(&mut self.given, id, marks)?;
+        raise(&mut self.given, self.shares, id, marks)?;
         Ok(None)
     }
+}
+
+/// A message goes from one end to the other, where these rules are on what calls give. Says why the connection is closed, if it is.
+fn follow(
+    from: &mut Side,
+    to: &mut Side,
+    alloc: Global,
+    grants: &[Grant],
+    message: &MessageView,
+) -> Result<Option<Breach>, AllocError>
+    ensures { IfOk result (λ b. between b from.new to.new ≡ followed grants.now from.old to.old (viewed message.now)) }
+{
+    match message {
+        MessageIn::Call(call) => {
+            let marks = to.gained(grants, call);
+            let numbers = Numbers::of_table(alloc, &call.params.cap_table)?;
+            ask(from, to, alloc, call.question_id, marks, numbers)
+        }
+        MessageIn::Bootstrap(bootstrap) => {
+            let numbers = Numbers::new(alloc);
+            ask(from, to, alloc, bootstrap.question_id, 0, numbers)
+        }
+        MessageIn::Finish(finish) => {
+            to.finish(alloc, finish)?;
+            Ok(None)
+        }
+        MessageIn::Release(release) => {
+            lower(&mut to.given, release.id, release.reference_count);
+            Ok(None)
+        }
+        MessageIn::Return(returned) => {
+            let breach = from.follow_return(alloc, returned)?;
+            if breach.is_none() {
+                to.answer(returned.answer_id, returned.release_param_caps);
+            }
+            Ok(breach)
+        }
+        MessageIn::Resolve(resolve) => from.follow_resolve(resolve),
+        // It may give back what a Resolve gave, which isn't kept.
+        MessageIn::Unimplemented(_) => Ok(Some(Breach::Unimplemented)),
+        MessageIn::Abort(_) => Ok(None),
+        MessageIn::Disembargo(_) => Ok(None),
+        MessageIn::Other { .. } => Ok(None),
+    }
+}
+
+/// A question is asked, whose params give references under these numbers.
+fn ask(
+    from: &mut Side,
+    to: &mut Side,
+    alloc: Global,
+    question: u32,
+    marks: u64,
+    numbers: Numbers,
+) -> Result<Option<Breach>, AllocError>
+    ensures { IfOk result (λ b. between b from.new to.new ≡ asked from.old to.old question marks numbers) }
+{
+    if to.questions.contains(question) {
+        drop(numbers);
+        return Ok(Some(Breach::Reused(question)));
+    }
+    if !to.has_room(1) || !from.has_room(numbers.len()) {
+        drop(numbers);
+        return Ok(Some(Breach::Full));
+    }
+    from.lend(question, marks, numbers)?;
+    to.open(alloc, question, marks)?;
+    Ok(None)
 }
 
 /// How far a question has come by a Finish before its Return.

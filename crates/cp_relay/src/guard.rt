@@ -162,10 +162,7 @@ impl<'r> Guard<'r> {
         ensures same { IsSameStanding self.old self.new }
     {
         let references = &mut self.state.references;
-        if self.comes_back {
-            return references.follow_back(self.alloc, message);
-        }
-        references.follow(self.alloc, self.rules, message)
+        references.follow(self.alloc, self.rules, self.comes_back, message)
     }
 
     /// The call that a message of the caller is.

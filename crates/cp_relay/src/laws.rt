@@ -3,7 +3,7 @@
 ghost use Rattle.cp_relay.specs.Allowed.{OnlyAllowed, AllowedPass};
 ghost use Rattle.cp_relay.specs.Once.{AnsweredOnce, DropsFinishes, Remembers};
 ghost use Rattle.cp_relay.specs.Runs.{FeedsStream, FeedsSame};
-ghost use Rattle.cp_relay.specs.Given.{OnlyGiven, ReleasedIsFree};
+ghost use Rattle.cp_relay.specs.Given.{OnlyGiven, ReleasedIsFree, PassesMarks, GainsNoMark};
 ghost use Rattle.cp_relay.specs.Traffic.{OnlyJudgedGoes, NothingAfter};
 
 use crate::visitor::Visitor;
@@ -37,8 +37,11 @@ pub fn only_judged()
 {}
 
 /// Where a rule is on what calls gave, no call goes but on a reference that a chain of messages gave, of which each went; and if its method
-/// may not be called on all, the chain begins with a call after which a rule has the method. A number that is given back is free.
+/// may not be called on all, the chain begins with a call after which a rule has the method. A number that is given back is free. An object
+/// of the caller's has those marks alone that all calls share which passed it.
 pub fn only_given()
     ensures given { OnlyGiven }
     ensures freed { ReleasedIsFree }
+    ensures passes { PassesMarks }
+    ensures gains { GainsNoMark }
 {}

@@ -1,8 +1,8 @@
-//! The references that a caller was given.
+//! The references that the ends of a connection gave each other.
 
-ghost use Rattle.std.specs.Prelude.{◌≡◌, ◌+◌, ◌<◌, ◌^◌, IsTrue, OnOk};
+ghost use Rattle.std.specs.Prelude.{◌≡◌, ◌+◌, ◌<◌, ◌^◌, length, IsTrue, OnOk};
 ghost use Rattle.cp_rpc.specs.Viewed.{viewed_target};
-ghost use Rattle.cp_relay.specs.References.{raised, raised_all, lowered, lowered_all, marks_of, has_room, opened, noted, closed, answered, no_references};
+ghost use Rattle.cp_relay.specs.References.{raised, raised_all, lowered, lowered_all, marks_of, has_room, opened, noted, closed, lent, answered, no_side, no_references};
 
 use crate::numbers::Numbers;
 use cp_reading::View;
@@ -10,10 +10,10 @@ use cp_rpc::TargetView;
 use cp_tables::{Entries, Placed};
 use std::alloc::{AllocError, Global};
 
-/// The most references that are kept, and the most questions and numbers beside them.
+/// The most references of an end that are kept, and the most questions and numbers beside them.
 const MOST_KEPT: usize = 65_536;
 
-/// A reference that the caller was given under a number.
+/// A reference that an end gave under a number.
 #[derive(Clone, Copy)]
 pub(crate) struct Given {
     /// How often it was given and not given back.
@@ -22,7 +22,7 @@ pub(crate) struct Given {
     pub marks: u64,
 }
 
-/// How far a question of the caller has come. With both Return and Finish it is over.
+/// How far a question has come. With both Return and Finish it is over.
 #[derive(Clone, Copy)]
 pub(crate) enum QuestionStage {
     Open,
@@ -33,7 +33,7 @@ pub(crate) enum QuestionStage {
     Released,
 }
 
-/// A question of the caller.
+/// A question to an end.
 #[derive(Drop)]
 pub(crate) struct Question {
     pub stage: QuestionStage,
@@ -43,17 +43,26 @@ pub(crate) struct Question {
     pub numbers: Numbers,
 }
 
-/// The references that a caller was given.
+/// What an end of a connection gave to the other.
+#[derive(Drop)]
+pub(crate) struct Side {
+    /// Whether a reference has the marks alone that all ways share by which it was given, and not those of each.
+    pub shares: bool,
+    /// The end's objects and promises, by their numbers.
+    pub given: Placed<Given>,
+    /// The questions to it, by their numbers.
+    pub questions: Entries<Question>,
+    /// What the params of its own calls gave, up to their Returns.
+    pub calls: Entries<Numbers>,
+    /// How many questions these are, and numbers of theirs and of its calls.
+    pub kept: usize,
+}
+
+/// The references that the ends of a connection gave each other.
 #[derive(Drop)]
 pub(crate) struct References {
-    /// The callee's objects and promises, by their numbers.
-    pub given: Placed<Given>,
-    /// The caller's questions, by their numbers.
-    pub questions: Entries<Question>,
-    /// What the params of the callee's calls gave, up to their Returns.
-    pub calls: Entries<Numbers>,
-    /// How many questions these are, and numbers of theirs and of the callee's calls.
-    pub kept: usize,
+    pub caller: Side,
+    pub callee: Side,
 }
 
 impl References {
@@ -62,6 +71,20 @@ impl References {
         ensures { result ≡ no_references }
     {
         References {
+            // What is passed to an object of the caller's came by some call that passed the object, and it isn't known by which.
+            caller: Side::new(alloc, true),
+            callee: Side::new(alloc, false),
+        }
+    }
+}
+
+impl Side {
+    /// What an end gave that sent nothing.
+    fn new(alloc: Global, shares: bool) -> Side
+        ensures { result ≡ no_side shares }
+    {
+        Side {
+            shares,
             given: Placed::new(alloc),
             questions: Entries::new(alloc),
             calls: Entries::new(alloc),
@@ -69,7 +92,7 @@ impl References {
         }
     }
 
-    /// The marks of what a call goes to, if the caller was given it.
+    /// The marks of what a call to this end goes to, if it gave that.
     pub(crate) fn marks_of(&self, target: &TargetView<View>) -> Option<u64>
         ensures { result ≡ marks_of self.now (viewed_target (λ t. t) target.now) }
     {
@@ -147,7 +170,25 @@ impl References {
         drop(question);
     }
 
-    /// A call of the callee is answered, and what its params gave is given back if that is said.
+    /// Params of a call of this end give references under these numbers.
+    pub(crate) fn lend(&mut self, call: u32, marks: u64, numbers: Numbers) -> Result<(), AllocError>
+        requires { self.old.kept + length numbers < 2 ^ 64 }
+        ensures { OnOk result (self.new ≡ lent self.old call marks numbers) }
+    {
+        let count = numbers.len();
+        if count == 0 {
+            drop(numbers);
+            return Ok(());
+        }
+        if let Err(error) = raise_all(&mut self.given, self.shares, numbers.as_slice(), marks) {
+            drop(numbers);
+            return Err(error);
+        }
+        self.kept += count;
+        self.calls.put(call, numbers)
+    }
+
+    /// A call of this end is answered, and what its params gave is given back if that is said.
     pub(crate) fn answer(&mut self, call: u32, release: bool)
         ensures { self.new ≡ answered self.old call release }
     {
@@ -163,13 +204,22 @@ impl References {
 }
 
 /// A number is given once more, by calls of rules with these marks.
-pub(crate) fn raise(given: &mut Placed<Given>, id: u32, marks: u64) -> Result<(), AllocError>
-    ensures { OnOk result (given.new ≡ raised given.old id marks) }
+pub(crate) fn raise(
+    given: &mut Placed<Given>,
+    shares: bool,
+    id: u32,
+    marks: u64,
+) -> Result<(), AllocError>
+    ensures { OnOk result (given.new ≡ raised shares given.old id marks) }
 {
     let entry = match given.get(id) {
         Some(entry) => Given {
             count: entry.count.saturating_add(1),
-            marks: entry.marks | marks,
+            marks: if shares {
+                entry.marks & marks
+            } else {
+                entry.marks | marks
+            },
         },
         None => Given { count: 1, marks },
     };
@@ -180,13 +230,14 @@ pub(crate) fn raise(given: &mut Placed<Given>, id: u32, marks: u64) -> Result<()
 /// So are all of these.
 pub(crate) fn raise_all(
     given: &mut Placed<Given>,
+    shares: bool,
     numbers: &[u32],
     marks: u64,
 ) -> Result<(), AllocError>
-    ensures { OnOk result (given.new ≡ raised_all given.old marks numbers.now) }
+    ensures { OnOk result (given.new ≡ raised_all shares given.old marks numbers.now) }
 {
     for id in numbers {
-        raise(given, *id, marks)?;
+        raise(given, shares, *id, marks)?;
     }
     Ok(())
 }

@@ -160,19 +160,6 @@ impl Rules {
         !self.grants.is_empty()
     }
 
-    /// The marks of what a call of a method gives.
-    pub(crate) fn marks_after(&self, method: MethodId) -> u64
-        ensures { result ≡ marks_after method.interface method.method 0 self.now.grants.items }
-    {
-        let mut marks = 0;
-        for grant in &self.grants {
-            if is_same(grant.after, method) {
-                marks |= grant.mark;
-            }
-        }
-        marks
-    }
-
     /// Whether a rule lets a method be called of what has these marks.
     pub(crate) fn is_granted(&self, marks: u64, method: MethodId) -> bool
         ensures { result ≡ list_any (is_granted marks method.interface method.method) self.now.grants.items }
@@ -208,6 +195,19 @@ impl Rules {
         }
         false
     }
+}
+
+/// The marks of what a call of a method gives by these rules.
+pub(crate) fn marks_after(grants: &[Grant], method: MethodId) -> u64
+    ensures { result ≡ marks_after method.interface method.method 0 grants.now }
+{
+    let mut marks = 0;
+    for grant in grants {
+        if is_same(grant.after, method) {
+            marks |= grant.mark;
+        }
+    }
+    marks
 }
 
 /// Whether a method is among what may be called.

@@ -33,9 +33,9 @@ pub enum Breach {
     Answered(u32),
     /// A Return came to a question that isn't open. This and the next are told where a rule is on what calls gave.
     Unasked(u32),
-    /// The caller doesn't know a message of the callee's, which may have given it a reference.
+    /// An end doesn't know a message of the other, which may have given it a reference.
     Unimplemented,
-    /// More references were given than are kept.
+    /// More references were given than are kept of an end.
     Full,
 }
 
@@ -99,7 +99,7 @@ impl fmt::Display for Breach {
             Breach::Unasked(question) => {
                 write!(f, "a Return to question {question}, which isn't open")
             }
-            Breach::Unimplemented => f.write_str("an Unimplemented of the caller"),
+            Breach::Unimplemented => f.write_str("an Unimplemented message"),
             Breach::Full => f.write_str("too many references"),
         }
     }

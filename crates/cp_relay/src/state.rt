@@ -32,7 +32,7 @@ pub(crate) struct GuardState {
     pub under_way: u32,
     /// How many went in this second.
     pub opened: u32,
-    /// What the caller was given, if a rule is on what calls gave.
+    /// What the ends gave each other, if a rule is on what calls gave.
     pub references: References,
 }
 
@@ -232,7 +232,7 @@ impl GuardState {
         if target_cause(&self.refused, &call.target).is_some() {
             return true;
         }
-        match self.references.marks_of(&call.target) {
+        match self.references.callee.marks_of(&call.target) {
             Some(marks) => rules.may_call(method) || rules.is_granted(marks, method),
             None => false,
         }

@@ -6,7 +6,7 @@ use crate::exchanges::playing::is_reported;
 use crate::exchanges::script::{UNREAD, push_text};
 use cp_connection::Connection;
 use cp_frame::Mode;
-use cp_dispatch::{DispatchEvent, Dispatcher};
+use cp_dispatch::{Dispatcher, SessionEvent};
 use cp_scripts::{Lines, event_of};
 use cp_servants::any_has_more;
 use cp_serve::{Report, ServeFault, serve_each};
@@ -238,7 +238,7 @@ impl Session {
     fn report(&mut self) -> Report {
         let tally = self.connection.stats();
         let closed = match self.owed.next() {
-            Some(DispatchEvent::Closed(reason)) => Some(reason),
+            Some(SessionEvent::Closed(reason)) => Some(reason),
             other => {
                 drop(other);
                 None

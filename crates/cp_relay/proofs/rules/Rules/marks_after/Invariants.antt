@@ -1,7 +1,0 @@
-use Rattle.std.proofs.Common.{◌≡◌, drop}
-use Rattle.cp_relay.specs.Rules.{marks_after}
-use Rattle.cp_relay.proofs.rules.Rules.marks_after.Given as goal
-
-abbrev pub invariant-loop-grant : goal.invariant-loop-grant
-invariant-loop-grant l =
-    marks_after l.method.interface l.method.method l.marks (drop l.grant-index l.self.grants.items) ≡ marks_after l.method.interface l.method.method 0 l.self.grants.items
