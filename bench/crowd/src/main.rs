@@ -3,15 +3,14 @@
 #![tactic(auto)]
 
 use anyhow::anyhow;
+use cp_dispatch::SessionEvent;
 use cp_frame::Mode;
 use cp_objects::{Context, LaterCall, Objects, Resolver, ServedObject};
 use cp_refs::{Cap, Caps, Outcome, Path, Request};
 use cp_servants::{
     OutgoingCall, PayloadBuilder, Reply, RequestView, Settled, named_imports, outcome_of,
 };
-use cp_session::{
-    CallingSession, DrivenSession, SessionEvent, SessionLimits, SessionOptions, SessionOver,
-};
+use cp_session::{CallingSession, DrivenSession, SessionLimits, SessionOptions, SessionOver};
 use cp_vat_machine::Ids;
 use cp_words::Limits;
 use std::alloc::{AllocError, Global};

@@ -3,7 +3,7 @@
 use crate::book::Book;
 use crate::fields::{names, naming, plain};
 use crate::model::Model;
-use cp_schema::{Interface, Method, Node};
+use cp_schema::{Interface, Method, Node, NodeKind};
 
 /// The number of `struct StreamResult` of stream.capnp, which methods with `-> stream` have for their results.
 const STREAM_RESULT: u64 = 0x995f_9a33_77c0_b16e;
@@ -26,6 +26,7 @@ pub fn interface<'m>(model: &mut Model<'m>, book: &'m Book<'_>, node: &'m Node, 
     model.close();
     supers(model, book, of);
     family(model, book, node);
+    streams(model, book, node);
 }
 
 /// Adds a method; `Err` says why it can't be written.
@@ -109,4 +110,36 @@ fn one_of_family<'m>(model: &mut Model<'m>, book: &'m Book<'_>, id: u64, is_exte
         model.number("extended", is_extended as u64);
         model.close();
     }
+}
+
+/// Adds the methods with `-> stream` of an interface, and of all that it extends.
+fn streams<'m>(model: &mut Model<'m>, book: &'m Book<'_>, node: &'m Node) {
+    model.list("streams");
+    let mut is_later = add_streams(model, book, node.id, false);
+    for id in book.supers(node.id) {
+        is_later = add_streams(model, book, *id, is_later);
+    }
+    model.close();
+}
+
+/// Adds those of one interface. Says whether there is one by then.
+fn add_streams<'m>(model: &mut Model<'m>, book: &'m Book<'_>, id: u64, mut is_later: bool) -> bool {
+    let Some(node) = book.schema.find(id) else {
+        return is_later;
+    };
+    if let NodeKind::Interface(of) = &node.kind {
+        for (number, it) in of.methods.iter().enumerate() {
+            if it.results == STREAM_RESULT {
+                model.record("");
+                model.numbers(&[
+                    ("id", id),
+                    ("number", number as u64),
+                    ("later", is_later as u64),
+                ]);
+                model.close();
+                is_later = true;
+            }
+        }
+    }
+    is_later
 }

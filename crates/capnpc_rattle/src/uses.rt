@@ -21,6 +21,7 @@ cp_interfaces.specs.Calls IsCall IsCallIf MakesOf request_naming request_of
 cp_interfaces.specs.Faults Unbuilt Unnamed
 cp_interfaces.specs.Promises Finds along promised_cap
 cp_interfaces.specs.ServiceCalls Answers
+cp_interfaces.specs.Streams no_streams with_stream
 cp_interfaces.specs.Tables IsFull are_of may_name may_name_all naming none_named
 ";
 
@@ -63,7 +64,7 @@ const CONSTANTS: [&str; 3] = [
 ];
 
 /// The words of the prelude, each with parts of a text that has it.
-const PRELUDE: [(&str, &[&str]); 27] = [
+const PRELUDE: [(&str, &[&str]); 28] = [
     ("ℕ", &["ℕ"]),
     ("◌≡◌", &[" ≡ "]),
     ("◌==◌", &[" == "]),
@@ -94,6 +95,7 @@ const PRELUDE: [(&str, &[&str]); 27] = [
     ("true", &["true ∷ ", "≡ true"]),
     ("false", &["false ∷ ", "≡ false"]),
     ("map", &["(map "]),
+    ("codes", &["(codes "]),
 ];
 
 /// The path of the sizes of elements.

@@ -3,7 +3,7 @@
 use crate::counted::Calls;
 use cp_commands::{FiguresFile, Service, count, push_counts, push_figure};
 use cp_connection::{ConnectionFault, ConnectionStats};
-use cp_session::Limit;
+use cp_dispatch::Limit;
 use cp_stream::Refusal;
 use cp_vat_machine::Reason;
 use net_host::{End, HostEvent, HostFigures};

@@ -70,13 +70,13 @@ module _ {H : Type 0} where
 module _ {H : Type 0} (table : ObjectTableKind H) where
   -- results of an outcome that was waited for, whose question was given up then
   pub takes_if : (old told new : Conversation H) (q session : ℕ) (outcome : Outcome) (result : Result ResultPayload CallError) → session ≡ told.number → Waits table old q outcome told
-      → IfOk result (λ r. Comes session outcome (Ok r)) → GivesUp told q new → IfOk result (λ r. TakesResults table old q r new)
+      → IfOk result (λ r. Comes session outcome (Ok r)) → GivesUp table told q new → IfOk result (λ r. TakesResults table old q r new)
   takes_if old told new q session outcome (Ok r) own waits comes up = (told, (subst (λ (o : Outcome). Waits table old q o told) comes.0 waits, comes.1 ∙ own), up)
   takes_if old told new q session outcome (Err fault) own waits comes up = tt
 
   -- or none
   pub takes_none_if : (old told new : Conversation H) (q session : ℕ) (outcome : Outcome) (result : Result ResultPayload CallError) → session ≡ told.number
-      → Waits table old q outcome told → IfErr result (λ fault. IsNone session outcome fault) → GivesUp told q new → IfErr result (λ fault. TakesNone table old q fault new)
+      → Waits table old q outcome told → IfErr result (λ fault. IsNone session outcome fault) → GivesUp table told q new → IfErr result (λ fault. TakesNone table old q fault new)
   takes_none_if old told new q session outcome (Ok r) own waits none up = tt
   takes_none_if old told new q session outcome (Err (faults.Client fault)) own waits none up = absurd none
   takes_none_if old told new q session outcome (Err (faults.NoResults reason)) own waits none up =

@@ -1,12 +1,11 @@
 -- How many events a session may have left to tell, and what a client knows whose questions are the same.
 use Rattle.std.proofs.Common.{◌≡◌, ◌∙◌, ◌<◌, ◌≤◌, ◌+◌, ℕ, Bool, true, false, if◌then◌else◌, Option, Some, None, refl, sym, ap, subst, length, arith, is_none, true≢false}
 use Rattle.cp_connection.specs.declared.fault.ConnectionFault.{ConnectionFault}
-use Rattle.cp_dispatch.specs.declared.event.DispatchEvent.{DispatchEvent}
+use Rattle.cp_dispatch.specs.declared.event.SessionEvent.{SessionEvent}
 use Rattle.cp_dispatch.specs.Rounds.{HandsOver}
 use Rattle.cp_dispatch.specs.Work.{Work}
-use Rattle.cp_session.specs.declared.event.SessionEvent.{SessionEvent}
-use Rattle.cp_session.specs.declared.event.SessionEvent.TheVariants as told
-use Rattle.cp_session.specs.declared.progress.Limit.{Limit}
+use Rattle.cp_dispatch.specs.declared.event.SessionEvent.TheVariants as told
+use Rattle.cp_dispatch.specs.declared.event.Limit.{Limit}
 use Rattle.cp_session.specs.declared.progress.Phase.{Phase}
 use Rattle.cp_session.specs.declared.progress.Phase.TheVariants as phases
 use Rattle.cp_session.specs.Doing.{Tells, ending_by, fault_of, knows_by, told_of}
@@ -25,7 +24,10 @@ events_left state = length state.service.work.notices + untold state.progress.is
 
 -- what is known stays known
 untold_then : (event : SessionEvent) (b : Bool) → untold (knows_by (Some event) b) ≤ untold b
-untold_then (told.Outcome question outcome) b = omega arith
+untold_then (told.Outcome question outcome) true = omega arith
+untold_then (told.Outcome question outcome) false = omega arith
+untold_then told.Restless true = omega arith
+untold_then told.Restless false = omega arith
 untold_then (told.Closed reason) true = omega arith
 untold_then (told.Closed reason) false = omega arith
 untold_then (told.Fault fault) true = omega arith
@@ -46,7 +48,7 @@ last_told false None None phases.Serving event is = absurd (true≢false (sym (a
 last_told false None None phases.Ending event is = absurd (true≢false (sym (ap is_none is)))
 last_told false None None (phases.Draining since) event is = absurd (true≢false (sym (ap is_none is)))
 
-fewer_by : {H : Type 0} (old new : State H) (event : SessionEvent) (notice : Option DispatchEvent) (work : Work) → HandsOver old.service.work notice work → Some event ≡ told_of old notice
+fewer_by : {H : Type 0} (old new : State H) (event : SessionEvent) (notice : Option SessionEvent) (work : Work) → HandsOver old.service.work notice work → Some event ≡ told_of old notice
     → events_left new ≡ length work.notices + untold (knows_by (Some event) old.progress.is_told) → events_left new < events_left old
 fewer_by old new event (Some notice) work hands is left = omega (arith, ap length hands.0, untold_then event old.progress.is_told, left)
 fewer_by old new event None work hands is left =

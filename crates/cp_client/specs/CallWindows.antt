@@ -50,7 +50,7 @@ module _ {H : Type 0} (table : ObjectTableKind H) where
     pub results : ComesTo outcome None
     pub told : Conversation H
     pub waits : Waits table old q outcome told
-    pub finishes : Finishes told q new
+    pub finishes : Finishes table told q new
 
   -- these questions ended, one after another
   abbrev pub EndsEach : Conversation H → List ℕ → Conversation H → Type 0
@@ -62,7 +62,7 @@ module _ {H : Type 0} (table : ObjectTableKind H) where
   pub data IsUnended (asked : List ℕ) (old : Conversation H) (q : ℕ) (fault : CallError) (left : List ℕ) (new : Conversation H) : Type 0 where
     untold : (f : ClientFault) → fault ≡ faults.Client f → left ≡ asked → Stops table old q f new → IsUnended asked old q fault left new
     failed : (reason : NoResults) (outcome : Outcome) (told : Conversation H) → fault ≡ faults.NoResults reason → left ≡ drop 1 asked → Waits table old q outcome told
-        → ComesTo outcome (Some reason) → Finishes told q new → IsUnended asked old q fault left new
+        → ComesTo outcome (Some reason) → Finishes table told q new → IsUnended asked old q fault left new
     unfinished : (f : ClientFault) (outcome : Outcome) (told : Conversation H) → fault ≡ faults.Client f → left ≡ drop 1 asked → Waits table old q outcome told
         → IsUndone told (events.Finish q) f new → IsUnended asked old q fault left new
 

@@ -38,13 +38,6 @@ module _ {H : Type 0} where
   abbrev pub IsUndone : Conversation H → Event → ClientFault → Conversation H → Type 0
   IsUndone old event fault new = (f : ConnectionFault) × (fault ≡ client_faults.Connection f) × Did old event (Err f) old.asked new
 
-  -- A question was given up, and its outcome isn't waited for. What an outcome named that came and wasn't given out is given back.
-  pub record Finishes (old : Conversation H) (q : ℕ) (new : Conversation H) : Type 0 where
-    pub finished : State H
-    pub finishes : sessions.FinishesQuestion q old.session finished
-    pub releases : sessions.ReleasesUntaken (untaken old.asked q) finished new.session
-    pub same : new ≡ record old { session = new.session; asked = remove old.asked q }
-
   -- The program gave an import back, and this came of it. Nothing else was done.
   abbrev pub GivesBack : Conversation H → ℕ → Result Value ConnectionFault → Conversation H → Type 0
   GivesBack old import result new = sessions.GivesBack import old.session result new.session × (new ≡ record old { session = new.session })
@@ -67,6 +60,14 @@ KeepsRest old new = sessions.KeepsRest old.session new.session × (new ≡ recor
 
 -- Of objects of one table.
 module _ {H : Type 0} (table : ObjectTableKind H) where
+  -- A question was given up, and its outcome isn't waited for. What an outcome named that came and wasn't given out is given back. An object
+  -- of the client's that is to answer it is told.
+  pub record Finishes (old : Conversation H) (q : ℕ) (new : Conversation H) : Type 0 where
+    pub finished : State H
+    pub finishes : sessions.FinishesQuestion table q old.session finished
+    pub releases : sessions.ReleasesUntaken (untaken old.asked q) finished new.session
+    pub same : new ≡ record old { session = new.session; asked = remove old.asked q }
+
   -- an object is woken, and nothing else is done
   abbrev pub Wakes : ℕ → Conversation H → Conversation H → Type 0
   Wakes object old new = sessions.Wakes table object old.session new.session × (new ≡ record old { session = new.session })

@@ -28,14 +28,14 @@ GivesNone table old q (faults.Client fault) new = Stops table old q fault new
 GivesNone table old q (faults.NoResults reason) new = (outcome : Outcome) × Waits table old q outcome new × Comes new.number outcome (Err reason)
 
 -- a question was given up, unless the connection refuses that
-abbrev pub GivesUp : {H : Type 0} → Conversation H → ℕ → Conversation H → Type 0
-GivesUp old q new = Finishes old q new ⊎ ((fault : ClientFault) × IsUndone old (events.Finish q) fault new)
+abbrev pub GivesUp : {H : Type 0} → ObjectTableKind H → Conversation H → ℕ → Conversation H → Type 0
+GivesUp table old q new = Finishes table old q new ⊎ ((fault : ClientFault) × IsUndone old (events.Finish q) fault new)
 
--- The results of a question are given out, and then it was given up.
+-- So are they, and then the question was given up.
 abbrev pub TakesResults : {H : Type 0} → ObjectTableKind H → Conversation H → ℕ → ResultPayload → Conversation H → Type 0
-TakesResults table old q r new = (told : Conversation _) × GivesResults table old q r told × GivesUp told q new
+TakesResults table old q r new = (told : Conversation _) × GivesResults table old q r told × GivesUp table told q new
 
 -- No outcome is given out; or one is that is no results, and then its question was given up.
 abbrev pub TakesNone : {H : Type 0} → ObjectTableKind H → Conversation H → ℕ → CallError → Conversation H → Type 0
 TakesNone table old q (faults.Client fault) new = Stops table old q fault new
-TakesNone table old q (faults.NoResults reason) new = (told : Conversation _) × GivesNone table old q (faults.NoResults reason) told × GivesUp told q new
+TakesNone table old q (faults.NoResults reason) new = (told : Conversation _) × GivesNone table old q (faults.NoResults reason) told × GivesUp table told q new

@@ -3,8 +3,8 @@ use Rattle.std.specs.Prelude.{◌≡◌, ℕ, Option, Some, None}
 use Rattle.cp_refs.specs.declared.outcome.Outcome.{Outcome}
 use Rattle.cp_tables.specs.Table.{with_change}
 use Rattle.cp_vat_machine.specs.declared.effect.Reason.{Reason}
-use Rattle.cp_session.specs.declared.event.SessionEvent.{SessionEvent}
-use Rattle.cp_session.specs.declared.event.SessionEvent.TheVariants as told
+use Rattle.cp_dispatch.specs.declared.event.SessionEvent.{SessionEvent}
+use Rattle.cp_dispatch.specs.declared.event.SessionEvent.TheVariants as told
 use Rattle.cp_session.specs.Doing.{Tells}
 use Rattle.cp_session.specs.State.{State}
 use Rattle.cp_client.specs.Conversation.{Asked, Conversation}

@@ -87,7 +87,7 @@ module _ {H : Type 0} (table : ObjectTableKind H) where
     pub given : Conversation H
     pub asks : Asks old (events.Call cap request) q called
     pub waits : Waits called q outcome given
-    pub finishes : Finishes given q new
+    pub finishes : Finishes table given q new
 
   -- Why a call isn't answered: it isn't made; or its outcome isn't given out; or that was, and is lost, since its question can't be given up.
   pub data IsUnanswered (old : Conversation H) (cap : Cap) (request : Request) (fault : ClientFault) (new : Conversation H) : Type 0 where

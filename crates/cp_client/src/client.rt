@@ -24,12 +24,11 @@ use crate::piece::Piece;
 use crate::question::Question;
 use crate::questions::Questions;
 use cp_connection::{ConnectionFault, ConnectionStats};
+use cp_dispatch::SessionEvent;
 use cp_frame::Mode;
 use cp_objects::{Objects, ServedObject, SessionCap, Waker};
 use cp_refs::{Cap, Outcome, Request};
-use cp_session::{
-    CallingSession, DrivenSession, Session, SessionEvent, SessionLimits, SessionOptions,
-};
+use cp_session::{CallingSession, DrivenSession, Session, SessionLimits, SessionOptions};
 use cp_stream::{DeviceError, Tap};
 use cp_vat_machine::Reason;
 use cp_words::Limits;
@@ -279,10 +278,10 @@ impl<R: Read + Drop, W: Write + Drop, S: CallingSession> SessionClient<R, W, S> 
         }
     }
 
-    /// Gives a question up, before or after its outcome. What an outcome names that came and wasn't given out is given back. Refused as
-    /// `Vat::finish`.
+    /// Gives a question up, before or after its outcome. What an outcome names that came and wasn't given out is given back. An object of
+    /// the client's that is to answer it is told (`ServedObject::on_cancel`). Refused as `Vat::finish`.
     pub fn finish(&mut self, question: Question) -> Result<(), ClientFault>
-        ensures finishes { let at = seen S.state R.remaining W.contents in OnOk result (Finishes (at self.old) question.number (at self.new)) }
+        ensures finishes { let at = seen S.state R.remaining W.contents in OnOk result (Finishes S.table (at self.old) question.number (at self.new)) }
         ensures undone { let at = seen S.state R.remaining W.contents in IfErr result (λ f. IsUndone (at self.old) (events.Finish question.number) f (at self.new)) }
     {
         self.session.finish(question.number)?;
@@ -504,6 +503,7 @@ impl<R: Read + Drop, W: Write + Drop, S: CallingSession> SessionClient<R, W, S> 
         match event {
             SessionEvent::Outcome { question, outcome } => self.questions.come(question, outcome),
             SessionEvent::Closed(reason) => self.closed = Some(reason),
+            SessionEvent::Restless => {}
             SessionEvent::Fault(_) => {}
             SessionEvent::Limit(_) => {}
             SessionEvent::Ended => {}

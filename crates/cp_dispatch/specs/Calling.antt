@@ -13,7 +13,7 @@ use Rattle.cp_connection.specs.Link.{Link}
 use Rattle.cp_connection.specs.Doing.{Acts}
 use Rattle.cp_objects.specs.ObjectTable.{ObjectTableKind}
 use Rattle.cp_dispatch.specs.declared.question_owner.QuestionOwner.{QuestionOwner}
-use Rattle.cp_dispatch.specs.declared.event.DispatchEvent.TheVariants as notices
+use Rattle.cp_dispatch.specs.declared.event.SessionEvent.TheVariants as notices
 use Rattle.cp_servants.specs.declared.servant.OutgoingCall.{OutgoingCall}
 use Rattle.cp_servants.specs.declared.servant.Settled.{Settled}
 use Rattle.cp_servants.specs.Outcomes.{refused_call}
@@ -32,7 +32,7 @@ pub data Settles (means : Outcome → Outcome) (old : Work) : Option Settled →
 
 -- An outcome is noted for the program, which is given what it names.
 abbrev pub NotesOutcome : ℕ → Outcome → Work → Work → Type 0
-NotesOutcome question outcome old new = (given : Work) × IsGiven (caps_of outcome) old given × Notes (notices.Settled question outcome) given new
+NotesOutcome question outcome old new = (given : Work) × IsGiven (caps_of outcome) old given × Notes (notices.Outcome question outcome) given new
 
 module _ {H : Type 0} (table : ObjectTableKind H) where
   -- there is no object of this number

@@ -9,8 +9,8 @@ use Rattle.cp_connection.specs.declared.event.ConnectionEvent.TheVariants as hap
 use Rattle.cp_connection.specs.Link.{Link}
 use Rattle.cp_connection.specs.Receiving.{HandsOut}
 use Rattle.cp_objects.specs.ObjectTable.{ObjectTableKind}
-use Rattle.cp_dispatch.specs.declared.event.DispatchEvent.{DispatchEvent}
-use Rattle.cp_dispatch.specs.declared.event.DispatchEvent.TheVariants as notices
+use Rattle.cp_dispatch.specs.declared.event.SessionEvent.{SessionEvent}
+use Rattle.cp_dispatch.specs.declared.event.SessionEvent.TheVariants as notices
 use Rattle.cp_servants.specs.declared.servant.Reply.{Reply}
 use Rattle.cp_servants.specs.declared.servant.Reply.TheVariants as replies
 use Rattle.cp_servants.specs.declared.servant.Settled.{Settled}
@@ -66,6 +66,6 @@ module _ {H : Type 0} (table : ObjectTableKind H) where
         → GivesUpBeside mid given between left → Releases given released → WorksOff released new left others → Rounds old gave new objects others
 
 -- the first event that wasn't taken is handed out, if there is one
-abbrev pub HandsOver : Work → Option DispatchEvent → Work → Type 0
+abbrev pub HandsOver : Work → Option SessionEvent → Work → Type 0
 HandsOver old (Some first) new = (old.notices ≡ first ∷ new.notices) × (new ≡ record old { notices = new.notices })
 HandsOver old None new = (old.notices ≡ []) × (new ≡ old)

@@ -19,7 +19,7 @@ use Rattle.cp_connection.specs.Link.{Link}
 use Rattle.cp_connection.specs.Doing.{Acts}
 use Rattle.cp_connection.specs.Lives.{Life}
 use Rattle.cp_dispatch.specs.declared.question_owner.QuestionOwner.{QuestionOwner}
-use Rattle.cp_dispatch.specs.declared.event.DispatchEvent.{DispatchEvent}
+use Rattle.cp_dispatch.specs.declared.event.SessionEvent.{SessionEvent}
 use Rattle.cp_servants.specs.declared.servant.Reply.{Reply}
 use Rattle.cp_servants.specs.declared.servant.Reply.TheVariants as replies
 use Rattle.cp_servants.specs.Outcomes.{bad_outcome, named_imports}
@@ -39,7 +39,7 @@ pub record Work : Type 0 where
   pub held : Table ℕ
   pub given : Table ℕ
   pub given_up : List ℕ
-  pub notices : List DispatchEvent
+  pub notices : List SessionEvent
 
 -- nothing is owed yet
 abbrev pub begun : Bool → Link → Work
@@ -50,7 +50,7 @@ abbrev pub Lives : Link → Link → Type 0
 Lives old new = (handed : List ConnectionEvent) × Life old [] [] handed new
 
 -- an event more wasn't taken
-abbrev pub Notes : DispatchEvent → Work → Work → Type 0
+abbrev pub Notes : SessionEvent → Work → Work → Type 0
 Notes notice old new = new ≡ record old { notices = old.notices ++ notice ∷ [] }
 
 -- An object is given these capabilities. Where objects may call, each import that they name has a holder more.

@@ -12,7 +12,7 @@ ghost use Rattle.cp_dispatch.specs.WorkOf.{work_of};
 
 use crate::answers::{answer, finish};
 use crate::dispatcher::{Dispatcher, has_ended};
-use crate::event::DispatchEvent;
+use crate::event::SessionEvent;
 use crate::keyed::key_at;
 use crate::promise_requests::with_promise_requests_kept;
 use crate::question_owner::QuestionOwner;
@@ -247,6 +247,6 @@ impl Dispatcher {
             drop(outcome);
             return Err(error);
         }
-        self.note(DispatchEvent::Settled { question, outcome })
+        self.note(SessionEvent::Outcome { question, outcome })
     }
 }

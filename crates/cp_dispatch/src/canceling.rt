@@ -37,8 +37,9 @@ impl Dispatcher {
         Some(origin)
     }
 
-    /// Where the answer is owed of a call that is given up, its object is told, once, and what follows of that is worked off.
-    pub(crate) fn cancel<H: ObjectTable>(
+    /// Where the answer is owed of a call that is given up, its object is told, once, and what follows of that is worked off. `receive` does
+    /// so for the peer's calls. Do it for a call of yours once you `finish`ed its question and got no outcome.
+    pub fn cancel<H: ObjectTable>(
         &mut self,
         connection: &mut Connection,
         objects: &mut H,

@@ -14,7 +14,7 @@ ghost use Rattle.cp_dispatch.specs.Receiving.{HandlesLent, IsCutShort, Receives,
 ghost use Rattle.cp_dispatch.specs.WorkOf.{work_of};
 
 use crate::canceling::answer_given_up;
-use crate::event::{DispatchEvent, event_memory};
+use crate::event::{SessionEvent, event_memory};
 use crate::holders::ImportHolders;
 use crate::idle::forget_unknown;
 use crate::incoming::IncomingCall;
@@ -112,7 +112,7 @@ pub struct Dispatcher {
     /// The imports that objects gave up and that none held then, until they are released.
     pub(crate) given_up: Vec<u32>,
     /// What is no object's business, in order.
-    pub(crate) notices: VecDeque<DispatchEvent>,
+    pub(crate) notices: VecDeque<SessionEvent>,
 }
 
 // Not derived: a crate that lets one go calls this function, and need not prove the drop of all that it holds.
@@ -295,14 +295,14 @@ impl Dispatcher {
     }
 
     /// Hands out the first event that wasn't taken.
-    pub fn next(&mut self) -> Option<DispatchEvent>
+    pub fn next(&mut self) -> Option<SessionEvent>
         ensures { (link : Link) → HandsOver (work_of self.old link) result (work_of self.new link) }
     {
         self.notices.pop_front()
     }
 
-    /// Adds an event.
-    pub(crate) fn note(&mut self, notice: DispatchEvent) -> Result<(), AllocError>
+    /// Adds an event. Yours are for events that a connection doesn't know of.
+    pub fn note(&mut self, notice: SessionEvent) -> Result<(), AllocError>
         ensures { OnOk result ((link : Link) → Notes notice (work_of self.old link) (work_of self.new link)) }
     {
         self.notices.push_back(notice)?;
@@ -367,7 +367,7 @@ impl Dispatcher {
             ConnectionEvent::Settled { question, outcome } => {
                 self.hand_back(connection, objects, question, outcome)
             }
-            ConnectionEvent::Closed(reason) => self.note(DispatchEvent::Closed(reason)),
+            ConnectionEvent::Closed(reason) => self.note(SessionEvent::Closed(reason)),
         }
     }
 

@@ -17,5 +17,5 @@ mod promise_requests;
 mod question_owner;
 
 pub use dispatcher::Dispatcher;
-pub use event::DispatchEvent;
+pub use event::{Limit, SessionEvent};
 pub use laws::waits_in_order;

@@ -7,7 +7,7 @@ use Rattle.cp_servants.specs.declared.servant.Reply.{Reply}
 use Rattle.cp_interfaces.specs.declared.call.MethodCall.{MethodCall}
 use Rattle.cp_interfaces.specs.declared.fault.MethodFault.{MethodFault}
 use Rattle.cp_interfaces.specs.declared.fault.MethodFault.TheVariants as faults
-use Rattle.cp_interfaces.specs.Replies.{refusal_of}
+use Rattle.cp_interfaces.specs.Replies.{failing, no_method, refusal_of}
 
 -- What a method makes of an object, a call, its params, the reply that goes to the peer, and the object then.
 abbrev pub Method : Type 0 → Type 1
@@ -26,9 +26,10 @@ IsElsewhere (interface ∷ more) call = (call.request.interface ≢ interface) �
 abbrev pub Fails : {S : Type 0} → MethodFault → S → MethodCall → Reply → S → Type 0
 Fails fault old call reply new = (refusal_of call.request.caps fault ≡ Some reply) × (new ≡ old)
 
--- a call that no method takes is answered unimplemented, and the object is as it was
-abbrev pub Refuses : {S : Type 0} → S → MethodCall → Reply → S → Type 0
-Refuses old call reply new = Fails faults.Unimplemented old call reply new
+-- a call that no method takes of the interface of this title is answered unimplemented, and the object is as it was
+abbrev pub Refuses : {S : Type 0} → List ℕ → S → MethodCall → Reply → S → Type 0
+Refuses title old call reply new =
+    (failing call.request.caps (Some (no_method title call.request.interface call.request.method)) ≡ Some reply) × (new ≡ old)
 
 -- a call with these params was passed on to a method; params that are no struct fail it
 abbrev pub PassesTo : {S : Type 0} → Method S → S → MethodCall → Result Node WrongKind → Reply → S → Type 0

@@ -6,6 +6,7 @@ pub mod Promises
 pub mod Calls
 pub mod Payloads
 pub mod Services
+pub mod Streams
 pub mod Resolvers
 pub mod ServiceCalls
 pub mod Lists

@@ -1,5 +1,6 @@
 -- What goes to a peer for what a method answered.
-use Rattle.std.specs.Prelude.{ℕ, ◌==◌, if◌then◌else◌, List, [], ◌∷◌, ◌++◌, Option, Some, None, codes}
+use Rattle.std.specs.Prelude.{ℕ, ◌==◌, if◌then◌else◌, false, List, [], ◌∷◌, ◌++◌, Option, Some, None, codes, decimal}
+use Rattle.std.specs.Fmt.{digits}
 use Rattle.std.specs.List.{list_any}
 use Rattle.cp_messages.specs.declared.exception.Exception.{Exception}
 use Rattle.cp_messages.specs.declared.exception.ExceptionKind.TheVariants as kinds
@@ -55,6 +56,13 @@ exception_for faults.OutOfRange = Some (exception_of kinds.Failed (codes "a numb
 exception_for faults.InUse = Some (exception_of kinds.Failed (codes "what is shared is in use"))
 exception_for faults.OtherSession = Some (exception_of kinds.Failed (codes "a reference of another connection"))
 exception_for faults.OutOfMemory = None
+
+-- the exception with which an object of an interface answers a call of a method that it doesn't have: it names all three
+abbrev pub no_method : List ℕ → ℕ → ℕ → Exception
+no_method title interface method =
+    exception_of
+    kinds.Unimplemented
+    (codes "no such method: " ++ (title ++ (codes " has no method " ++ (decimal method ++ (codes " of interface 0x" ++ digits 16 false interface)))))
 
 -- imports, and one more after them, if there is one
 abbrev pub with_import : Option ℕ → List ℕ → List ℕ

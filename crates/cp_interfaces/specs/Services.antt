@@ -60,15 +60,3 @@ taking takes kind = record kind {
   on_cancel = λ old ticket before after new. OnCancel kind (record { object = old; place = before }) ticket (record { object = new; place = after });
   ends = λ old before after new. HasEnd kind (record { object = old; place = before }) (record { object = new; place = after });
 }
-
--- the kind of objects that do what their kind says as they are seen
-abbrev pub seen_as : {A B M : Type 0} → (A → B) → ServedObjectKind B M → ServedObjectKind A M
-seen_as seen kind = record {
-  takes = λ old ticket request before reply after new. kind.takes (seen old) ticket request before reply after (seen new);
-  polls = λ old before given after new. kind.polls (seen old) before given after (seen new);
-  next_calls = λ old before next_call after new. kind.next_calls (seen old) before next_call after (seen new);
-  on_response = λ old call_id outcome before after new. kind.on_response (seen old) call_id outcome before after (seen new);
-  on_cancel = λ old ticket before after new. kind.on_cancel (seen old) ticket before after (seen new);
-  ends = λ old before after new. kind.ends (seen old) before after (seen new);
-  says_more = λ more object. kind.says_more more (seen object);
-}

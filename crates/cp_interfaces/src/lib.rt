@@ -39,7 +39,7 @@ pub use no_fields::{NoFieldsBuilder, NoFieldsPipeline, NoFieldsReader};
 pub use object::ServiceObject;
 pub use payload::{ResultPayload, payload_of};
 pub use pipeline::Pipeline;
-pub use replies::{given_up, refuse, reply};
+pub use replies::{given_up, refuse, refuse_method, reply};
 pub use resolving::{TypedResolver, fail};
 pub use results::Results;
 pub use served::{Dispatch, ObjectDispatch};

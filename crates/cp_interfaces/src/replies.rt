@@ -2,11 +2,12 @@
 
 ghost use Rattle.std.specs.Prelude.{◌≡◌, Some, IfOk, OnOk};
 ghost use Rattle.cp_servants.specs.declared.servant.Reply.TheVariants.{Now};
-ghost use Rattle.cp_interfaces.specs.Replies.{refusal_of, given_up, noted_but};
+ghost use Rattle.cp_interfaces.specs.Replies.{failing, no_method, refusal_of, given_up, noted_but};
 
 use crate::call::MethodCall;
 use crate::fault::MethodFault;
 use cp_refs::{Cap, Caps, Outcome};
+use cp_rpc::{Exception, ExceptionKind, Text};
 use cp_servants::Reply;
 use cp_vat_machine::Ids;
 use std::alloc::{AllocError, Global};
@@ -33,6 +34,38 @@ pub fn refuse(alloc: Global, call: &MethodCall<'_>, fault: MethodFault) -> Resul
 {
     let outcome = Outcome::Failed(fault.exception(alloc)?);
     reply(alloc, call, outcome, &Ids::new(Vec::new(alloc)))
+}
+
+/// What goes to the peer for a call of a method that the interface of this title doesn't have. `Err`: memory ran out.
+pub fn refuse_method(alloc: Global, call: &MethodCall<'_>, title: &str) -> Result<Reply, AllocError>
+    ensures { IfOk result (λ reply. failing call.now.request.caps (Some (no_method title.now call.now.request.interface call.now.request.method)) ≡ Some reply) }
+{
+    let outcome = Outcome::Failed(no_method(
+        alloc,
+        title,
+        call.request.interface,
+        call.request.method,
+    )?);
+    reply(alloc, call, outcome, &Ids::new(Vec::new(alloc)))
+}
+
+/// The exception of such a call.
+fn no_method(
+    alloc: Global,
+    title: &str,
+    interface: u64,
+    method: u16,
+) -> Result<Exception, AllocError>
+    ensures { IfOk result (λ e. e ≡ no_method title.now interface method) }
+{
+    let reason = format!(in alloc;
+        "no such method: {title} has no method {method} of interface 0x{interface:x}"
+    )?;
+    Ok(Exception {
+        kind: ExceptionKind::Unimplemented,
+        reason: Text::new(reason),
+        trace: Text::new(String::new(alloc)),
+    })
 }
 
 /// The imports that a table names, each once, but for those that are kept.

@@ -54,8 +54,8 @@ use Rattle.cp_servants.specs.Outcomes.{bad_outcome, no_such_object}
 use Rattle.cp_servants.specs.Servant.{Kind}
 use Rattle.cp_objects.specs.Listed.{listed}
 use Rattle.cp_dispatch.specs.declared.question_owner.QuestionOwner.{QuestionOwner}
-use Rattle.cp_dispatch.specs.declared.event.DispatchEvent.{DispatchEvent}
-use Rattle.cp_dispatch.specs.declared.event.DispatchEvent.TheVariants as notices
+use Rattle.cp_dispatch.specs.declared.event.SessionEvent.{SessionEvent}
+use Rattle.cp_dispatch.specs.declared.event.SessionEvent.TheVariants as notices
 use Rattle.cp_dispatch.specs.Work as objects
 use Rattle.cp_dispatch.specs.Calling as calling
 use Rattle.cp_dispatch.specs.GivingUp as giving_up
@@ -169,24 +169,40 @@ was_shut s new origin outcome all (step.refused event still does) = absurd (answ
 
 -- ---- why the vat closed, as events say
 
-reason_settled : (ns : List DispatchEvent) (q : ℕ) (outcome : Outcome) → reason_in (ns ++ notices.Settled q outcome ∷ []) ≡ reason_in ns
+reason_settled : (ns : List SessionEvent) (q : ℕ) (outcome : Outcome) → reason_in (ns ++ notices.Outcome q outcome ∷ []) ≡ reason_in ns
 reason_settled [] q outcome = refl
-reason_settled (notices.Settled p other ∷ ns) q outcome = reason_settled ns q outcome
+reason_settled (notices.Outcome p other ∷ ns) q outcome = reason_settled ns q outcome
 reason_settled (notices.Closed reason ∷ ns) q outcome = refl
+reason_settled (notices.Restless ∷ ns) q outcome = reason_settled ns q outcome
+reason_settled (notices.Fault fault ∷ ns) q outcome = reason_settled ns q outcome
+reason_settled (notices.Limit limit ∷ ns) q outcome = reason_settled ns q outcome
+reason_settled (notices.Ended ∷ ns) q outcome = reason_settled ns q outcome
 
-reason_closed : (ns : List DispatchEvent) (reason : Reason) → reason_in ns ≡ None → reason_in (ns ++ notices.Closed reason ∷ []) ≡ Some reason
+reason_closed : (ns : List SessionEvent) (reason : Reason) → reason_in ns ≡ None → reason_in (ns ++ notices.Closed reason ∷ []) ≡ Some reason
 reason_closed [] reason h = refl
-reason_closed (notices.Settled q outcome ∷ ns) reason h = reason_closed ns reason h
+reason_closed (notices.Outcome q outcome ∷ ns) reason h = reason_closed ns reason h
 reason_closed (notices.Closed other ∷ ns) reason h = none_out (sym h)
+reason_closed (notices.Restless ∷ ns) reason h = reason_closed ns reason h
+reason_closed (notices.Fault fault ∷ ns) reason h = reason_closed ns reason h
+reason_closed (notices.Limit limit ∷ ns) reason h = reason_closed ns reason h
+reason_closed (notices.Ended ∷ ns) reason h = reason_closed ns reason h
 
 -- the first event says so, or the others do
-pub reason_first : (n : DispatchEvent) (more : List DispatchEvent) (reason : Reason) → Some reason ≡ reason_in (n ∷ []) → Some reason ≡ reason_in (n ∷ more)
-reason_first (notices.Settled q outcome) more reason e = none_out (sym e)
+pub reason_first : (n : SessionEvent) (more : List SessionEvent) (reason : Reason) → Some reason ≡ reason_in (n ∷ []) → Some reason ≡ reason_in (n ∷ more)
+reason_first (notices.Outcome q outcome) more reason e = none_out (sym e)
 reason_first (notices.Closed other) more reason e = e
+reason_first notices.Restless more reason e = none_out (sym e)
+reason_first (notices.Fault fault) more reason e = none_out (sym e)
+reason_first (notices.Limit limit) more reason e = none_out (sym e)
+reason_first notices.Ended more reason e = none_out (sym e)
 
-pub reason_later : (n : DispatchEvent) (more : List DispatchEvent) → None ≡ reason_in (n ∷ []) → reason_in (n ∷ more) ≡ reason_in more
-reason_later (notices.Settled q outcome) more e = refl
+pub reason_later : (n : SessionEvent) (more : List SessionEvent) → None ≡ reason_in (n ∷ []) → reason_in (n ∷ more) ≡ reason_in more
+reason_later (notices.Outcome q outcome) more e = refl
 reason_later (notices.Closed other) more e = none_out e
+reason_later notices.Restless more e = refl
+reason_later (notices.Fault fault) more e = refl
+reason_later (notices.Limit limit) more e = refl
+reason_later notices.Ended more e = refl
 
 -- ---- what is left to be worked off
 
@@ -254,7 +270,7 @@ module _ (base : Link) (w : Work) (o : objects.Work) (h : Matches base w o) wher
   }
 
   -- effects were worked off
-  worked : (es : List Effect) (sent : List Message) (c : Option Reason) (hs : List ConnectionEvent) (ns : List DispatchEvent) → hs ≡ happening_by es → sent ++ sent_of es ≡ w.sent ++ sent_of w.effects
+  worked : (es : List Effect) (sent : List Message) (c : Option Reason) (hs : List ConnectionEvent) (ns : List SessionEvent) → hs ≡ happening_by es → sent ++ sent_of es ≡ w.sent ++ sent_of w.effects
       → ClosesBy c es w.vat.is_closed → is_over c es ≡ is_over w.closed w.effects → reason_in ns ≡ c
       → Matches base (record w { effects = es; sent = sent; closed = c }) (record o { link = record o.link { happened = hs }; notices = ns })
   worked es sent c hs ns happens all closes_by over reason = record {
@@ -614,10 +630,10 @@ module _ {base : Link} {o : objects.Work} (first : ConnectionEvent) (link : Link
         here : Matches base (record v { effects = rest }) (record o { link = link })
         here = one_taken (effects.Settled q outcome) rest e refl refl tails
 
-        noted_alone : calling.NotesOutcome q outcome (record o { link = link }) mid → mid ≡ record o { link = link; notices = o.notices ++ notices.Settled q outcome ∷ [] }
+        noted_alone : calling.NotesOutcome q outcome (record o { link = link }) mid → mid ≡ record o { link = link; notices = o.notices ++ notices.Outcome q outcome ∷ [] }
         noted_alone notes =
             notes.2
-            ∙ ap (λ (x : objects.Work). record x { notices = x.notices ++ notices.Settled q outcome ∷ [] }) (gives_unnoted (caps_of outcome) (record o { link = link }) h.none_call notes.1)
+            ∙ ap (λ (x : objects.Work). record x { notices = x.notices ++ notices.Outcome q outcome ∷ [] }) (gives_unnoted (caps_of outcome) (record o { link = link }) h.none_call notes.1)
 
         by : calling.HandsBack (listed kind) q outcome (record o { link = link }) mid seen between → Acted kind base v mid seen between
         by (calling.to_user none notes same) = (
@@ -627,7 +643,7 @@ module _ {base : Link} {o : objects.Work} (first : ConnectionEvent) (link : Link
           e,
           (refl, ap (λ (v : Vec A). v.items) same),
           subst (λ (x : objects.Work). Matches base (record v { effects = rest }) x) (sym (noted_alone notes))
-              (worked base (record v { effects = rest }) (record o { link = link }) here rest v.sent v.closed link.happened (o.notices ++ notices.Settled q outcome ∷ []) tails refl here.closes_by refl
+              (worked base (record v { effects = rest }) (record o { link = link }) here rest v.sent v.closed link.happened (o.notices ++ notices.Outcome q outcome ∷ []) tails refl here.closes_by refl
               (reason_settled o.notices q outcome ∙ here.reason)),
         )
         by (calling.to_object owner other got done hears calls) = none_out (sym (get-empty nat_cmp q) ∙ ap (λ (t : Table QuestionOwner). get t q) (sym h.none_asked) ∙ got)

@@ -11,16 +11,16 @@ use Rattle.cp_connection.specs.declared.fault.ConnectionFault.TheVariants as fau
 use Rattle.cp_connection.specs.Counting.{CountsMore}
 use Rattle.cp_connection.specs.Effects.{happening_by, AreFramesOf}
 use Rattle.cp_connection.specs.Link.{Link}
-use Rattle.cp_dispatch.specs.declared.event.DispatchEvent.{DispatchEvent}
-use Rattle.cp_dispatch.specs.declared.event.DispatchEvent.TheVariants as notices
+use Rattle.cp_dispatch.specs.declared.event.SessionEvent.{SessionEvent}
+use Rattle.cp_dispatch.specs.declared.event.SessionEvent.TheVariants as notices
 use Rattle.cp_dispatch.specs.Work as objects
 use Rattle.cp_serve.specs.Work.{Work}
 
 -- why the vat closed, if an event says so
-abbrev pub reason_in : List DispatchEvent → Option Reason
+abbrev pub reason_in : List SessionEvent → Option Reason
 reason_in [] = None
-reason_in (notices.Settled q outcome ∷ more) = reason_in more
 reason_in (notices.Closed reason ∷ more) = Some reason
+reason_in (other ∷ more) = reason_in more
 
 -- why a connection ended, whose memory sufficed and whose bytes could be read
 abbrev pub ended_if : Bool → Option ConnectionFault

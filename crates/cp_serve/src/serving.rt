@@ -12,7 +12,7 @@ ghost use Rattle.cp_serve.specs.Reached.{BreaksOff, EndingStops, EndsAll, Follow
 use crate::fault::ServeFault;
 use crate::report::Report;
 use cp_connection::Connection;
-use cp_dispatch::{DispatchEvent, Dispatcher};
+use cp_dispatch::{Dispatcher, SessionEvent};
 use cp_frame::Mode;
 use cp_servants::Servant;
 use cp_stream::{StreamFault, Tap, write_whole};
@@ -336,12 +336,16 @@ impl Server {
 }
 
 /// Why the vat closed, if an event says so.
-fn reason_of(notice: DispatchEvent) -> Option<Reason>
+fn reason_of(notice: SessionEvent) -> Option<Reason>
     ensures { result ≡ reason_in (notice ∷ []) }
 {
     match notice {
-        DispatchEvent::Closed(reason) => Some(reason),
-        DispatchEvent::Settled { .. } => None,
+        SessionEvent::Closed(reason) => Some(reason),
+        SessionEvent::Outcome { .. }
+        | SessionEvent::Restless
+        | SessionEvent::Fault(_)
+        | SessionEvent::Limit(_)
+        | SessionEvent::Ended => None,
     }
 }
 

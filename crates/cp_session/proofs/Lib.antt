@@ -5,5 +5,7 @@ pub mod Deciding
 pub mod Courses
 pub mod Living
 pub mod Telling
+pub mod Counting
 pub mod Sharing
+pub mod Asking
 pub mod Timing

@@ -1,5 +1,5 @@
 -- Whatever is done with a session is done with its connection, and no other byte moves.
-use Rattle.std.proofs.Common.{◌≡◌, ◌∙◌, ◌++◌, ℕ, List, [], Bool, true, false, Option, Some, None, Ok, refl, sym, ap, subst, take, append-nil, inl, inr}
+use Rattle.std.proofs.Common.{◌≡◌, ◌∙◌, ◌++◌, ℕ, List, [], Bool, true, false, Option, Some, None, Ok, Err, refl, sym, ap, subst, take, append-nil, inl, inr}
 use Rattle.cp_connection.specs.declared.fault.ConnectionFault.{ConnectionFault}
 use Rattle.cp_refs.specs.declared.outcome.Outcome.{Outcome}
 use Rattle.cp_vat_machine.specs.declared.event.Event.TheVariants as machine
@@ -11,7 +11,7 @@ use Rattle.cp_connection.specs.Excess.{excess_of}
 use Rattle.cp_connection.specs.Lives.{Course}
 use Rattle.cp_connection.proofs.Finishing.{receives_of}
 use Rattle.cp_connection.specs.Lives as life
-use Rattle.cp_dispatch.specs.declared.event.DispatchEvent.{DispatchEvent}
+use Rattle.cp_dispatch.specs.declared.event.SessionEvent.{SessionEvent}
 use Rattle.cp_dispatch.specs.Receiving.{IsCutShort, is_unreceived, ran_out}
 use Rattle.cp_dispatch.specs.Rounds.{HandsOver}
 use Rattle.cp_dispatch.specs.Work.{Work, Lives}
@@ -19,6 +19,7 @@ use Rattle.cp_dispatch.proofs.Living.{lives_act, lives_back, lives_both, lives_n
 use Rattle.cp_objects.specs.ObjectTable.{ObjectTableKind}
 use Rattle.cp_session.specs.declared.progress.Phase.{Phase}
 use Rattle.cp_session.specs.declared.progress.Phase.TheVariants as phases
+use Rattle.cp_session.specs.Asking.{AsksPeer, asks, is_unasked, stays_asked}
 use Rattle.cp_session.specs.Doing as doing
 use Rattle.cp_session.specs.Laws.{LivesOn}
 use Rattle.cp_session.specs.Progress.{IsDraining, kept_excess}
@@ -112,7 +113,7 @@ unended_life : {H : Type 0} {old new : Link} {fault : ConnectionFault} {objects 
 unended_life {fault = fault} (serves.badly badly same) = life_one (life.ends_inside fault badly)
 unended_life (serves.ran_out link ended lives memory) = life_then (life_one (life.ends ended)) lives
 
-handed_link : (notice : Option DispatchEvent) (old new : Work) → HandsOver old notice new → new.link ≡ old.link
+handed_link : (notice : Option SessionEvent) (old new : Work) → HandsOver old notice new → new.link ≡ old.link
 handed_link (Some notice) old new h = ap (λ (w : Work). w.link) h.1
 handed_link None old new h = ap (λ (w : Work). w.link) h.1
 
@@ -144,8 +145,18 @@ passes_lives (doing.too_early why same) = lives_same same
 passes_lives (doing.passes due acts) = acts.lives
 passes_lives (doing.runs_out_of_memory due lives limits progress) = lives
 
+-- nor is what a silent peer is asked
+asked_lives : {old new : Link} → AsksPeer old new → Lives old new
+asked_lives (asks q mid boots finishes) = lives_both (lives_act machine.Bootstrap (Ok (values.Question q)) tt boots) (lives_act (machine.Finish q) (Ok values.Nothing) tt finishes)
+asked_lives (is_unasked fault boots) = lives_act machine.Bootstrap (Err fault) tt boots
+asked_lives (stays_asked q mid fault boots finishes) = lives_both (lives_act machine.Bootstrap (Ok (values.Question q)) tt boots) (lives_act (machine.Finish q) (Err fault) tt finishes)
+
+asks_lives : {H : Type 0} {now : ℕ} {old new : State H} → doing.Asks now old new → Lives (link_of old) (link_of new)
+asks_lives (doing.not_yet_silent why same) = lives_same same
+asks_lives {H = H} {old = old} (doing.is_silent link come asked same) = subst (λ (s : State H). Lives (link_of old) (link_of s)) (sym same) (asked_lives asked)
+
 goes_by_lives : {H : Type 0} {table : ObjectTableKind H} {now : ℕ} {old new : State H} → doing.GoesBy table now old new → Lives (link_of old) (link_of new)
-goes_by_lives (inl passed) = passes_lives passed.1
+goes_by_lives (inl passed) = lives_both (asks_lives passed.2) (passes_lives passed.3)
 goes_by_lives (inr stopped) = lives_same stopped.1
 
 -- of the connection nothing is done but calls of its own where a question is finished and its outcome given back
@@ -157,10 +168,14 @@ untaken_lives : {H : Type 0} (old new : State H) (untaken : Option Outcome) → 
 untaken_lives old new (Some outcome) h = released_lives h
 untaken_lives old new None h = lives_same h
 
-finished_lives : {H : Type 0} {old new : State H} (question : ℕ) → doing.FinishesQuestion question old new → Lives (link_of old) (link_of new)
+canceled_lives : {H : Type 0} {table : ObjectTableKind H} {old new : State H} {question : ℕ} → doing.CancelsOwn table question old new → Lives (link_of old) (link_of new)
+canceled_lives {H = H} {old = old} (doing.tells_owing work tells lives same) = subst (λ (s : State H). Lives (link_of old) (link_of s)) (sym same) lives
+canceled_lives {H = H} {old = old} (doing.tells_none work lives same) = subst (λ (s : State H). Lives (link_of old) (link_of s)) (sym same) lives
+
+finished_lives : {H : Type 0} {table : ObjectTableKind H} {old new : State H} (question : ℕ) → doing.FinishesQuestion table question old new → Lives (link_of old) (link_of new)
 finished_lives {old = old} question h =
     let acted = lives_act (machine.Finish question) (Ok values.Nothing) tt h.finishes.acts in
-    lives_both (subst (λ (w : Work). Lives (link_of old) w.link) (sym h.finishes.same) acted) (untaken_lives _ _ h.untaken h.releases)
+    lives_both (lives_both (subst (λ (w : Work). Lives (link_of old) w.link) (sym h.finishes.same) acted) (untaken_lives _ _ h.untaken h.releases)) (canceled_lives h.cancels)
 
 -- where the peer is refused the connection is aborted, if its bytes are taken
 refused_life : {H : Type 0} {table : ObjectTableKind H} {old new : State H} {now : ℕ} → doing.IsRefused table old now new → IsLife (link_of old) [] [] (link_of new)

@@ -1,29 +1,24 @@
--- Which event is told, and what the program knows then.
-use Rattle.std.proofs.Common.{◌≡◌, ◌∙◌, Bool, true, false, if◌then◌else◌, Option, Some, None, refl, sym, ap}
-use Rattle.cp_dispatch.specs.declared.event.DispatchEvent.TheVariants as notices
-use Rattle.cp_dispatch.specs.Rounds.{HandsOver}
-use Rattle.cp_dispatch.specs.Work.{Work}
-use Rattle.cp_vat_machine.specs.declared.effect.Reason.{Reason}
-use Rattle.cp_session.specs.declared.event.SessionEvent.{SessionEvent}
-use Rattle.cp_session.specs.declared.event.SessionEvent.TheVariants as events
-use Rattle.cp_session.specs.Doing.{Tells, knows_by, told_of}
-use Rattle.cp_session.specs.State.{State, with_progress}
+-- Which events are told, and what the program knows then.
+use Rattle.std.proofs.Common.{◌≡◌, Bool, true, false, Option, Some, None, refl, sym, ap, is_none, true≢false}
+use Rattle.cp_connection.specs.declared.fault.ConnectionFault.{ConnectionFault}
+use Rattle.cp_dispatch.specs.declared.event.Limit.{Limit}
+use Rattle.cp_dispatch.specs.declared.event.SessionEvent.{SessionEvent}
+use Rattle.cp_dispatch.specs.Noticed.{is_last}
+use Rattle.cp_session.specs.declared.progress.Phase.{Phase}
+use Rattle.cp_session.specs.declared.progress.Phase.TheVariants as phases
+use Rattle.cp_session.specs.Doing.{ending_by, knows_by, told_if}
 
--- once it is told that the vat closed, or something else was before
-pub knows_closed : (told : Bool) (reason : Reason) → knows_by (if told then None else Some (events.Closed reason)) told ≡ true
-knows_closed true reason = refl
-knows_closed false reason = refl
+-- what isn't the last is told
+pub tells_others : (told : Bool) (event : SessionEvent) → is_last event ≡ false → Some event ≡ told_if told event
+tells_others true event other = rw other refl
+tells_others false event other = refl
 
-pub tells_closed : {H : Type 0} (old new : State H) (event : Option SessionEvent) (work : Work) (reason : Reason) → HandsOver old.service.work (Some (notices.Closed reason)) work
-    → event ≡ told_of old (Some (notices.Closed reason))
-    → new ≡ with_progress (record old { service = record old.service { work = work } }) (record old.progress { is_told = true }) → Tells old event new
-tells_closed old new event work reason hands is e =
-    let told = old.progress.is_told in
-    let knows : knows_by event told ≡ true = ap (λ (ev : Option SessionEvent). knows_by ev told) is ∙ knows_closed told reason in
-    record {
-      notice = Some (notices.Closed reason);
-      work = work;
-      hands = hands;
-      is = is;
-      rest = e ∙ ap (λ (b : Bool). with_progress (record old { service = record old.service { work = work } }) (record old.progress { is_told = b })) (sym knows);
-    }
+-- the last says why nothing more is taken
+pub told_last : (told : Bool) (limit : Option Limit) (fault : Option ConnectionFault) (phase : Phase) (event : SessionEvent) → Some event ≡ ending_by limit fault phase
+    → knows_by (Some event) told ≡ true
+told_last told (Some limit) fault phase event is = ap (λ (e : Option SessionEvent). knows_by e told) is
+told_last told None (Some fault) phase event is = ap (λ (e : Option SessionEvent). knows_by e told) is
+told_last told None None phases.Over event is = ap (λ (e : Option SessionEvent). knows_by e told) is
+told_last told None None phases.Serving event is = absurd (true≢false (sym (ap is_none is)))
+told_last told None None phases.Ending event is = absurd (true≢false (sym (ap is_none is)))
+told_last told None None (phases.Draining since) event is = absurd (true≢false (sym (ap is_none is)))

@@ -8,7 +8,7 @@ use Rattle.cp_objects.specs.ObjectTable.{ObjectTableKind}
 use Rattle.cp_objects.specs.Listed.{listed}
 use Rattle.cp_servants.specs.Servant.{Kind}
 use Rattle.cp_session.specs.declared.limits.SessionLimits.{SessionLimits}
-use Rattle.cp_session.specs.declared.progress.Limit.TheVariants as limits
+use Rattle.cp_dispatch.specs.declared.event.Limit.TheVariants as limits
 use Rattle.cp_session.specs.declared.progress.Phase.{Phase}
 use Rattle.cp_session.specs.declared.progress.Phase.TheVariants as phases
 use Rattle.cp_session.specs.declared.progress.Progress.{Progress}
@@ -17,13 +17,13 @@ use Rattle.cp_session.specs.Doing as doing
 use Rattle.cp_session.specs.Doing.{IsStopped, alarm_of, due_of, is_stopped, limit_of}
 use Rattle.cp_session.specs.Laws.{LimitsAlone, SeeksNone}
 use Rattle.cp_session.specs.Progress as going
-use Rattle.cp_session.specs.Progress.{TicksTo, closing, earlier, ended_by, excess_by, finished}
+use Rattle.cp_session.specs.Progress.{TicksTo, closing, earlier, ended_by, excess_by, finished, less, written_by}
 use Rattle.cp_session.specs.Runs.{Transfer, Does, Runs}
 use Rattle.cp_session.specs.Runs as runs
 use Rattle.cp_session.specs.Search as seeking
 use Rattle.cp_session.specs.Search.{Seeks}
 use Rattle.cp_session.specs.Serves.{Follows, Polls, Takes}
-use Rattle.cp_session.specs.Service.{Service}
+use Rattle.cp_session.specs.Service.{Service, stirred}
 use Rattle.cp_session.specs.State.{State}
 use Rattle.cp_session.specs.Sweep as sweeping
 use Rattle.cp_session.specs.Sweep.{HasCome, Sweeps, SweepsInTime}
@@ -45,6 +45,10 @@ ticked_fault : {allowed : SessionLimits} {old new : Progress} {kept now : ℕ} {
 ticked_fault {old = old} (going.meets limit is_met told is) =
     ap (λ (p : Progress). p.fault) is ∙ ended_fault (excess_by limit old.phase) (record old { limit = Some limit })
 ticked_fault (going.meets_none unmet told is) = ap (λ (p : Progress). p.fault) is
+
+written_fault : (left : Option ℕ) (now : ℕ) (p : Progress) → (written_by left now p).fault ≡ p.fault
+written_fault (Some left) now p = refl
+written_fault None now p = refl
 
 -- ---- no time is set
 
@@ -109,21 +113,29 @@ module _ {H : Type 0} (table : ObjectTableKind H) (stay : (objects : H) → tabl
   polled_still : {old new : State H} {now : ℕ} → doing.PollsOn table old now new → SeeksNone old → SeeksNone new
   polled_still (doing.rests why same) none = same_still same none
   polled_still {old = old} (doing.polls mid more done settles) none =
-      settled_still settles (still old mid (polls_sweep done.works.polls) (ap (λ (s : State H). s.progress.fault) done.same) none)
+      settled_still settles (still old mid (ap (λ (s : Service). s.sweep) done.works.counts ∙ polls_sweep done.works.polls) (ap (λ (s : State H). s.progress.fault) done.same) none)
 
-  in_time_still : (old new : State H) {now : ℕ} {objects others : H} → (IsStopped old → ⊥) → SweepsInTime table now old.service new.service objects others
+  in_time_still : (old new : State H) {now : ℕ} {objects others : H} → (IsSome old.progress.fault → ⊥) → SweepsInTime table now (stirred old.service) new.service objects others
       → new.progress.fault ≡ old.progress.fault → SeeksNone old → SeeksNone new
   in_time_still old new open_yet (sweeping.too_early early same left) fault none = still old new (ap (λ (s : Service). s.sweep) same) fault none
   in_time_still old new {now = now} open_yet (sweeping.in_time due swept) fault (inl none) = absurd (subst (λ (t : Option ℕ). HasCome now t) none due)
-  in_time_still old new open_yet (sweeping.in_time due swept) fault (inr faulty) = absurd (open_yet (inr (inl faulty)))
+  in_time_still old new open_yet (sweeping.in_time due swept) fault (inr faulty) = absurd (open_yet faulty)
 
-  passed_still : {old new : State H} {now : ℕ} → (IsStopped old → ⊥) → doing.PassesTime table now old new → SeeksNone old → SeeksNone new
+  passed_still : {old new : State H} {now : ℕ} → (IsSome old.progress.fault → ⊥) → doing.PassesTime table now old new → SeeksNone old → SeeksNone new
   passed_still open_yet (doing.too_early early same) none = same_still same none
   passed_still {old = old} {new = new} open_yet (doing.passes due acts) none = in_time_still old new open_yet acts.sweeps (ap (λ (s : State H). s.progress.fault) acts.same) none
   passed_still {new = new} open_yet (doing.runs_out_of_memory due link allowed is) none = failing new _ (ap (λ (p : Progress). p.fault) is)
 
+  asked_fault : {old new : State H} {now : ℕ} → doing.Asks now old new → new.progress.fault ≡ old.progress.fault
+  asked_fault (doing.not_yet_silent why same) = ap (λ (s : State H). s.progress.fault) same
+  asked_fault (doing.is_silent link come asked same) = ap (λ (s : State H). s.progress.fault) same
+
+  asked_still : {old new : State H} {now : ℕ} → doing.Asks now old new → SeeksNone old → SeeksNone new
+  asked_still (doing.not_yet_silent why same) none = same_still same none
+  asked_still (doing.is_silent link come asked same) none = same_still same none
+
   gone_by_still : {old new : State H} {now : ℕ} → doing.GoesBy table now old new → SeeksNone old → SeeksNone new
-  gone_by_still (inl passed) none = passed_still passed.0 passed.1 none
+  gone_by_still (inl passed) none = passed_still (λ faulty. passed.0 (inr (inl (subst (λ (f : Option ConnectionFault). IsSome f) (asked_fault passed.2) faulty)))) passed.3 (asked_still passed.2 none)
   gone_by_still (inr stopped) none = same_still stopped.1 none
 
   ticked_still : {old new : State H} {now : ℕ} → doing.Ticks table old now new → SeeksNone old → SeeksNone new
@@ -145,6 +157,11 @@ module _ {H : Type 0} (table : ObjectTableKind H) (stay : (objects : H) → tabl
   untaken_still old new (Some outcome) h none = released_still h none
   untaken_still old new None h none = same_still h none
 
+  canceled_still : {old new : State H} {question : ℕ} → doing.CancelsOwn table question old new → SeeksNone old → SeeksNone new
+  canceled_still {old = old} {new = new} (doing.tells_owing work tells lives same) none =
+      still old new (ap (λ (s : State H). s.service.sweep) same) (ap (λ (s : State H). s.progress.fault) same) none
+  canceled_still {new = new} (doing.tells_none work lives same) none = failing new _ (ap (λ (s : State H). s.progress.fault) same)
+
   done_still : {old new : State H} {transfer : Transfer} → Does table old transfer new → SeeksNone old → SeeksNone new
   done_still (runs.receives piece now count done is) none = received_still piece now count done none
   done_still (runs.fails piece now fault cut is) none = settled_still cut.settles (failing cut.mid _ (ap (λ (p : Progress). p.fault) cut.cut.progress))
@@ -153,7 +170,9 @@ module _ {H : Type 0} (table : ObjectTableKind H) (stay : (objects : H) → tabl
   done_still (runs.polls now done is) none = polled_still done none
   done_still (runs.closes now closed is) none = settled_still closed none
   done_still (runs.runs_out now out is) none = settled_still out.settles (failing out.mid _ (ap (λ (p : Progress). p.fault) out.unworked.progress))
-  done_still (runs.writes count now wrote is) none = settled_still wrote.settles (same_still wrote.moves none)
+  done_still {old = old} (runs.writes count now wrote is) none =
+      let fault = ap (λ (s : State H). s.progress.fault) wrote.moves ∙ written_fault (less count old.progress.asked) now old.progress in
+      settled_still wrote.settles (still old wrote.mid (ap (λ (s : State H). s.service.sweep) wrote.moves) fault none)
   done_still (runs.ticks now ticked is) none = ticked_still ticked none
   done_still (runs.refuses now refused is) none = refused_still refused none
   done_still (runs.tells event told is) none = same_still told.rest none
@@ -161,7 +180,7 @@ module _ {H : Type 0} (table : ObjectTableKind H) (stay : (objects : H) → tabl
   done_still (runs.hands_on waker handed is) none = same_still handed.1 none
   done_still (runs.calls call is_call did is) none = same_still did.2 none
   done_still (runs.gives_back import result back is) none = same_still back.same none
-  done_still (runs.finishes question finished is) none = untaken_still _ _ finished.untaken finished.releases none
+  done_still (runs.finishes question finished is) none = canceled_still finished.cancels (untaken_still _ _ finished.untaken finished.releases none)
   done_still (runs.releases outcome released is) none = released_still released none
 
   run_still : {first last : State H} {transfer : Transfer} → Runs table first transfer last → SeeksNone first → SeeksNone last

@@ -1,6 +1,7 @@
 -- What each call does to a session.
-use Rattle.std.specs.Prelude.{◌≡◌, ◌≢◌, ◌⊎◌, ℕ, ◌<◌, ◌≤◌, nat_lt, if◌then◌else◌, Bool, true, IsSome, is_some, ◌||◌, List, [], ◌∷◌, ◌++◌, ◌^◌, Option, Some, None, Result, length}
+use Rattle.std.specs.Prelude.{◌≡◌, ◌≢◌, ◌⊎◌, ℕ, ◌==◌, ◌<◌, ◌≤◌, nat_lt, if◌then◌else◌, Bool, true, IsSome, is_some, ◌||◌, ◌&&◌, List, [], ◌∷◌, ◌++◌, ◌^◌, Option, Some, None, Result, length}
 use Rattle.cp_frame.specs.Reader.{taken_of}
+use Rattle.cp_refs.specs.declared.call.Origin.TheVariants as origins
 use Rattle.cp_refs.specs.declared.outcome.Outcome.{Outcome}
 use Rattle.cp_vat_machine.specs.InUse.{caps_of}
 use Rattle.cp_vat_machine.specs.declared.event.Event as machine
@@ -18,24 +19,26 @@ use Rattle.cp_objects.specs.Objects.{adding, objects_of}
 use Rattle.cp_objects.specs.ObjectTable.{ObjectTableKind}
 use Rattle.cp_objects.specs.Context.{next_number, own_object}
 use Rattle.cp_objects.specs.declared.session_cap.SessionCap.{SessionCap}
-use Rattle.cp_dispatch.specs.declared.event.DispatchEvent.{DispatchEvent}
-use Rattle.cp_dispatch.specs.declared.event.DispatchEvent.TheVariants as notices
+use Rattle.cp_dispatch.specs.declared.event.SessionEvent.{SessionEvent}
+use Rattle.cp_dispatch.specs.Canceling.{Cancels}
 use Rattle.cp_dispatch.specs.Finishing.{GivesBackEach}
 use Rattle.cp_dispatch.specs.Finishing as own
+use Rattle.cp_dispatch.specs.Noticed.{is_last}
 use Rattle.cp_dispatch.specs.Receiving.{IsCutShort}
 use Rattle.cp_dispatch.specs.Rounds.{HandsOver}
 use Rattle.cp_dispatch.specs.Work.{Work, Lives}
 use Rattle.cp_dispatch.specs.Work as works
-use Rattle.cp_session.specs.declared.event.SessionEvent.{SessionEvent}
-use Rattle.cp_session.specs.declared.event.SessionEvent.TheVariants as events
-use Rattle.cp_session.specs.declared.progress.Limit.{Limit}
-use Rattle.cp_session.specs.declared.progress.Limit.TheVariants as limits
+use Rattle.cp_dispatch.specs.declared.event.SessionEvent.TheVariants as events
+use Rattle.cp_dispatch.specs.declared.event.Limit.{Limit}
+use Rattle.cp_dispatch.specs.declared.event.Limit.TheVariants as limits
 use Rattle.cp_session.specs.declared.progress.Phase.{Phase}
 use Rattle.cp_session.specs.declared.progress.Phase.TheVariants as phases
+use Rattle.cp_session.specs.Asking.{AsksPeer}
 use Rattle.cp_session.specs.Kept.{kept_of}
 use Rattle.cp_session.specs.Refusing.{Refuses}
-use Rattle.cp_session.specs.Progress.{deadline_of, earlier, ended_again, excess_by, failed, finished, heeding, left, met, over, taken_at, IsDraining, TicksTo}
+use Rattle.cp_session.specs.Progress.{ask_by, deadline_of, earlier, ended_again, written_at, excess_by, failed, finished, heeding, left, met, over, taken_at, IsDraining, TicksTo}
 use Rattle.cp_session.specs.Serves.{Ends, HasGiven, IsUnended, MayGive, Takes, WorksOn}
+use Rattle.cp_session.specs.Service.{stirred}
 use Rattle.cp_session.specs.State.{State, link_of, linked, with_progress, worked}
 use Rattle.cp_session.specs.Sweep.{HasCome, SweepsInTime}
 
@@ -103,16 +106,19 @@ module _ {H : Type 0} where
   ReleasesUntaken (Some outcome) old new = ReleasesOutcome outcome old new
   ReleasesUntaken None old new = new ≡ old
 
-  -- A question was finished. Its outcome, where it came and wasn't handed out, never is, and what it named is given back.
-  pub record FinishesQuestion (question : ℕ) (old new : State H) : Type 0 where
-    pub untaken : Option Outcome
-    pub work : Work
-    pub finishes : own.Finishes question untaken old.service.work work
-    pub releases : ReleasesUntaken untaken (worked old work) new
+  -- when the peer is asked, if no byte moves before: only where all was written
+  abbrev pub ask_time : State H → Option ℕ
+  ask_time state = if length (link_of state).unwritten == 0 then ask_by state.limits state.progress state.progress.phase state.progress.asked else None
 
-  -- when a limit of time is met, if no byte moves before
+  -- A peer that was silent for half of the time that it may be is asked, once.
+  pub data Asks (now : ℕ) (old new : State H) : Type 0 where
+    not_yet_silent : (HasCome now (ask_time old) → ⊥) → new ≡ old → Asks now old new
+    is_silent : (link : Link) → HasCome now (ask_time old) → AsksPeer (link_of old) link
+        → new ≡ with_progress (linked old link) (record old.progress { asked = Some (length link.unwritten) }) → Asks now old new
+
+  -- when a limit of time is met, if no byte moves before, or the peer is asked
   abbrev pub limit_of : State H → Option ℕ
-  limit_of state = deadline_of state.limits state.progress state.progress.phase
+  limit_of state = earlier (deadline_of state.limits state.progress state.progress.phase) (ask_time state)
 
   -- the fault for which nothing more is taken
   abbrev pub fault_of : State H → Option ConnectionFault
@@ -120,6 +126,23 @@ module _ {H : Type 0} where
 
 -- Of objects of one kind.
 module _ {H : Type 0} (table : ObjectTableKind H) where
+  -- The object that is to answer a call of the program's which is given up is told, if there is one, and what follows is worked off. Where memory runs out for
+  -- that nothing more is taken.
+  pub data CancelsOwn (question : ℕ) (old new : State H) : Type 0 where
+    tells_owing : (work : Work) → Cancels table (Some (origins.Own question)) old.service.work work old.objects new.objects → Lives (link_of old) work.link
+        → new ≡ record (worked old work) { objects = new.objects } → CancelsOwn question old new
+    tells_none : (work : Work) → Lives (link_of old) work.link
+        → new ≡ with_progress (record (worked old work) { objects = new.objects }) (failed old.progress faults.OutOfMemory) → CancelsOwn question old new
+
+  -- A question was finished. An outcome that came and wasn't handed out never is, and what it named is given back. An object that is to answer it is told.
+  pub record FinishesQuestion (question : ℕ) (old new : State H) : Type 0 where
+    pub untaken : Option Outcome
+    pub work : Work
+    pub mid : State H
+    pub finishes : own.Finishes question untaken old.service.work work
+    pub releases : ReleasesUntaken untaken (worked old work) mid
+    pub cancels : CancelsOwn question mid new
+
   -- something may be given though nothing more comes
   abbrev pub GivesMore : State H → Type 0
   GivesMore state = (IsStopped state → ⊥) × MayGive table state.service state.objects
@@ -143,7 +166,7 @@ module _ {H : Type 0} (table : ObjectTableKind H) where
     stays : IsUnsettled old → new ≡ old → Leaves old now new
     leaves : IsSettled old → new ≡ with_progress old (left old.progress now) → Leaves old now new
 
-  -- Once nothing is given any more each object is told its end, at this time, and none is left. Where memory runs out some may be left, which weren't told, and that is the session's fault.
+  -- Once nothing is given any more each object is told its end, and none is left. Where memory runs out some may be left untold, and that is the session's fault.
   pub data EndsObjects (now : ℕ) (old new : State H) : Type 0 where
     not_yet : (IsDone old → ⊥) → new ≡ old → EndsObjects now old new
     each_told : (at : H) → IsDone old → table.is_at now old.objects at → table.ends_all at new.objects → KeepsRest old new → EndsObjects now old new
@@ -179,14 +202,14 @@ module _ {H : Type 0} (table : ObjectTableKind H) where
     pub limits : new.limits ≡ old.limits
     pub progress : new.progress ≡ failed (taken_at old.progress now (taken_of link.reading)) fault
 
-  -- Bytes of the peer are given. While its close is waited for they are dropped. None is taken where there is none, or while too much waits to be written, or
-  -- once nothing more is taken. Else they are taken up to the end of a message, and what that asks of the objects is done.
+  -- Bytes of the peer are given. While its close is waited for they are dropped; while too much waits to be written, or once nothing more is taken, none is
+  -- taken. Else they are taken up to the end of a message, and what that asks of the objects is done.
   pub data Receives (old : State H) (piece : List ℕ) (now count : ℕ) (new : State H) : Type 0 where
     drops : IsDraining old.progress.phase → count ≡ length piece → new ≡ old → Receives old piece now count new
     holds_up : (IsDraining old.progress.phase → ⊥) → (length piece ≡ 0) ⊎ (MayTake old → ⊥) → count ≡ 0 → new ≡ old → Receives old piece now count new
     takes : (mid : State H) → MayTake old → 0 < length piece → TakesIn old piece now count mid → Settles mid now new → Receives old piece now count new
 
-  -- why bytes aren't taken to the end of a message and what follows of it
+  -- why bytes aren't taken so
   pub record IsUntaken (old : State H) (piece : List ℕ) (now : ℕ) (fault : ConnectionFault) (new : State H) : Type 0 where
     pub may_take : MayTake old
     pub some : 0 < length piece
@@ -245,7 +268,7 @@ module _ {H : Type 0} (table : ObjectTableKind H) where
   abbrev pub HasNone : State H → Type 0
   HasNone state = (state.limits.ahead < length (link_of state).unwritten) ⊎ GivesNone state
 
-  -- What happened is worked off, and the objects are polled, where something may be given; else nothing is done.
+  -- Where something may be given, what happened is worked off and the objects are polled.
   pub data PollsOn (old : State H) (now : ℕ) (new : State H) : Type 0 where
     rests : HasNone old → new ≡ old → PollsOn old now new
     polls : (mid : State H) → HasMore old → GoesOn now old mid → Settles mid now new → PollsOn old now new
@@ -262,7 +285,7 @@ module _ {H : Type 0} (table : ObjectTableKind H) where
     pub link : Link
     pub wrote : Wrote (link_of old) count link
     pub mid : State H
-    pub moves : mid ≡ with_progress (linked old link) (record old.progress { moved = now })
+    pub moves : mid ≡ with_progress (linked old link) (written_at count now old.progress)
     pub settles : Settles mid now new
 
   -- when an object is to be woken, or objects are to be sought that nothing refers to
@@ -276,7 +299,7 @@ module _ {H : Type 0} (table : ObjectTableKind H) where
     pub woken : H
     pub times : table.is_at now old.objects at
     pub wakes : table.wakes_due at woken
-    pub sweeps : SweepsInTime table now old.service new.service woken new.objects
+    pub sweeps : SweepsInTime table now (stirred old.service) new.service woken new.objects
     pub same : new ≡ record old { service = new.service; objects = new.objects }
     pub lives : Lives (link_of old) (link_of new)
 
@@ -287,13 +310,13 @@ module _ {H : Type 0} (table : ObjectTableKind H) where
     runs_out_of_memory : HasCome now (alarm_of old) → Lives (link_of old) (link_of new) → new.limits ≡ old.limits → new.progress ≡ failed old.progress faults.OutOfMemory
         → PassesTime now old new
 
-  -- what time does to the objects, unless nothing more is given
+  -- a peer that is silent is asked, and time passes for the objects, unless nothing more is given
   abbrev pub GoesBy : ℕ → State H → State H → Type 0
-  GoesBy now old new = ((IsStopped old → ⊥) × PassesTime now old new) ⊎ (IsStopped old × (new ≡ old))
+  GoesBy now old new = ((IsStopped old → ⊥) × (mid : State H) × Asks now old mid × PassesTime now mid new) ⊎ (IsStopped old × (new ≡ old))
 
-  -- an object is woken, and nothing else is done
+  -- An object is woken. Empty polls are counted anew, and nothing else is done.
   abbrev pub Wakes : ℕ → State H → State H → Type 0
-  Wakes object old new = table.wakes object old.objects new.objects × (new ≡ record old { objects = new.objects })
+  Wakes object old new = table.wakes object old.objects new.objects × (new ≡ record old { objects = new.objects; service = stirred old.service })
 
   -- whom an object wants to be woken of another session is handed out, and nothing else is done
   abbrev pub HandsOn : Option Waker → State H → State H → Type 0
@@ -303,8 +326,7 @@ module _ {H : Type 0} (table : ObjectTableKind H) where
   abbrev pub due_of : State H → Option ℕ
   due_of state = if is_stopped state then limit_of state else earlier (limit_of state) (alarm_of state)
 
-  -- Time passed. Where a limit is met nothing more is taken, and else time passes for the objects. Where it is met as too much is kept, the peer is told so; else
-  -- the session is over.
+  -- Time passed. Where a limit is met nothing more is taken, and the session is over, or its peer is told that too much is kept. Else time goes by.
   pub record Ticks (old : State H) (now : ℕ) (new : State H) : Type 0 where
     pub told : Option Excess
     pub ticked : State H
@@ -322,21 +344,23 @@ module _ {H : Type 0} (table : ObjectTableKind H) where
     refuses : (mid : State H) → old.progress.phase ≢ phases.Over → Refuses (excess_by limits.Kept old.progress.phase) (link_of old) (link_of mid)
         → mid ≡ with_progress (linked old (link_of mid)) (met limits.Kept old.progress) → Settles mid now new → IsRefused old now new
 
--- what is told of an event, or where there is none
-abbrev pub told_of : {H : Type 0} → State H → Option DispatchEvent → Option SessionEvent
-told_of state (Some (notices.Settled question outcome)) = Some (events.Outcome question outcome)
-told_of state (Some (notices.Closed reason)) = if state.progress.is_told then None else Some (events.Closed reason)
+-- what is told of an event: why nothing more is taken, once
+abbrev pub told_if : Bool → SessionEvent → Option SessionEvent
+told_if told event = if told && is_last event then None else Some event
+
+-- the same where there may be none
+abbrev pub told_of : {H : Type 0} → State H → Option SessionEvent → Option SessionEvent
+told_of state (Some event) = told_if state.progress.is_told event
 told_of state None = if state.progress.is_told then None else ending_by state.progress.limit (fault_of state) state.progress.phase
 
 -- whether the program knows then why nothing more is taken
 abbrev pub knows_by : Option SessionEvent → Bool → Bool
 knows_by None told = told
-knows_by (Some (events.Outcome question outcome)) told = told
-knows_by (Some other) told = true
+knows_by (Some event) told = is_last event || told
 
--- An event is handed out, if there is one: each outcome that came, once and in order, and what says why nothing more is taken, once.
+-- An event is handed out, if there is one: each outcome that came, in order, and why nothing more is taken, each once.
 pub record Tells {H : Type 0} (old : State H) (event : Option SessionEvent) (new : State H) : Type 0 where
-  pub notice : Option DispatchEvent
+  pub notice : Option SessionEvent
   pub work : Work
   pub hands : HandsOver old.service.work notice work
   pub is : event ≡ told_of old notice

@@ -1,9 +1,11 @@
 pub mod Limits
 pub mod Progress
+pub mod EmptyPolls
 pub mod Service
 pub mod Search
 pub mod Sweep
 pub mod Refusing
+pub mod Asking
 pub mod Serves
 pub mod State
 pub mod Kept

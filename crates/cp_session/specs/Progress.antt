@@ -1,18 +1,35 @@
 -- How far a session is, and which of its limits it meets.
-use Rattle.std.specs.Prelude.{◌≡◌, ℕ, ◌+◌, ◌-◌, ◌<◌, ◌≤◌, ◌^◌, nat_lt, min, if◌then◌else◌, Bool, true, false, Option, Some, None}
+use Rattle.std.specs.Prelude.{◌≡◌, ℕ, ◌+◌, ◌-◌, ◌/◌, ◌<◌, ◌≤◌, ◌^◌, nat_lt, min, if◌then◌else◌, Bool, true, false, Option, Some, None}
 use Rattle.cp_connection.specs.declared.excess.Excess.{Excess}
 use Rattle.cp_connection.specs.declared.excess.Excess.TheVariants as excesses
 use Rattle.cp_connection.specs.declared.fault.ConnectionFault.{ConnectionFault}
 use Rattle.cp_session.specs.declared.limits.SessionLimits.{SessionLimits}
-use Rattle.cp_session.specs.declared.progress.Limit.{Limit}
-use Rattle.cp_session.specs.declared.progress.Limit.TheVariants as limits
+use Rattle.cp_dispatch.specs.declared.event.Limit.{Limit}
+use Rattle.cp_dispatch.specs.declared.event.Limit.TheVariants as limits
 use Rattle.cp_session.specs.declared.progress.Phase.{Phase}
 use Rattle.cp_session.specs.declared.progress.Phase.TheVariants as phases
 use Rattle.cp_session.specs.declared.progress.Progress.{Progress}
 
 -- a session begins at this time
 abbrev pub begun : ℕ → Progress
-begun now = record { phase = phases.Serving; moved = now; opened = None; is_finished = false; fault = None; limit = None; is_told = false }
+begun now = record { phase = phases.Serving; moved = now; asked = None; opened = None; is_finished = false; fault = None; limit = None; is_told = false }
+
+-- a byte moved at this time, and the peer wasn't asked since
+abbrev pub moved_at : ℕ → Progress → Progress
+moved_at now progress = record progress { moved = now; asked = None }
+
+-- how many of these bytes are left once so many were written, unless more were
+abbrev pub less : ℕ → Option ℕ → Option ℕ
+less count None = None
+less count (Some left) = if nat_lt left count then None else Some (left - count)
+
+-- So many bytes were written at this time. Those by which the peer was asked don't count.
+abbrev pub written_by : Option ℕ → ℕ → Progress → Progress
+written_by (Some left) now progress = record progress { asked = Some left }
+written_by None now progress = moved_at now progress
+
+abbrev pub written_at : ℕ → ℕ → Progress → Progress
+written_at count now progress = written_by (less count progress.asked) now progress
 
 -- Since when the open message comes, once bytes were taken that leave one open or not.
 abbrev pub opened_by : Option ℕ → Bool → ℕ → Option ℕ
@@ -66,7 +83,7 @@ finished progress = stopped (record progress { is_finished = true })
 
 -- bytes were taken at this time, and this many of an open message came
 abbrev pub taken_at : Progress → ℕ → ℕ → Progress
-taken_at progress now came = record progress { moved = now; opened = opened_by progress.opened (nat_lt 0 came) now }
+taken_at progress now came = record (moved_at now progress) { opened = opened_by progress.opened (nat_lt 0 came) now }
 
 -- where the peer's close was waited for, nothing is left to be done
 abbrev pub closing : Phase → Progress → Progress
@@ -150,3 +167,16 @@ deadline_of allowed progress phases.Serving = earlier (after progress.moved allo
 deadline_of allowed progress phases.Ending = earlier (after progress.moved allowed.idle) (message_deadline allowed progress.opened)
 deadline_of allowed progress (phases.Draining since) = after since allowed.closing
 deadline_of allowed progress phases.Over = None
+
+-- The time before this one by half of that.
+abbrev pub before_by : ℕ → Option ℕ → Option ℕ
+before_by time None = None
+before_by time (Some at) = Some (at - time / 2)
+
+-- When a peer that all was written to is asked, if no byte moves before: once half of the time is over in which one has to, and once only.
+abbrev pub ask_by : SessionLimits → Progress → Phase → Option ℕ → Option ℕ
+ask_by allowed progress phase (Some left) = None
+ask_by allowed progress phases.Serving None = before_by allowed.idle (after progress.moved allowed.idle)
+ask_by allowed progress phases.Ending None = None
+ask_by allowed progress (phases.Draining since) None = None
+ask_by allowed progress phases.Over None = None

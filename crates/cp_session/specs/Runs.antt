@@ -11,7 +11,7 @@ use Rattle.cp_refs.specs.declared.outcome.Outcome.{Outcome}
 use Rattle.cp_objects.specs.declared.waker.Waker.{Waker}
 use Rattle.cp_objects.specs.ObjectTable.{ObjectTableKind}
 use Rattle.cp_dispatch.specs.Receiving.{IsCutShort, is_unreceived, ran_out}
-use Rattle.cp_session.specs.declared.event.SessionEvent.{SessionEvent}
+use Rattle.cp_dispatch.specs.declared.event.SessionEvent.{SessionEvent}
 use Rattle.cp_session.specs.declared.progress.Phase.{Phase}
 use Rattle.cp_session.specs.declared.progress.Phase.TheVariants as phases
 use Rattle.cp_session.specs.Doing.{Closes, Did, EndsBytes, EndsCut, FinishesQuestion, GivesBack, HandsOn, IsRefused, IsUntaken, PollsOn, Receives, ReleasesOutcome, RunsOut, Tells, Ticks, Wakes, Writes}
@@ -107,7 +107,7 @@ module _ {H : Type 0} (table : ObjectTableKind H) where
     calls : {transfer : Transfer} {new : State H} (call : Call) → IsCall call.event → Did old call.event call.result new → transfer ≡ record nothing { called = call ∷ [] } → Does old transfer new
     gives_back : {transfer : Transfer} {new : State H} (import : ℕ) (result : Result Value ConnectionFault) → GivesBack import old result new
         → transfer ≡ record nothing { called = record { event = own_calls.Release import; result = result } ∷ [] } → Does old transfer new
-    finishes : {transfer : Transfer} {new : State H} (question : ℕ) → FinishesQuestion question old new
+    finishes : {transfer : Transfer} {new : State H} (question : ℕ) → FinishesQuestion table question old new
         → transfer ≡ record nothing { called = record { event = own_calls.Finish question; result = Ok values.Nothing } ∷ [] } → Does old transfer new
     releases : {transfer : Transfer} {new : State H} (outcome : Outcome) → ReleasesOutcome outcome old new → transfer ≡ record nothing { released = outcome ∷ [] }
         → Does old transfer new

@@ -3,6 +3,7 @@ use Rattle.std.specs.Prelude.{◌≡◌, ◌⊎◌, ℕ, ◌≤◌, ◌+◌, ◌
 use Rattle.std.specs.Option.{unwrap_or}
 use Rattle.cp_objects.specs.ObjectTable.{ObjectTableKind}
 use Rattle.cp_dispatch.specs.Dropping.{DropsIdle}
+use Rattle.cp_dispatch.specs.Rounds.{WorksOff}
 use Rattle.cp_dispatch.specs.Work.{Work}
 use Rattle.cp_session.specs.declared.sweep.Sweep.{Sweep}
 use Rattle.cp_session.specs.Service.{Service}
@@ -39,10 +40,13 @@ abbrev pub swept_from : ℕ → ℕ → ℕ → ℕ → Sweep
 swept_from before objects messages now = record { from = paid_by objects messages; at = again_from before objects now }
 
 module _ {H : Type 0} (table : ObjectTableKind H) where
-  -- The objects that nothing refers to are dropped.
+  -- The objects that nothing refers to are dropped, and what that leads to is worked off.
   pub record SweepsAll (now : ℕ) (old new : Service) (objects others : H) : Type 0 where
+    pub left : Work
     pub work : Work
-    pub drops : DropsIdle table old.work work objects others
+    pub between : H
+    pub drops : DropsIdle table old.work left objects between
+    pub works : WorksOff table left work between others
     pub is : new ≡ record old { work = work; sweep = swept_from (table.guests objects) (table.guests others) work.link.stats.messages now }
 
   -- Idle objects are scanned for where messages or time paid for it, else later. Where no object may go, nothing is done.

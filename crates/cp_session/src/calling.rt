@@ -29,9 +29,9 @@ pub trait CallingSession: DrivenSession {
         ensures { Did (Self.state self.old) (machine.Resolve promise value) (answered (λ _. values.Nothing) result) (Self.state self.new) };
 
     /// Gives a question up. Where its outcome came and wasn't handed out by `poll_event` it never is: it is released (`release_outcome`).
-    /// Refused as `Vat::finish`.
+    /// Where an object here is to answer it later, that is told (`ServedObject::on_cancel`). Refused as `Vat::finish`.
     fn finish(&mut self, question: u32) -> Result<(), ConnectionFault>
-        ensures finishes { OnOk result (FinishesQuestion question (Self.state self.old) (Self.state self.new)) }
+        ensures finishes { OnOk result (FinishesQuestion Self.table question (Self.state self.old) (Self.state self.new)) }
         ensures unfinished { IfErr result (λ fault. Did (Self.state self.old) (machine.Finish question) (Err fault) (Self.state self.new)) };
 
     /// Gives back what an outcome named that was handed out: each import once, as `release`, but that what the vat still uses is released as

@@ -8,9 +8,9 @@ ghost use Rattle.cp_session.specs.Progress.{IsDraining};
 ghost use Rattle.cp_session.specs.State.{State, link_of, new_state};
 ghost use Rattle.cp_session.specs.declared.progress.Phase.TheVariants as phases;
 
-use crate::event::SessionEvent;
 use crate::options::SessionOptions;
 use cp_connection::{ConnectionFault, ConnectionStats};
+use cp_dispatch::SessionEvent;
 use cp_objects::Waker;
 use std::alloc::{AllocError, Global};
 
@@ -69,8 +69,9 @@ pub trait DrivenSession: Drop {
         ensures runs_out { OnErr result (RunsOut table (state self.old) now (state self.new)) };
 
     /// Time passed: the session ends if it meets a limit at this time. Where too much is kept, an Abort says so to the peer first. Where
-    /// none is met objects are woken whose time has come, so that `has_more` says so, and those are dropped that nothing refers to, where
-    /// it is time for that.
+    /// none is met a peer that was silent for half of `SessionLimits::idle` is asked for what it gives, by bytes that `outgoing` has then.
+    /// Objects are woken whose time has come, so that `has_more` says so, and those are dropped that nothing refers to, where it is time
+    /// for that.
     fn tick(&mut self, now: u64)
         ensures { Ticks table (state self.old) now (state self.new) };
 
@@ -87,8 +88,8 @@ pub trait DrivenSession: Drop {
     fn kept(&self) -> u64
         ensures { let it = state self.now in result ≡ kept_of it.service.work (table.guests it.objects) };
 
-    /// When to call `tick` next: a limit of time is met then, if no byte moves before, or an object is to be woken, or objects are sought
-    /// that nothing refers to.
+    /// When to call `tick` next: a limit of time is met then, if no byte moves before, or a silent peer is to be asked, or an object is to be
+    /// woken, or objects are sought that nothing refers to.
     fn deadline(&self) -> Option<u64>
         ensures { result ≡ due_of table (state self.now) };
 

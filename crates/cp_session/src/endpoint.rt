@@ -1,6 +1,8 @@
 //! A connection, with what is done for its objects after each message.
 
-ghost use Rattle.std.specs.Prelude.{◌≡◌, ◌<◌, ◌≤◌, ◌↔◌, Err, IsSome, IsTrue, IfOk, IfErr, OnErr, OnOk, length, nat_lt, true, false};
+ghost use Rattle.std.specs.Prelude.{◌≡◌, ◌<◌, ◌≤◌, ◌↔◌, Err, IsSome, IsTrue, IfOk, IfErr, OnErr, OnOk, Some, length, nat_lt, true, false};
+ghost use Rattle.cp_refs.specs.declared.call.Origin.TheVariants as origins;
+ghost use Rattle.cp_dispatch.specs.Canceling.{Cancels};
 ghost use Rattle.cp_dispatch.specs.Finishing as own;
 ghost use Rattle.cp_dispatch.specs.Finishing.{GivesBackEach};
 ghost use Rattle.cp_dispatch.specs.Receiving.{IsCutShort};
@@ -12,20 +14,23 @@ ghost use Rattle.cp_vat_machine.specs.InUse.{caps_of};
 ghost use Rattle.cp_vat_machine.specs.declared.event.Event.TheVariants as machine;
 ghost use Rattle.cp_vat_machine.specs.declared.event.Value.TheVariants as values;
 ghost use Rattle.cp_frame.specs.Reader.{taken_of};
+ghost use Rattle.cp_session.specs.Asking.{AsksPeer};
+ghost use Rattle.cp_session.specs.EmptyPolls.{renewed};
 ghost use Rattle.cp_session.specs.Kept.{kept_of};
 ghost use Rattle.cp_session.specs.Search.{IsDue, MayHoldIdle, Seeks};
 ghost use Rattle.cp_session.specs.Refusing.{Refuses};
-ghost use Rattle.cp_session.specs.Serves.{Ends, Follows, HasGiven, IsUnended, MayGive, Polls, Takes, WorksOn};
+ghost use Rattle.cp_session.specs.Serves.{CountsPoll, Ends, Follows, HasGiven, has_acted, IsUnended, MayGive, Polls, Takes, WorksOn};
 ghost use Rattle.cp_session.specs.Service.{first_search, new_service, service_of, with_link};
 ghost use Rattle.cp_session.specs.Sweep.{Sweeps, SweepsAll, SweepsInTime};
 
+use crate::empty_polls::EmptyPolls;
 use crate::options::SessionOptions;
 use crate::search::Search;
 use crate::sweep::{Sweep, has_come};
 use cp_connection::{Connection, ConnectionFault, Excess};
-use cp_dispatch::Dispatcher;
+use cp_dispatch::{Dispatcher, SessionEvent};
 use cp_objects::ObjectTable;
-use cp_refs::Outcome;
+use cp_refs::{Origin, Outcome};
 use std::alloc::{AllocError, Global};
 
 /// The bytes that an entry of a vat takes at most, its content aside, and those that a promise takes.
@@ -43,6 +48,7 @@ pub(crate) struct Endpoint {
     /// An object gave what was awaited when all were polled last.
     gave: bool,
     sweep: Sweep,
+    empty_polls: EmptyPolls,
 }
 
 impl Endpoint {
@@ -61,6 +67,7 @@ impl Endpoint {
             search: search_if(options.releases_idle),
             gave: false,
             sweep: Sweep::new(),
+            empty_polls: EmptyPolls::new(),
         }
     }
 
@@ -91,11 +98,12 @@ impl Endpoint {
         ensures unended { IfErr result (λ fault. IsUnended self.old.connection fault self.new.connection objects.old objects.new) }
     {
         self.connection.end()?;
+        self.empty_polls.renew();
         self.round(objects, now)?;
         Ok(())
     }
 
-    /// Does what happened asks of the objects, and polls each of them once.
+    /// Does what happened asks of the objects, and polls each of them once. Counts the poll.
     pub(crate) fn poll<H: ObjectTable>(
         &mut self,
         objects: &mut H,
@@ -104,8 +112,51 @@ impl Endpoint {
         ensures works { OnOk result (WorksOn H.table now (service_of self.old) (service_of self.new) objects.old objects.new) }
         ensures lives { Lives self.old.connection self.new.connection }
     {
+        let waiting = self.connection.held().events;
+        let sent = self.connection.stats().sent;
         self.work.work_off(&mut self.connection, objects)?;
-        self.round(objects, now)
+        self.round(objects, now)?;
+        let acted = self.has_acted(waiting, sent);
+        self.count_poll(acted | self.gave)
+    }
+
+    /// Whether events were worked off or messages sent, since so many waited and so many had been sent.
+    fn has_acted(&self, waiting: usize, sent: u64) -> bool
+        ensures { result ≡ has_acted waiting sent self.now.connection }
+    {
+        (waiting > 0) | (self.connection.stats().sent > sent)
+    }
+
+    /// Counts a poll that gave something, or nothing. The program is told once of too many that gave nothing.
+    fn count_poll(&mut self, gave: bool) -> Result<(), AllocError>
+        ensures counts { OnOk result (CountsPoll gave (service_of self.old) (service_of self.new)) }
+        ensures same { self.new.connection ≡ self.old.connection }
+    {
+        let is_restless = self.empty_polls.note(gave);
+        if is_restless {
+            return self.work.note(SessionEvent::Restless);
+        }
+        Ok(())
+    }
+
+    /// Something came: empty polls are counted anew.
+    pub(crate) fn stir(&mut self)
+        ensures { self.new ≡ record self.old { empty_polls = renewed self.old.empty_polls } }
+    {
+        self.empty_polls.renew();
+    }
+
+    /// Asks the peer for what it gives, and gives the question up at once: it answers all the same, if it is there.
+    pub(crate) fn ask(&mut self)
+        ensures asks { AsksPeer self.old.connection self.new.connection }
+        ensures same { self.new ≡ record self.old { connection = self.new.connection } }
+    {
+        match self.connection.bootstrap() {
+            Ok(question) => {
+                let _ = self.connection.finish(question);
+            }
+            Err(_) => {}
+        }
     }
 
     /// Gives an import back that an outcome named to the program.
@@ -135,6 +186,20 @@ impl Endpoint {
         self.work.give_back_each(&mut self.connection, outcome)
     }
 
+    /// Tells the object that is to answer this question of the program's that it was given up, if there is one, and works off what follows.
+    pub(crate) fn cancel<H: ObjectTable>(
+        &mut self,
+        objects: &mut H,
+        question: u32,
+    ) -> Result<(), AllocError>
+        ensures cancels { OnOk result (Cancels H.table (Some (origins.Own question)) (service_of self.old).work (service_of self.new).work objects.old objects.new) }
+        ensures same { service_of self.new ≡ record (service_of self.old) { work = (service_of self.new).work } }
+        ensures lives { Lives self.old.connection self.new.connection }
+    {
+        self.work
+            .cancel(&mut self.connection, objects, Some(Origin::Own(question)))
+    }
+
     /// Tells the peer what is too much, if something is: the connection is aborted for that.
     pub(crate) fn refuse(&mut self, excess: Option<Excess>)
         ensures refuses { Refuses excess self.old.connection self.new.connection }
@@ -151,7 +216,9 @@ impl Endpoint {
         ensures more { result ≡ true → MayGive H.table (service_of self.now) objects.now }
         ensures none { result ≡ false → HasGiven H.table (service_of self.now) objects.now }
     {
-        self.gave || self.connection.held().events > 0 || objects.has_more()
+        self.gave
+            || self.connection.held().events > 0
+            || (!self.empty_polls.are_many() && objects.has_more())
     }
 
     /// Whether the connection ended.
@@ -198,6 +265,7 @@ impl Endpoint {
         if !has_ended {
             return Ok(());
         }
+        self.stir();
         self.round(objects, now)
     }
 
@@ -248,13 +316,14 @@ impl Endpoint {
         Ok(())
     }
 
-    /// Drops the objects and promises that nothing refers to.
+    /// Drops the objects and promises that nothing refers to, and works off what that leads to.
     fn sweep_all<H: ObjectTable>(&mut self, objects: &mut H, now: u64) -> Result<(), AllocError>
         ensures sweeps { OnOk result (SweepsAll H.table now (service_of self.old) (service_of self.new) objects.old objects.new) }
         ensures lives { Lives self.old.connection self.new.connection }
     {
         let before = objects.guests();
         self.work.drop_idle(&mut self.connection, objects)?;
+        self.work.work_off(&mut self.connection, objects)?;
         let messages = self.connection.stats().messages;
         self.sweep = Sweep::after(before, objects.guests(), messages, now);
         Ok(())

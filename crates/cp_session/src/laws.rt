@@ -18,7 +18,8 @@ pub fn written_first<H: ObjectTable>()
     ensures { WrittenFirst H.table }
 {}
 
-/// A session of a list of objects is to be ticked for its limits alone: whatever is done with it, its deadline is that of its limits.
+/// A session of a list of objects is to be ticked for its limits alone, of which one has it ask a silent peer: whatever is done with it, its
+/// deadline is that of its limits.
 pub fn due_by_limits<O: Servant>()
     ensures { LimitsAlone O.kind }
 {}

@@ -8,7 +8,8 @@ ghost use Rattle.cp_session.specs.Limits.{shortest, standard, unlimited};
 pub struct SessionLimits {
     /// The time in which a message comes whole, from its first byte on.
     pub message: u64,
-    /// The time in which a byte moves, either way.
+    /// The time in which a byte moves, either way. A peer that is silent for half of it is asked for what it gives, once: one that is there
+    /// answers, and so isn't taken for one that is gone.
     pub idle: u64,
     /// The time in which the peer closes, once nothing more goes to it.
     pub closing: u64,

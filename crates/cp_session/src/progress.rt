@@ -1,25 +1,13 @@
 //! How far a session is, and which of its limits it meets.
 
 ghost use Rattle.std.specs.Prelude.{◌≡◌, ◌↔◌, true, Some, IsTrue, IfSome, IfNone};
-ghost use Rattle.cp_session.specs.Progress.{begun, opened_by, stopped, finished, failed, heeding, ended_again, left, over, met, ended_by, excess_by, kept_excess, IsAtWork, IsDraining, Meets, TicksTo, WentBy, IsSlow, deadline_of, message_deadline, earlier};
-ghost use Rattle.cp_session.specs.declared.progress.Limit.{Limit};
+ghost use Rattle.cp_session.specs.Progress.{ask_by, begun, less, moved_at, written_at, opened_by, stopped, finished, failed, heeding, ended_again, left, over, met, ended_by, excess_by, kept_excess, IsAtWork, IsDraining, Meets, TicksTo, WentBy, IsSlow, deadline_of, message_deadline, earlier};
+ghost use Rattle.cp_dispatch.specs.declared.event.Limit.{Limit};
 ghost use Rattle.cp_session.specs.declared.progress.Phase.TheVariants as phases;
 
 use crate::limits::SessionLimits;
 use cp_connection::{ConnectionFault, Excess};
-
-/// A limit that a session met.
-#[derive(Clone, Copy, PartialEq, Eq)]
-pub enum Limit {
-    /// A message didn't come whole in time.
-    Message,
-    /// No byte moved in time.
-    Idle,
-    /// The peer didn't close in time.
-    Closing,
-    /// Too many bytes are kept.
-    Kept,
-}
+use cp_dispatch::Limit;
 
 /// How far a session is.
 #[derive(Clone, Copy, PartialEq, Eq)]
@@ -40,6 +28,8 @@ pub(crate) struct Progress {
     phase: Phase,
     /// When a byte moved last, either way.
     moved: u64,
+    /// The peer was asked since then, and of the bytes of that so many are still to be written.
+    asked: Option<usize>,
     /// Since when the open message comes, if one does.
     opened: Option<u64>,
     /// The peer's bytes ended after a message.
@@ -60,6 +50,7 @@ impl Progress {
         Progress {
             phase: Phase::Serving,
             moved: now,
+            asked: None,
             opened: None,
             is_finished: false,
             fault: None,
@@ -97,17 +88,46 @@ impl Progress {
     }
 
     /// A byte moved at this time.
-    pub(crate) fn move_at(&mut self, now: u64)
-        ensures { self.new ≡ record self.old { moved = now } }
+    fn move_at(&mut self, now: u64)
+        ensures { self.new ≡ moved_at now self.old }
     {
         self.moved = now;
+        self.asked = None;
+    }
+
+    /// So many bytes were written at this time. Those by which the peer was asked don't count: it may be gone.
+    pub(crate) fn write_at(&mut self, count: usize, now: u64)
+        ensures { self.new ≡ written_at count now self.old }
+    {
+        match less(count, self.asked) {
+            Some(left) => self.asked = Some(left),
+            None => self.move_at(now),
+        }
+    }
+
+    /// The peer was asked, by so many bytes, which are the first to be written.
+    pub(crate) fn ask(&mut self, count: usize)
+        ensures { self.new ≡ record self.old { asked = Some count } }
+    {
+        self.asked = Some(count);
+    }
+
+    /// When a peer that all was written to is asked, if no byte moves before: once half of the time is over in which one has to.
+    pub(crate) fn ask_time(&self, limits: &SessionLimits) -> Option<u64>
+        ensures { result ≡ ask_by limits.now self.now self.now.phase self.now.asked }
+    {
+        if self.phase != Phase::Serving || self.asked.is_some() {
+            return None;
+        }
+        let idle = self.moved.checked_add(limits.idle)?;
+        Some(idle - limits.idle / 2)
     }
 
     /// Bytes were taken at this time, and left a message open or not. Each byte of a message gives it no more time.
     pub(crate) fn take_at(&mut self, now: u64, is_open: bool)
-        ensures { self.new ≡ record self.old { moved = now; opened = opened_by self.old.opened is_open now } }
+        ensures { self.new ≡ record (moved_at now self.old) { opened = opened_by self.old.opened is_open now } }
     {
-        self.moved = now;
+        self.move_at(now);
         self.opened = if is_open {
             Some(self.opened.unwrap_or(now))
         } else {
@@ -297,6 +317,13 @@ fn kept_excess(phase: Phase) -> Option<Excess>
         Phase::Serving => Some(Excess::Kept),
         Phase::Ending | Phase::Draining { .. } | Phase::Over => None,
     }
+}
+
+/// How many of so many bytes are left once the first ones were written, unless more were.
+fn less(count: usize, left: Option<usize>) -> Option<usize>
+    ensures { result ≡ less count left }
+{
+    left?.checked_sub(count)
 }
 
 /// Whether a time went by.

@@ -2,23 +2,20 @@
 
 ghost use Rattle.std.specs.Prelude.{◌≡◌, ◌↔◌, ◌≤◌, true, false, Ok, Err, Some, None, IsTrue, IfOk, IfErr, OnOk, OnErr, length};
 ghost use Rattle.cp_dispatch.specs.Work.{Lives};
-ghost use Rattle.cp_dispatch.specs.declared.event.DispatchEvent.TheVariants as notices;
-ghost use Rattle.cp_session.specs.Doing.{ActsInTime, Adds, EndsObjects, Finishes, GivesMore, GivesNone, GoesBy, GoesOn, IsCut, IsDone, IsUnfinished, IsSettled, IsStopped, IsUnsettled, IsUnworked, KeepsRest, Leaves, MayTake, PassesTime, ReleasesUntaken, Settles, TakesIn, alarm_of, ending_by, fault_of, knows_by, next_cap, told_of};
+ghost use Rattle.cp_session.specs.Doing.{ActsInTime, Adds, Asks, CancelsOwn, ask_time, EndsObjects, Finishes, GivesMore, GivesNone, GoesBy, GoesOn, IsCut, IsDone, IsUnfinished, IsSettled, IsStopped, IsUnsettled, IsUnworked, KeepsRest, Leaves, MayTake, PassesTime, ReleasesUntaken, Settles, TakesIn, alarm_of, ending_by, fault_of, knows_by, next_cap, told_if, told_of};
 ghost use Rattle.cp_session.specs.State.{link_of, new_state, state_of};
 
 use crate::calling::CallingSession;
 use crate::driven::DrivenSession;
 use crate::endpoint::Endpoint;
-use crate::event::SessionEvent;
 use crate::limits::SessionLimits;
 use crate::options::SessionOptions;
-use crate::progress::{Limit, Progress, earlier};
+use crate::progress::{Progress, earlier};
 use crate::sweep::has_come;
 use cp_connection::{ConnectionFault, ConnectionStats};
-use cp_dispatch::DispatchEvent;
+use cp_dispatch::{Limit, SessionEvent};
 use cp_objects::{ObjectTable, Objects, ServedObject, SessionCap, Waker};
 use cp_refs::{Cap, Outcome, PromiseId, Request};
-use cp_vat_machine::Reason;
 use std::alloc::{AllocError, Global};
 
 /// One end of a connection with its objects, without a device and without a clock.
@@ -186,7 +183,7 @@ impl<H: ObjectTable> DrivenSession for SessionOver<H> {
     }
 
     fn deadline(&self) -> Option<u64> {
-        let limit = self.progress.deadline(&self.limits);
+        let limit = earlier(self.progress.deadline(&self.limits), self.ask_time());
         if self.is_stopped() {
             return limit;
         }
@@ -199,16 +196,13 @@ impl<H: ObjectTable> DrivenSession for SessionOver<H> {
 
     fn wrote(&mut self, count: usize, now: u64) {
         self.endpoint.connection.wrote(count);
-        self.progress.move_at(now);
+        self.progress.write_at(count, now);
         self.settle(now);
     }
 
     fn poll_event(&mut self) -> Option<SessionEvent> {
         match self.endpoint.work.next() {
-            Some(DispatchEvent::Settled { question, outcome }) => {
-                Some(SessionEvent::Outcome { question, outcome })
-            }
-            Some(DispatchEvent::Closed(reason)) => self.closing_event(reason),
+            Some(event) => self.tell(event),
             None => self.last_event(),
         }
     }
@@ -241,7 +235,9 @@ impl<H: ObjectTable> DrivenSession for SessionOver<H> {
     }
 
     fn wake(&mut self, object: u32) -> Result<(), AllocError> {
-        self.objects.wake(object)
+        self.objects.wake(object)?;
+        self.endpoint.stir();
+        Ok(())
     }
 
     fn next_wake(&mut self) -> Option<Waker> {
@@ -269,6 +265,7 @@ impl<H: ObjectTable> CallingSession for SessionOver<H> {
     fn finish(&mut self, question: u32) -> Result<(), ConnectionFault> {
         let untaken = self.endpoint.finish(question)?;
         self.release_untaken(untaken);
+        self.cancel(question);
         Ok(())
     }
 
@@ -296,6 +293,16 @@ impl<H: ObjectTable> SessionOver<H> {
         match untaken {
             Some(outcome) => self.release_outcome(outcome),
             None => {}
+        }
+    }
+
+    /// Tells the object that is to answer a question which is given up, if there is one.
+    fn cancel(&mut self, question: u32)
+        ensures { CancelsOwn H.table question (state_of self.old) (state_of self.new) }
+    {
+        match self.endpoint.cancel(&mut self.objects, question) {
+            Ok(()) => {}
+            Err(_) => self.progress.fail(ConnectionFault::OutOfMemory),
         }
     }
 
@@ -350,14 +357,38 @@ impl<H: ObjectTable> SessionOver<H> {
         }
     }
 
-    /// Time passes for the objects, unless nothing more is given.
+    /// Asks a peer that is silent, and has time pass for the objects, unless nothing more is given.
     fn go_by(&mut self, now: u64)
         ensures { GoesBy H.table now (state_of self.old) (state_of self.new) }
     {
         if self.is_stopped() {
             return;
         }
+        self.ask_if_silent(now);
         self.pass_time(now);
+    }
+
+    /// Asks a peer that was silent for half of the time that it may be, so that one that is there isn't taken for one that is gone.
+    fn ask_if_silent(&mut self, now: u64)
+        ensures { Asks now (state_of self.old) (state_of self.new) }
+    {
+        if !has_come(self.ask_time(), now) {
+            return;
+        }
+        self.endpoint.ask();
+        let count = self.outgoing().len();
+        self.progress.ask(count);
+    }
+
+    /// When the peer is asked, if no byte moves before.
+    fn ask_time(&self) -> Option<u64>
+        ensures { result ≡ ask_time (state_of self.now) }
+    {
+        if self.outgoing().is_empty() {
+            self.progress.ask_time(&self.limits)
+        } else {
+            None
+        }
     }
 
     /// Wakes the objects whose time has come, and drops those that nothing refers to, where it is time for that.
@@ -381,6 +412,7 @@ impl<H: ObjectTable> SessionOver<H> {
     {
         self.objects.set_now(now);
         self.objects.wake_due()?;
+        self.endpoint.stir();
         self.endpoint.tick(&mut self.objects, now)
     }
 
@@ -470,17 +502,20 @@ impl<H: ObjectTable> SessionOver<H> {
         self.progress.is_ending() && self.outgoing().is_empty() && !self.gives_more()
     }
 
-    /// The event that says that the vat closed, unless another one said why nothing more is taken.
-    fn closing_event(&mut self, reason: Reason) -> Option<SessionEvent>
-        ensures event { result ≡ told_of (state_of self.old) (Some (notices.Closed reason)) }
-        ensures told { self.new ≡ record self.old { progress = record self.old.progress { is_told = true } } }
+    /// Tells an event: one that says why nothing more is taken only where none did before.
+    fn tell(&mut self, event: SessionEvent) -> Option<SessionEvent>
+        ensures event { result ≡ told_if self.old.progress.is_told event }
+        ensures told { self.new ≡ record self.old { progress = record self.old.progress { is_told = knows_by result self.old.progress.is_told } } }
     {
+        if !event.is_last() {
+            return Some(event);
+        }
         if self.progress.is_told {
-            drop(reason);
+            drop(event);
             return None;
         }
         self.progress.is_told = true;
-        Some(SessionEvent::Closed(reason))
+        Some(event)
     }
 
     /// The event that says why nothing more is taken, once.

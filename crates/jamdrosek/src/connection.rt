@@ -4,12 +4,12 @@
 //! returns what happened. It fits a socket, a pipe or an event loop alike. The example `connection` joins two in memory.
 //!
 //! `Dispatcher` hands calls to objects (`server::Servant`). Its `receive` has the connection take bytes, lends calls to the objects and answers
-//! them. `work_off` does so for whatever else happened, and `round` polls the objects. A `DispatchEvent` is what is left for you.
+//! them. `work_off` does so for whatever else happened, and `round` polls the objects. A `SessionEvent` is what is left for you.
 //! `receive_lending` and `reuse` are for programs that lend calls themselves (`BorrowedCall`).
 
 pub use cp_connection::{
     Connection, ConnectionEvent, ConnectionFault, ConnectionStats, Excess, Held,
 };
-pub use cp_dispatch::{DispatchEvent, Dispatcher};
+pub use cp_dispatch::{Dispatcher, SessionEvent};
 pub use cp_servants::any_has_more;
 pub use cp_vat::BorrowedCall;

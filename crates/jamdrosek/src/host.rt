@@ -11,6 +11,7 @@
 //! polled at once, and can call its peer. After `wake_after(ms)` the program's `next` returns `Woken`, for example to write down the host's
 //! `figures`.
 
-pub use cp_session::{Limit, SessionLimits};
+pub use cp_dispatch::Limit;
+pub use cp_session::SessionLimits;
 pub use net_host::{End, Host, HostConfig, HostEvent, HostFigures, HostLimits, WhenFull};
 pub use net_sockets::{Listener, Peer};

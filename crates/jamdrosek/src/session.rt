@@ -10,8 +10,7 @@
 //! a question of yours, or says why the session ended: that one comes once, and last.
 
 pub use cp_connection::{ConnectionFault, ConnectionStats};
+pub use cp_dispatch::{Limit, SessionEvent};
 pub use cp_refs::{Cap, Caps, Outcome, Path, PromiseId, Request};
-pub use cp_session::{
-    CallingSession, DrivenSession, Limit, Session, SessionEvent, SessionLimits, SessionOptions,
-};
+pub use cp_session::{CallingSession, DrivenSession, Session, SessionLimits, SessionOptions};
 pub use cp_vat_machine::Reason;

@@ -7,10 +7,10 @@ use Rattle.cp_connection.specs.declared.excess.Excess.{Excess}
 use Rattle.cp_connection.specs.declared.fault.ConnectionFault.{ConnectionFault}
 use Rattle.cp_objects.specs.declared.waker.Waker.{Waker}
 use Rattle.cp_objects.specs.ObjectTable.{ObjectTableKind}
-use Rattle.cp_session.specs.declared.event.SessionEvent.{SessionEvent}
+use Rattle.cp_dispatch.specs.declared.event.SessionEvent.{SessionEvent}
 use Rattle.cp_session.specs.declared.limits.SessionLimits.{SessionLimits}
-use Rattle.cp_session.specs.declared.progress.Limit.{Limit}
-use Rattle.cp_session.specs.declared.progress.Limit.TheVariants as limits
+use Rattle.cp_dispatch.specs.declared.event.Limit.{Limit}
+use Rattle.cp_dispatch.specs.declared.event.Limit.TheVariants as limits
 use Rattle.cp_session.specs.declared.progress.Phase.{Phase}
 use Rattle.cp_session.specs.declared.progress.Progress.{Progress}
 use Rattle.cp_session.specs.declared.progress.Phase.TheVariants as phases

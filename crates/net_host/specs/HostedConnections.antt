@@ -7,11 +7,11 @@ use Rattle.std.specs.declared.io.ErrorKind.TheVariants as kinds
 use Rattle.cp_connection.specs.declared.event.ConnectionStats.{ConnectionStats}
 use Rattle.cp_objects.specs.declared.waker.Waker.{Waker}
 use Rattle.cp_objects.specs.ObjectTable.{ObjectTableKind}
-use Rattle.cp_session.specs.declared.event.SessionEvent.{SessionEvent}
+use Rattle.cp_dispatch.specs.declared.event.SessionEvent.{SessionEvent}
 use Rattle.cp_session.specs.Budget.{Keeping}
-use Rattle.cp_session.specs.declared.event.SessionEvent.TheVariants as events
-use Rattle.cp_session.specs.declared.progress.Limit.{Limit}
-use Rattle.cp_session.specs.declared.progress.Limit.TheVariants as limits
+use Rattle.cp_dispatch.specs.declared.event.SessionEvent.TheVariants as events
+use Rattle.cp_dispatch.specs.declared.event.Limit.{Limit}
+use Rattle.cp_dispatch.specs.declared.event.Limit.TheVariants as limits
 use Rattle.cp_session.specs.declared.progress.Phase.TheVariants as phases
 use Rattle.cp_session.specs.Doing as doing
 use Rattle.cp_session.specs.Doing.{IsRefused, KeepsRest, MayTake, Ticks, Wakes, Writes, due_of}
@@ -99,6 +99,7 @@ IsTooMuch table session = (session.progress.phase ≡ phases.Serving) × (sessio
 -- how a connection ended, if an event says so
 abbrev pub end_of : SessionEvent → Option End
 end_of (events.Outcome question outcome) = None
+end_of events.Restless = None
 end_of (events.Closed reason) = Some (ends.Closed reason)
 end_of (events.Fault fault) = Some (ends.Fault fault)
 end_of (events.Limit limit) = Some (ends.Limit limit)
@@ -246,7 +247,7 @@ module _ {H : Type 0} (table : ObjectTableKind H) where
     fails_whole : (broken last : Served H) → Breaks now old error broken → Shuts now broken last → HandsOver last woken new → Fails most now old woken error new
     fails_short : (last : Served H) → Lasts most now old last → HandsSome last woken new → error_kind error ≡ kinds.OutOfMemory → Fails most now old woken error new
 
-  -- It went on for the last time, which left it so, and this is how it ended: its stream failed, or memory ran out; or nothing failed, and this is why. All objects of
+  -- It went on for the last time, and this is how it ended: its stream failed, or memory ran out; or nothing failed, and this is why. All objects of
   -- others that are to be woken were handed out; or memory ran out for that, once these were.
   pub data EndsBy (most now : ℕ) (old : Served H) (woken : List Waker) (last : Served H) (end : End) : Type 0 where
     ends_broken : (broken served : Served H) (error : Error) → Breaks now old error broken → Shuts now broken served → HandsOver served woken last

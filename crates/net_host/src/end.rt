@@ -4,7 +4,7 @@ ghost use Rattle.std.specs.Prelude.{◌≡◌};
 ghost use Rattle.net_host.specs.HostedConnections.{end_of};
 
 use cp_connection::{ConnectionFault, ConnectionStats};
-use cp_session::{Limit, SessionEvent};
+use cp_dispatch::{Limit, SessionEvent};
 use cp_vat_machine::Reason;
 use net_sockets::Peer;
 use std::{fmt, io};
@@ -44,6 +44,7 @@ impl End {
                 drop(outcome);
                 None
             }
+            SessionEvent::Restless => None,
             SessionEvent::Closed(reason) => Some(End::Closed(reason)),
             SessionEvent::Fault(fault) => Some(End::Fault(fault)),
             SessionEvent::Limit(limit) => Some(End::Limit(limit)),

@@ -1,5 +1,5 @@
 -- What calls of `notebook` of notebook.capnp lead to.
-use Rattle.std.specs.Prelude.{◌≡◌, ◌≤◌, ◌∷◌, []}
+use Rattle.std.specs.Prelude.{◌≡◌, ◌≤◌, ◌∷◌, [], codes}
 use Rattle.cp_interfaces.specs.Dispatch.{Anything, IsElsewhere, Method, Passes, Refuses}
 use Rattle.cp_interfaces.specs.declared.call.MethodCall.{MethodCall}
 use Rattle.cp_servants.specs.declared.servant.Reply.{Reply}
@@ -26,11 +26,11 @@ pub record NotebookMethodTakes {S : Type 0} (kind : NotebookKind S) (old : S) (c
   pub on_open : call.request.method ≡ 1 → Passes kind.on_open old call reply new
   pub on_watch : call.request.method ≡ 2 → Passes kind.on_watch old call reply new
   pub on_next : call.request.method ≡ 3 → Passes kind.on_next old call reply new
-  pub past : 4 ≤ call.request.method → Refuses old call reply new
+  pub past : 4 ≤ call.request.method → Refuses (codes "Notebook") old call reply new
 
 -- A call does this to an object, by its interface.
 pub record NotebookTakes {S : Type 0}
     (notebook_kind : NotebookKind S)
     (old : S) (call : MethodCall) (reply : Reply) (new : S) : Type 0 where
   pub of_notebook : call.request.interface ≡ 0x845bdbd96c36d051 → NotebookMethodTakes notebook_kind old call reply new
-  pub elsewhere : IsElsewhere (0x845bdbd96c36d051 ∷ []) call → Refuses old call reply new
+  pub elsewhere : IsElsewhere (0x845bdbd96c36d051 ∷ []) call → Refuses (codes "Notebook") old call reply new

@@ -11,6 +11,7 @@ ghost use Rattle.cp_interfaces.specs.Calls.{IsCall, MakesOf, request_of};
 ghost use Rattle.cp_interfaces.specs.Faults.{Unbuilt, Unnamed};
 ghost use Rattle.cp_interfaces.specs.Promises.{Finds, promised_cap};
 ghost use Rattle.cp_interfaces.specs.ServiceCalls.{Answers};
+ghost use Rattle.cp_interfaces.specs.Streams.{no_streams};
 ghost use Rattle.cp_interfaces.specs.Tables.{IsFull, may_name, may_name_all, naming, none_named};
 ghost use Rattle.cp_interfaces.specs.Services.{At, at};
 ghost use Rattle.cp_interfaces.specs.declared.naming_error.NamingError.TheVariants as errors;
@@ -24,7 +25,7 @@ use cp_interfaces::{
     CallTarget, Caller, CapFault, CapTable, CapTableBuilder, Dispatch, LaterAnswer, Lends,
     MethodCall, MethodFault, MethodRequest, MethodResult, NamingError, NoFieldsBuilder,
     NoFieldsPipeline, NoFieldsReader, ObjectDispatch, Pipeline, ResultPayload, Results,
-    ServiceCall, ServiceObject, TypedClient, TypedPipeline, TypedResolver, refuse,
+    ServiceCall, ServiceObject, TypedClient, TypedPipeline, TypedResolver, refuse, refuse_method,
 };
 use cp_objects::{Context, SessionCap};
 use cp_servants::Reply;
@@ -242,6 +243,8 @@ pub type NotebookResolver = TypedResolver<NotebookClient>;
 impl<T: NotebookServer> Dispatch<T> for NotebookClient {
     ghost takes = { NotebookTakes T.notebook_kind };
 
+    ghost streams = { no_streams };
+
     fn dispatch(
         object: &mut T,
         call: &MethodCall<'_>,
@@ -279,8 +282,13 @@ impl<T: NotebookServer> Dispatch<T> for NotebookClient {
             (0x845bdbd96c36d051, 0..=3, Err(fault)) => {
                 refuse(context.alloc(), call, MethodFault::WrongKind(fault))
             }
-            _ => refuse(context.alloc(), call, MethodFault::Unimplemented),
+            _ => refuse_method(context.alloc(), call, "Notebook"),
         }
+    }
+
+    fn is_stream(interface: u64, method: u16) -> bool {
+        let _ = (interface, method);
+        false
     }
 }
 

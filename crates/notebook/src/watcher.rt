@@ -8,6 +8,7 @@ ghost use Rattle.cp_builder.specs.Drafts.{blank, text_tree, with_pointer};
 ghost use Rattle.cp_interfaces.specs.Calls.{IsCall, MakesOf, request_of};
 ghost use Rattle.cp_interfaces.specs.Faults.{Unbuilt};
 ghost use Rattle.cp_interfaces.specs.ServiceCalls.{Answers};
+ghost use Rattle.cp_interfaces.specs.Streams.{no_streams};
 ghost use Rattle.cp_interfaces.specs.Tables.{none_named};
 ghost use Rattle.cp_interfaces.specs.Services.{At, at};
 ghost use Rattle.notebook.specs.Watcher.{WatcherKind, WatcherTakes, any_watcher};
@@ -17,7 +18,7 @@ use cp_fields::{StructReader, TextReader, WrongKind};
 use cp_interfaces::{
     CallTarget, Caller, Dispatch, LaterAnswer, MethodCall, MethodFault, MethodRequest,
     MethodResult, NoFieldsBuilder, NoFieldsPipeline, NoFieldsReader, ObjectDispatch, ServiceCall,
-    ServiceObject, TypedClient, TypedResolver, refuse,
+    ServiceObject, TypedClient, TypedResolver, refuse, refuse_method,
 };
 use cp_objects::{Context, SessionCap};
 use cp_servants::Reply;
@@ -112,6 +113,8 @@ pub type WatcherResolver = TypedResolver<WatcherClient>;
 impl<T: WatcherServer> Dispatch<T> for WatcherClient {
     ghost takes = { WatcherTakes T.watcher_kind };
 
+    ghost streams = { no_streams };
+
     fn dispatch(
         object: &mut T,
         call: &MethodCall<'_>,
@@ -128,8 +131,13 @@ impl<T: WatcherServer> Dispatch<T> for WatcherClient {
             (0x80a0c5d36bb2c9a2, 0, Err(fault)) => {
                 refuse(context.alloc(), call, MethodFault::WrongKind(fault))
             }
-            _ => refuse(context.alloc(), call, MethodFault::Unimplemented),
+            _ => refuse_method(context.alloc(), call, "Watcher"),
         }
+    }
+
+    fn is_stream(interface: u64, method: u16) -> bool {
+        let _ = (interface, method);
+        false
     }
 }
 

@@ -10,6 +10,7 @@ ghost use Rattle.cp_interfaces.specs.Calls.{IsCall, MakesOf, request_of};
 ghost use Rattle.cp_interfaces.specs.Faults.{Unnamed};
 ghost use Rattle.cp_interfaces.specs.Promises.{Finds, promised_cap};
 ghost use Rattle.cp_interfaces.specs.ServiceCalls.{Answers};
+ghost use Rattle.cp_interfaces.specs.Streams.{no_streams};
 ghost use Rattle.cp_interfaces.specs.Tables.{IsFull, may_name, may_name_all, naming, none_named};
 ghost use Rattle.cp_interfaces.specs.Services.{At, at};
 ghost use Rattle.cp_interfaces.specs.declared.naming_error.NamingError.TheVariants as errors;
@@ -22,7 +23,7 @@ use cp_fields::{StructReader, TextReader, WrongKind};
 use cp_interfaces::{
     CallTarget, Caller, CapFault, CapTable, CapTableBuilder, Dispatch, LaterAnswer, MethodCall,
     MethodFault, MethodRequest, MethodResult, NamingError, ObjectDispatch, Pipeline, ResultPayload,
-    Results, ServiceCall, ServiceObject, TypedClient, TypedResolver, refuse,
+    Results, ServiceCall, ServiceObject, TypedClient, TypedResolver, refuse, refuse_method,
 };
 use cp_objects::{Context, SessionCap};
 use cp_servants::Reply;
@@ -124,6 +125,8 @@ pub type ChatResolver = TypedResolver<ChatClient>;
 impl<T: ChatServer> Dispatch<T> for ChatClient {
     ghost takes = { ChatTakes T.chat_kind };
 
+    ghost streams = { no_streams };
+
     fn dispatch(
         object: &mut T,
         call: &MethodCall<'_>,
@@ -140,8 +143,13 @@ impl<T: ChatServer> Dispatch<T> for ChatClient {
             (0x9be749cc343d65aa, 0, Err(fault)) => {
                 refuse(context.alloc(), call, MethodFault::WrongKind(fault))
             }
-            _ => refuse(context.alloc(), call, MethodFault::Unimplemented),
+            _ => refuse_method(context.alloc(), call, "Chat"),
         }
+    }
+
+    fn is_stream(interface: u64, method: u16) -> bool {
+        let _ = (interface, method);
+        false
     }
 }
 

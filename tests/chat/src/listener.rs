@@ -8,6 +8,7 @@ ghost use Rattle.cp_builder.specs.Drafts.{blank, text_tree, with_pointer};
 ghost use Rattle.cp_interfaces.specs.Calls.{IsCall, MakesOf, request_of};
 ghost use Rattle.cp_interfaces.specs.Faults.{Unbuilt};
 ghost use Rattle.cp_interfaces.specs.ServiceCalls.{Answers};
+ghost use Rattle.cp_interfaces.specs.Streams.{no_streams};
 ghost use Rattle.cp_interfaces.specs.Tables.{none_named};
 ghost use Rattle.cp_interfaces.specs.Services.{At, at};
 ghost use Rattle.chat.specs.Listener.{ListenerKind, ListenerTakes, any_listener};
@@ -17,7 +18,7 @@ use cp_fields::{StructReader, TextReader, WrongKind};
 use cp_interfaces::{
     CallTarget, Caller, Dispatch, LaterAnswer, MethodCall, MethodFault, MethodRequest,
     MethodResult, NoFieldsBuilder, NoFieldsPipeline, NoFieldsReader, ObjectDispatch, ServiceCall,
-    ServiceObject, TypedClient, TypedResolver, refuse,
+    ServiceObject, TypedClient, TypedResolver, refuse, refuse_method,
 };
 use cp_objects::{Context, SessionCap};
 use cp_servants::Reply;
@@ -114,6 +115,8 @@ pub type ListenerResolver = TypedResolver<ListenerClient>;
 impl<T: ListenerServer> Dispatch<T> for ListenerClient {
     ghost takes = { ListenerTakes T.listener_kind };
 
+    ghost streams = { no_streams };
+
     fn dispatch(
         object: &mut T,
         call: &MethodCall<'_>,
@@ -130,8 +133,13 @@ impl<T: ListenerServer> Dispatch<T> for ListenerClient {
             (0xba75a021af22dd5e, 0, Err(fault)) => {
                 refuse(context.alloc(), call, MethodFault::WrongKind(fault))
             }
-            _ => refuse(context.alloc(), call, MethodFault::Unimplemented),
+            _ => refuse_method(context.alloc(), call, "Listener"),
         }
+    }
+
+    fn is_stream(interface: u64, method: u16) -> bool {
+        let _ = (interface, method);
+        false
     }
 }
 

@@ -16,6 +16,7 @@ ghost use Rattle.cp_interfaces.specs.Calls.{IsCall, MakesOf, request_of};
 ghost use Rattle.cp_interfaces.specs.Faults.{Unbuilt, Unnamed};
 ghost use Rattle.cp_interfaces.specs.Promises.{Finds, along, promised_cap};
 ghost use Rattle.cp_interfaces.specs.ServiceCalls.{Answers};
+ghost use Rattle.cp_interfaces.specs.Streams.{no_streams};
 ghost use Rattle.cp_interfaces.specs.Tables.{IsFull, may_name, may_name_all, naming, none_named};
 ghost use Rattle.clauses.specs.Not.{not_number};
 ghost use Rattle.clauses.specs.Not.{not_of};
@@ -31,7 +32,7 @@ use cp_interfaces::{
     CallTarget, Caller, CapFault, CapTable, CapTableBuilder, Dispatch, LaterAnswer, Lends,
     MethodCall, MethodFault, MethodRequest, MethodResult, NamingError, ObjectDispatch, Pipeline,
     ResultPayload, Results, ServiceCall, ServiceObject, TypedClient, TypedPipeline, TypedResolver,
-    refuse,
+    refuse, refuse_method,
 };
 use cp_objects::{Context, SessionCap};
 use cp_servants::Reply;
@@ -235,6 +236,8 @@ pub type BlankResolver = TypedResolver<BlankClient>;
 impl<T: BlankServer> Dispatch<T> for BlankClient {
     ghost takes = { BlankTakes T.blank_kind };
 
+    ghost streams = { no_streams };
+
     fn dispatch(
         object: &mut T,
         call: &MethodCall<'_>,
@@ -265,8 +268,13 @@ impl<T: BlankServer> Dispatch<T> for BlankClient {
             (0xeca4a334eb82a4a8, 0..=2, Err(fault)) => {
                 refuse(context.alloc(), call, MethodFault::WrongKind(fault))
             }
-            _ => refuse(context.alloc(), call, MethodFault::Unimplemented),
+            _ => refuse_method(context.alloc(), call, "Blank"),
         }
+    }
+
+    fn is_stream(interface: u64, method: u16) -> bool {
+        let _ = (interface, method);
+        false
     }
 }
 

@@ -9,6 +9,7 @@ ghost use Rattle.cp_builder.specs.Drafts.{blank};
 ghost use Rattle.cp_interfaces.specs.Calls.{IsCall, MakesOf, request_of};
 ghost use Rattle.cp_interfaces.specs.Faults.{Unbuilt};
 ghost use Rattle.cp_interfaces.specs.ServiceCalls.{Answers};
+ghost use Rattle.cp_interfaces.specs.Streams.{no_streams};
 ghost use Rattle.cp_interfaces.specs.Tables.{none_named};
 ghost use Rattle.cp_interfaces.specs.Services.{At, at};
 ghost use Rattle.jobs.specs.Handle.{HandleKind, HandleTakes, any_handle};
@@ -18,7 +19,7 @@ use cp_fields::{StructReader, TextReader, WrongKind};
 use cp_interfaces::{
     CallTarget, Caller, CapTableBuilder, Dispatch, LaterAnswer, Lends, MethodCall, MethodFault,
     MethodRequest, MethodResult, NoFieldsReader, ObjectDispatch, Results, ServiceCall,
-    ServiceObject, TypedClient, TypedPipeline, TypedResolver, refuse,
+    ServiceObject, TypedClient, TypedPipeline, TypedResolver, refuse, refuse_method,
 };
 use cp_objects::{Context, SessionCap};
 use cp_servants::Reply;
@@ -105,6 +106,8 @@ pub type HandleResolver = TypedResolver<HandleClient>;
 impl<T: HandleServer> Dispatch<T> for HandleClient {
     ghost takes = { HandleTakes T.handle_kind };
 
+    ghost streams = { no_streams };
+
     fn dispatch(
         object: &mut T,
         call: &MethodCall<'_>,
@@ -121,8 +124,13 @@ impl<T: HandleServer> Dispatch<T> for HandleClient {
             (0x97fca19f41a8b292, 0, Err(fault)) => {
                 refuse(context.alloc(), call, MethodFault::WrongKind(fault))
             }
-            _ => refuse(context.alloc(), call, MethodFault::Unimplemented),
+            _ => refuse_method(context.alloc(), call, "Handle"),
         }
+    }
+
+    fn is_stream(interface: u64, method: u16) -> bool {
+        let _ = (interface, method);
+        false
     }
 }
 

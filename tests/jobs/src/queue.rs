@@ -11,6 +11,7 @@ ghost use Rattle.cp_interfaces.specs.Calls.{IsCall, MakesOf, request_of};
 ghost use Rattle.cp_interfaces.specs.Faults.{Unbuilt};
 ghost use Rattle.cp_interfaces.specs.Promises.{Finds, promised_cap};
 ghost use Rattle.cp_interfaces.specs.ServiceCalls.{Answers};
+ghost use Rattle.cp_interfaces.specs.Streams.{no_streams};
 ghost use Rattle.cp_interfaces.specs.Tables.{IsFull, may_name, naming, none_named};
 ghost use Rattle.cp_interfaces.specs.Services.{At, at};
 ghost use Rattle.cp_interfaces.specs.declared.naming_error.NamingError.TheVariants as errors;
@@ -24,7 +25,7 @@ use cp_interfaces::{
     CallTarget, Caller, CapFault, CapTable, CapTableBuilder, Dispatch, LaterAnswer, MethodCall,
     MethodFault, MethodRequest, MethodResult, NamingError, NoFieldsReader, ObjectDispatch,
     Pipeline, ResultPayload, Results, ServiceCall, ServiceObject, TypedClient, TypedResolver,
-    refuse,
+    refuse, refuse_method,
 };
 use cp_objects::{Context, SessionCap};
 use cp_servants::Reply;
@@ -152,6 +153,8 @@ pub type QueueResolver = TypedResolver<QueueClient>;
 impl<T: QueueServer> Dispatch<T> for QueueClient {
     ghost takes = { QueueTakes T.queue_kind };
 
+    ghost streams = { no_streams };
+
     fn dispatch(
         object: &mut T,
         call: &MethodCall<'_>,
@@ -175,8 +178,13 @@ impl<T: QueueServer> Dispatch<T> for QueueClient {
             (0xaa61c3d66832ee82, 0..=1, Err(fault)) => {
                 refuse(context.alloc(), call, MethodFault::WrongKind(fault))
             }
-            _ => refuse(context.alloc(), call, MethodFault::Unimplemented),
+            _ => refuse_method(context.alloc(), call, "Queue"),
         }
+    }
+
+    fn is_stream(interface: u64, method: u16) -> bool {
+        let _ = (interface, method);
+        false
     }
 }
 

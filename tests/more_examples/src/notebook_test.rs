@@ -4,9 +4,11 @@
 use crate::notebook_client::talk;
 use crate::notebook_server::{Served, new_objects, new_shelf};
 use anyhow::anyhow;
+use jamdrosek::client::Client;
 use jamdrosek::host::{Host, HostConfig, Listener, HostEvent};
 use jamdrosek::session::{DrivenSession, Session, SessionLimits, SessionOptions};
 use jamdrosek::{Limits, Mode};
+use notebook::PageClient;
 use std::alloc::Global;
 use std::io::{Read, Write};
 use std::net::{Ipv4Addr, Shutdown, SocketAddr, TcpStream};
@@ -20,6 +22,10 @@ pub fn run(rt: &HostRuntime) -> anyhow::Result<()> {
     let (_, most, left) = answers_to(alloc, &calls)?;
     println!(rt; "{}", said?.as_str())?;
     println!(rt; "{most} objects, and {left} once the page is dropped")?;
+    let (misread_calls, _) = misread(alloc, &[])?;
+    let (answers, _, _) = answers_to(alloc, &misread_calls)?;
+    let (_, said) = misread(alloc, &answers)?;
+    println!(rt; "{}", said.as_str())?;
     let (first, second) = hellos(rt, &calls)?;
     println!(rt; "hello {first} times to the first client, {second} times to the second")?;
     Ok(())
@@ -28,6 +34,20 @@ pub fn run(rt: &HostRuntime) -> anyhow::Result<()> {
 /// What a client sends that receives these bytes, and what it says.
 fn exchange(alloc: Global, from: &[u8]) -> anyhow::Result<(Vec<u8>, anyhow::Result<String>)> {
     talk(alloc, from, Vec::new(alloc))
+}
+
+/// What a client sends that takes a notebook for a page, and what it is told.
+fn misread(alloc: Global, from: &[u8]) -> anyhow::Result<(Vec<u8>, String)> {
+    let mut client = Client::new(alloc, from, Vec::new(alloc), Mode::Plain, Limits::standard());
+    let root = client.bootstrap()?.cap(alloc);
+    let page = PageClient::new(alloc, client.own(root));
+    let read = page.read(&mut client)?;
+    let said = match client.results(read.question()) {
+        Ok(_) => String::new(alloc),
+        Err(fault) => format!(in alloc; "{fault}")?,
+    };
+    let (_, to) = client.into_devices();
+    Ok((to, said))
 }
 
 /// What a notebook sends for these bytes, how many objects there are at most, and how many once it had time to drop what nobody has.

@@ -9,6 +9,7 @@ ghost use Rattle.cp_builder.specs.Drafts.{blank, text_tree, with_pointer};
 ghost use Rattle.cp_interfaces.specs.Calls.{IsCall, MakesOf, request_of};
 ghost use Rattle.cp_interfaces.specs.Faults.{Unbuilt};
 ghost use Rattle.cp_interfaces.specs.ServiceCalls.{Answers};
+ghost use Rattle.cp_interfaces.specs.Streams.{no_streams};
 ghost use Rattle.cp_interfaces.specs.Tables.{none_named};
 ghost use Rattle.cp_interfaces.specs.Services.{At, at};
 ghost use Rattle.store.specs.Store.{StoreKind, StoreTakes, any_store};
@@ -19,6 +20,7 @@ use cp_interfaces::{
     CallTarget, Caller, CapTableBuilder, Dispatch, LaterAnswer, Lends, MethodCall, MethodFault,
     MethodRequest, MethodResult, NoFieldsBuilder, NoFieldsPipeline, NoFieldsReader, ObjectDispatch,
     Results, ServiceCall, ServiceObject, TypedClient, TypedPipeline, TypedResolver, refuse,
+    refuse_method,
 };
 use cp_objects::{Context, SessionCap};
 use cp_servants::Reply;
@@ -149,6 +151,8 @@ pub type StoreResolver = TypedResolver<StoreClient>;
 impl<T: StoreServer> Dispatch<T> for StoreClient {
     ghost takes = { StoreTakes T.store_kind };
 
+    ghost streams = { no_streams };
+
     fn dispatch(
         object: &mut T,
         call: &MethodCall<'_>,
@@ -172,8 +176,13 @@ impl<T: StoreServer> Dispatch<T> for StoreClient {
             (0xea2f6e3bf233ec72, 0..=1, Err(fault)) => {
                 refuse(context.alloc(), call, MethodFault::WrongKind(fault))
             }
-            _ => refuse(context.alloc(), call, MethodFault::Unimplemented),
+            _ => refuse_method(context.alloc(), call, "Store"),
         }
+    }
+
+    fn is_stream(interface: u64, method: u16) -> bool {
+        let _ = (interface, method);
+        false
     }
 }
 

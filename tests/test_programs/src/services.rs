@@ -14,5 +14,7 @@ mod notebook;
 mod pages;
 mod pair;
 mod promising;
+mod resting;
 mod ringing;
+mod streaming;
 mod watching;

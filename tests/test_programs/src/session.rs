@@ -6,12 +6,11 @@ mod turns;
 
 use crate::frames::bytes_of;
 use cp_connection::ConnectionFault;
+use cp_dispatch::{Limit, SessionEvent};
 use cp_frame::Mode;
 use cp_objects::ObjectTable;
 use cp_servants::Sample;
-use cp_session::{
-    CallingSession, DrivenSession, Limit, SessionEvent, SessionLimits, SessionOptions, SessionOver,
-};
+use cp_session::{CallingSession, DrivenSession, SessionLimits, SessionOptions, SessionOver};
 use cp_vat_machine::Reason;
 use cp_words::Limits;
 use std::alloc::Global;
@@ -81,6 +80,7 @@ enum Told {
     OwnAbort,
     Fault(ConnectionFault),
     Limit(Limit),
+    Restless,
     Ended,
 }
 
@@ -183,6 +183,7 @@ fn next_told<H: ObjectTable>(session: &mut SessionOver<H>) -> Told {
         Some(SessionEvent::Closed(Reason::Fault(_))) => Told::OwnAbort,
         Some(SessionEvent::Fault(fault)) => Told::Fault(*fault),
         Some(SessionEvent::Limit(limit)) => Told::Limit(*limit),
+        Some(SessionEvent::Restless) => Told::Restless,
         Some(SessionEvent::Ended) => Told::Ended,
     };
     drop(event);

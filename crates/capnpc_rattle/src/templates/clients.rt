@@ -254,7 +254,7 @@ pub record $Type$MethodTakes {S : Type 0} (kind : $Type$Kind S) (old : S) (call 
 $for methods$
   pub on_$name|snake$ : call.request.method ≡ $number$ → Passes kind.on_$name|snake$ old call reply new
 $end$
-  pub past : $count$ ≤ call.request.method → Refuses old call reply new
+  pub past : $count$ ≤ call.request.method → Refuses (codes "$title$") old call reply new
 
 -- A call does this to an object, by its interface.
 pub record $Type$Takes {S : Type 0}
@@ -268,7 +268,7 @@ $if extended$
 use Rattle.$krate$.specs.$module|module$.{$Type$Kind, $Type$MethodTakes}
 $end$
 $end$
-  pub elsewhere : IsElsewhere ($for family$$id|hex$ ∷ $end$[]) call → Refuses old call reply new
+  pub elsewhere : IsElsewhere ($for family$$id|hex$ ∷ $end$[]) call → Refuses (codes "$title$") old call reply new
 use Rattle.cp_servants.specs.declared.servant.Reply.{Reply}
 use Rattle.cp_interfaces.specs.Dispatch.{$if methods$Anything, $end$IsElsewhere$if methods$, Method, Passes$end$, Refuses}
 use Rattle.cp_interfaces.specs.declared.call.MethodCall.{MethodCall}

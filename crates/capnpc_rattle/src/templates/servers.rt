@@ -41,6 +41,8 @@ pub type $Type$Resolver = TypedResolver<$Type$Client>;
 impl<T: $Type$Server> Dispatch<T> for $Type$Client {
     ghost takes = { $insert takes_calls$ };
 
+    ghost streams = { $for streams$with_stream $id|hex$ $number$ ($end$no_streams$for streams$)$end$ };
+
     fn dispatch(object: &mut T, call: &MethodCall<'_>, context: &mut Context<T::Makes>) -> Result<Reply, AllocError> {
         match (call.request.interface, call.request.method, call.params()) {
 $for methods$
@@ -59,6 +61,8 @@ $if methods$
             ($id|hex$, $if last$0..=$end$$last$, Err(fault)) => {
                 refuse(context.alloc(), call, MethodFault::WrongKind(fault))
             }
+use cp_interfaces::MethodFault;
+use cp_interfaces::refuse;
 use cp_interfaces::MethodResult;
 use cp_interfaces::ServiceCall;
 $end$
@@ -68,8 +72,17 @@ $if extended$
 use $from$$Type$Client;
 $end$
 $end$
-            _ => refuse(context.alloc(), call, MethodFault::Unimplemented),
+            _ => refuse_method(context.alloc(), call, "$title$"),
         }
+    }
+
+    fn is_stream(interface: u64, method: u16) -> bool {
+$if streams$
+        matches!((interface, method), $for streams$$if later$ | $end$($id|hex$, $number$)$end$)
+$else$
+        let _ = (interface, method);
+        false
+$end$
     }
 }
 $unless supers$
@@ -81,8 +94,7 @@ use cp_interfaces::Dispatch;
 use cp_interfaces::ObjectDispatch;
 use cp_interfaces::TypedResolver;
 use cp_interfaces::MethodCall;
-use cp_interfaces::MethodFault;
-use cp_interfaces::refuse;
+use cp_interfaces::refuse_method;
 use std::alloc::AllocError;
 ghost use $here$.{$Type$Kind, $Type$Takes, any_$word$};
 ghost use Rattle.cp_interfaces.specs.Services.{At, at};

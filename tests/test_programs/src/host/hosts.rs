@@ -1,10 +1,11 @@
 //! A host of 127.0.0.1, and a client in the same thread.
 
 use cp_connection::ConnectionStats;
+use cp_dispatch::Limit;
 use cp_frame::Mode;
 use cp_objects::{Objects, ServedObject, ServantObject};
 use cp_servants::Desk;
-use cp_session::{Limit, SessionLimits};
+use cp_session::SessionLimits;
 use cp_words::Limits;
 use net_host::{End, Host, HostLimits, HostConfig, HostEvent};
 use net_sockets::{Listener, Peer};

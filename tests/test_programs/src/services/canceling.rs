@@ -404,6 +404,42 @@ fn a_call_that_is_given_up_while_it_waits_is_told_of(rt: HostRuntime) {
     drop(ends);
 }
 
+/// A call of the client's first object by the client itself, which goes there.
+fn call_own(rt: &impl Abort, ends: &mut Waiting, method: u16) -> u32 {
+    let asked = act(rt, ends, Step::CallOwn(0, method)).asked;
+    act(rt, ends, Step::Carry);
+    asked.expect(rt, "a question")
+}
+
+/// What such a call says at once.
+fn said_own(rt: &impl Abort, ends: &mut Waiting, method: u16) -> u64 {
+    let asked = call_own(rt, ends, method);
+    let (question, got) = act(rt, ends, Step::Take).got.expect(rt, "an outcome");
+    check!(rt; question == asked && !got.is_failed);
+    got.word
+}
+
+#[test]
+fn a_call_of_an_object_of_ones_own_is_given_up(rt: HostRuntime) {
+    let (mut ends, _) = begin(&rt, rt.alloc());
+    let waits = call_own(&rt, &mut ends, WAIT);
+    act(&rt, &mut ends, Step::Finish(waits));
+    check!(&rt; said_own(&rt, &mut ends, TOLD) == 1);
+    check!(&rt; said_own(&rt, &mut ends, ANSWER) == 0);
+    // Nor does one stay that is given up before it came to the object.
+    let waits = act(&rt, &mut ends, Step::CallOwn(0, WAIT)).asked;
+    act(&rt, &mut ends, Step::Finish(waits.expect(&rt, "a question")));
+    check!(&rt; said_own(&rt, &mut ends, TOLD) == 2);
+    check!(&rt; said_own(&rt, &mut ends, ANSWER) == 0);
+    // One that was answered isn't told of.
+    let answered = call_own(&rt, &mut ends, STAY);
+    check!(&rt; said_own(&rt, &mut ends, ANSWER) == 1);
+    let (question, got) = act(&rt, &mut ends, Step::Take).got.expect(&rt, "an outcome");
+    check!(&rt; question == answered && !got.is_failed);
+    check!(&rt; said_own(&rt, &mut ends, TOLD) == 2);
+    drop(ends);
+}
+
 type Sleeping = Ends<Objects<Waiter>, Objects<ServantObject<Sleeper>>>;
 
 #[test]

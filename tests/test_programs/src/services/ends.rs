@@ -2,13 +2,12 @@
 //! objects are of a named type takes seconds to prove, and one whose objects are of a type parameter next to nothing.
 
 use crate::services::notebook::NOTES;
+use cp_dispatch::SessionEvent;
 use cp_frame::Mode;
 use cp_objects::{ObjectTable, Waker};
 use cp_refs::{Cap, Caps, Outcome, Path, Request};
 use cp_servants::{PayloadBuilder, results_of, word_in};
-use cp_session::{
-    CallingSession, DrivenSession, SessionEvent, SessionLimits, SessionOptions, SessionOver,
-};
+use cp_session::{CallingSession, DrivenSession, SessionLimits, SessionOptions, SessionOver};
 use cp_words::Limits;
 use std::alloc::Global;
 use std::process::Abort;
@@ -40,6 +39,8 @@ pub(crate) enum Step {
     Bootstrap,
     /// The client calls a method of an import.
     Call(u32, u16, With),
+    /// The client calls a method of an object of its own.
+    CallOwn(u32, u16),
     /// The client calls a method of what the first pointer of this question's results will be.
     CallResult(u32, u16),
     /// All bytes go over.
@@ -120,6 +121,10 @@ impl<C: ObjectTable, S: ObjectTable> Ends<C, S> {
             Step::Call(import, method, with) => {
                 let request = request(rt, self.alloc, method, with);
                 asked = self.client.call(Cap::Import(import), request).ok();
+            }
+            Step::CallOwn(object, method) => {
+                let request = request(rt, self.alloc, method, With::Word(0));
+                asked = self.client.call(Cap::Object(object), request).ok();
             }
             Step::CallResult(question, method) => {
                 let request = request(rt, self.alloc, method, With::Word(0));

@@ -3,7 +3,8 @@
 use crate::frames::{ABORT, ABORTED, ANSWER, AT_ONCE, BOOTSTRAP, DESK, STRANGE_FINISH, bytes_of};
 use crate::session::{Step, Told, Trial};
 use cp_connection::ConnectionFault;
-use cp_session::{Limit, SessionLimits};
+use cp_dispatch::Limit;
+use cp_session::SessionLimits;
 use std::alloc::Global;
 use std::process::Abort;
 

@@ -1,11 +1,12 @@
 //! Each limit of a session, met and not met.
 
 use crate::frames::{
-    ANSWER, BOOTSTRAP, LATER, STRANGE_FINISH, TOO_LARGE, TOO_MANY, TOO_MUCH, bytes_of,
+    ANSWER, BOOTSTRAP, FINISH, LATER, STRANGE_FINISH, TOO_LARGE, TOO_MANY, TOO_MUCH, bytes_of,
 };
 use crate::session::{Stand, Step, Told, Trial};
+use cp_dispatch::Limit;
 use cp_servants::{Sample, Script};
-use cp_session::{Budget, Limit, SessionLimits};
+use cp_session::{Budget, SessionLimits};
 use std::alloc::Global;
 use std::process::Abort;
 
@@ -57,7 +58,8 @@ fn a_message_comes_in_time(rt: HostRuntime) {
     let bytes = bytes_of(&rt, rt.alloc(), &[BOOTSTRAP]);
     let mut session = session(rt.alloc(), 10_000);
     check!(&rt; bytes.len() > 20);
-    check!(&rt; session.act(&rt, Step::Look).deadline == Some(14_000));
+    // A silent peer is asked before.
+    check!(&rt; session.act(&rt, Step::Look).deadline == Some(9_500));
     // A message begins. What comes of it later gives it no more time.
     expect_deadline(&rt, &mut session, &bytes[..9], 6_000, 7_000);
     expect_deadline(&rt, &mut session, &bytes[9..20], 6_900, 7_000);
@@ -82,6 +84,39 @@ fn a_byte_moves_in_time(rt: HostRuntime) {
     check!(&rt; matches!(session.told(), Told::Limit(Limit::Idle)));
     drop(session);
     drop(bytes);
+}
+
+/// The peer is asked at 9,500, and that went out by 9,600.
+fn expect_asked(rt: &impl Abort, session: &mut Trial) {
+    check!(rt; session.act(rt, Step::Tick(9_499)).waits == 0);
+    check!(rt; session.act(rt, Step::Tick(9_500)).deadline == Some(14_000));
+    session.act(rt, Step::Waits(&[BOOTSTRAP, FINISH]));
+    check!(rt; session.act(rt, Step::Wrote(10, 9_550)).deadline == Some(14_000));
+    check!(rt; session.act(rt, Step::Write(9_600)).deadline == Some(14_000));
+}
+
+#[test]
+fn a_silent_peer_is_asked_once(rt: HostRuntime) {
+    let mut session = session(rt.alloc(), 10_000);
+    expect_asked(&rt, &mut session);
+    check!(&rt; session.act(&rt, Step::Tick(13_000)).waits == 0);
+    expect_over(&rt, &mut session, 14_000);
+    check!(&rt; matches!(session.told(), Told::Limit(Limit::Idle)));
+    drop(session);
+}
+
+#[test]
+fn a_silent_peer_that_answers_is_not_idle(rt: HostRuntime) {
+    let mut session = session(rt.alloc(), 10_000);
+    let before = session.act(&rt, Step::Look).kept;
+    expect_asked(&rt, &mut session);
+    let answered = session.act(&rt, Step::Frames(&[ANSWER], 9_700));
+    check!(&rt; answered.deadline == Some(14_200) && answered.waits == 0 && answered.kept == before);
+    check!(&rt; matches!(session.told(), Told::Nothing));
+    // And it is asked again.
+    check!(&rt; session.act(&rt, Step::Tick(14_199)).waits == 0);
+    check!(&rt; session.act(&rt, Step::Tick(14_200)).waits > 0);
+    drop(session);
 }
 
 #[test]

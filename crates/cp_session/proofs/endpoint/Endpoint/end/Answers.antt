@@ -14,4 +14,4 @@ returns-in_err-round-clause-unended g c =
     rw (p.1, p.2) (ran_out _ c.in_ok-end.ensures.ended c.round.ensures.lives refl)
 
 pub returns-clause-ends : goal.returns-clause-ends
-returns-clause-ends g c = record { link = c.end.new.self; ends = c.in_ok-end.ensures.ended; polls = c.in_ok-round.ensures.polls }
+returns-clause-ends g c = record { link = c.end.new.self; ends = c.in_ok-end.ensures.ended; polls = rw c.renew.ensures at c.in_ok-round.ensures.polls }

@@ -9,4 +9,7 @@ pub returns-then-not-has_ended-clause-lives : goal.returns-then-not-has_ended-cl
 returns-then-not-has_ended-clause-lives g c = lives_none _
 
 pub returns-clause-follows : goal.returns-clause-follows
-returns-clause-follows g c = rw c.if-not-has_ended.false c.round.ensures.polls
+returns-clause-follows g c = rw c.if-not-has_ended.false (rw c.stir.ensures at c.round.ensures.polls)
+
+pub returns-clause-lives : goal.returns-clause-lives
+returns-clause-lives g c = rw c.stir.ensures at c.round.ensures.lives

@@ -15,7 +15,10 @@ returns-clause-acts g c =
       woken = c.wake_due.new.self;
       times = c.set_now.ensures;
       wakes = c.in_ok-wake_due.ensures;
-      sweeps = sweeps;
+      sweeps = rw c.stir.ensures at sweeps;
       same = refl;
-      lives = c.tick.ensures.lives;
+      lives = rw c.stir.ensures at c.tick.ensures.lives;
     })
+
+pub returns-clause-lives : goal.returns-clause-lives
+returns-clause-lives g c = rw c.stir.ensures at c.tick.ensures.lives

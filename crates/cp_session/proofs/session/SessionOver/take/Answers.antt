@@ -1,5 +1,5 @@
 use Rattle.std.proofs.Common.{Bool, refl, ap, ◌∙◌}
-use Rattle.cp_session.specs.Progress.{failed, opened_by}
+use Rattle.cp_session.specs.Progress.{failed, moved_at, opened_by}
 use Rattle.cp_session.proofs.session.SessionOver.take.Goals as goal
 
 pub returns-in-Ok-clause-takes : goal.returns-in-Ok-clause-takes
@@ -10,7 +10,7 @@ returns-in-Ok-clause-takes g c = record {
   limits = refl;
   progress =
       c.take_at.ensures
-      ∙ ap (λ (b : Bool). record c.args.self.now.progress { moved = c.args.now; opened = opened_by c.args.self.now.progress.opened b c.args.now }) c.is_open.ensures;
+      ∙ ap (λ (b : Bool). record (moved_at c.args.now c.args.self.now.progress) { opened = opened_by c.args.self.now.progress.opened b c.args.now }) c.is_open.ensures;
 }
 
 pub returns-in-Err-clause-cut : goal.returns-in-Err-clause-cut
@@ -25,5 +25,5 @@ returns-in-Err-clause-cut g c = record {
       c.fail.ensures
       ∙ ap (λ p. failed p c.in-Err.fault)
       (c.take_at.ensures
-      ∙ ap (λ (b : Bool). record c.args.self.now.progress { moved = c.args.now; opened = opened_by c.args.self.now.progress.opened b c.args.now }) c.is_open.ensures);
+      ∙ ap (λ (b : Bool). record (moved_at c.args.now c.args.self.now.progress) { opened = opened_by c.args.self.now.progress.opened b c.args.now }) c.is_open.ensures);
 }

@@ -15,6 +15,8 @@ pub returns-clause-finishes : goal.returns-clause-finishes
 returns-clause-finishes g c = record {
   untaken = c.in_ok-untaken.untaken;
   work = (service_of c.finish.new.self).work;
+  mid = state_of c.release_untaken.new.self;
   finishes = c.in_ok-untaken.ensures.finishes;
   releases = subst (λ (s : Service). ReleasesUntaken c.in_ok-untaken.untaken (record (state_of c.args.self.now) { service = s }) (state_of c.release_untaken.new.self)) c.in_ok-untaken.ensures.same c.release_untaken.ensures;
+  cancels = c.cancel.ensures;
 }
