@@ -57,7 +57,7 @@ done
 
 # A connection: an echo in C, and a store in C++ over ours and by the reference library, each called from Python, Rust and C++.
 . "$here/../nightly/begin.sh"
-trap 'kill $pid 2>/dev/null' EXIT
+trap 'kill $pid 2>/dev/null || :' EXIT # (most have ended)
 interface=0xea2f6e3bf233ec72
 begin 17391 "${watched[@]}" ../echo 17391
 "$here/client.py" 17391 $interface 0 colour blue | cmp - <(printf 'colour\nblue\n')

@@ -1,7 +1,8 @@
 #!/usr/bin/env bash
 # nightly/run.sh FOLDER [PART..]    runs what the gate doesn't: all parts, or these, one after another. FOLDER, outside the
 #                                   repository, gets the programs that are built and a log of each part. A line for each part says how
-#                                   it ended, how long it took, its processor time, and the last line that it printed.
+#                                   it ended, how long it took, its processor time, and the last line that it printed. A part that
+#                                   passed at the same commit isn't run again: begun anew, it goes on where it stopped.
 #
 #   part      what it runs                                                     what it takes
 #   look      the first look, in a clean copy                                  half a minute
@@ -296,9 +297,18 @@ TIMEFORMAT='%R %U %S'
 for part; do
     [[ " ${all[*]} $alone " == *" $part "* ]] || { echo "no part $part: ${all[*]} $alone" >&2; exit 2; }
 done
+commit=$(git -C "$root" rev-parse HEAD 2>/dev/null) number=0
 for part; do
+    number=$((number + 1))
+    if [ -n "$commit" ] && [ "$(sed -n 1p "$folder/$part.passed" 2>/dev/null)" = "$commit" ]; then
+        sed 1d "$folder/$part.passed"
+        continue
+    fi
+    [ ! -t 2 ] || echo "$number of $#: $part" >&2
     read -r seconds user system < <({ time { "$part" >"$folder/$part.log" 2>&1; echo "$?" >"$folder/$part.status"; }; } 2>&1 | tail -n 1)
     [ "$(cat "$folder/$part.status")" = 0 ] && how=passed || how=FAILED failed=1
-    printf '%-9s %s in %.0f s, %.0f s of processors: %s\n' "$part" "$how" "$seconds" "$(echo "$user + $system" | bc)" "$(tail -n 1 "$folder/$part.log")"
+    line=$(printf '%-9s %s in %.0f s, %.0f s of processors: %s' "$part" "$how" "$seconds" "$(echo "$user + $system" | bc)" "$(tail -n 1 "$folder/$part.log")")
+    echo "$line"
+    [ "$how" = FAILED ] || printf '%s\n%s\n' "$commit" "$line" >"$folder/$part.passed"
 done
 exit "$failed"

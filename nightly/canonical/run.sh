@@ -21,7 +21,8 @@ wrong() { # TEXT
 
 same() { # NAME FILE    both programs, and what is written, again
     local count
-    capnp convert --quiet binary:canonical <"$2" >"$room/theirs" 2>"$room/said" || { untaken=$((untaken + 1)); return 0; }
+    # (It takes any memory for some of those that it doesn't take.)
+    (ulimit -v 4000000 && capnp convert --quiet binary:canonical) <"$2" >"$room/theirs" 2>"$room/said" || { untaken=$((untaken + 1)); return 0; }
     "$command" canonical --flat "$2" >"$room/ours" 2>"$room/said" || { wrong "$1: $(cat "$room/said")"; return 0; }
     cmp -s "$room/theirs" "$room/ours" || wrong "$1: not the words of capnp convert: $(cmp "$room/theirs" "$room/ours")"
     "$command" canonical "$2" >"$room/written"
@@ -84,5 +85,5 @@ for seed in $(seq "$seeds"); do
     random "$seed" "s${seed}_old"
     rm -f "$room/s$seed"[._]*
 done
-echo "$messages messages, most of $schemas random schemas, are written as by the reference tool; $canonical of $((seeds * 4)) random trees were canonical, and the others refused; $untaken files of 512 segments aren't taken by it"
+echo "$messages messages, most of $schemas random schemas, are written as by the reference tool; $canonical of $((seeds * 4)) random trees were canonical, and the others refused; $untaken files, those of 512 segments among them, aren't taken by it"
 exit "$failed"

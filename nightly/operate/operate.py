@@ -361,15 +361,19 @@ def figures(place):
     peers = opened(place, 8)
     for _ in range(12):
         session(near)
-    with urllib.request.urlopen(f"http://127.0.0.1:{place.figures}/metrics", timeout=10) as answer:
-        text = answer.read().decode()
-    numbers = {it: re.findall(rf'^haproxy_server_{it}{{proxy="store",server="(\d)"}} (\d+)$', text, re.M) for it in FIGURES}
-    assert all([name for name, _ in it] == NAMES for it in numbers.values()), numbers
-    assert sum(int(it) for _, it in numbers["current_sessions"]) == 8, numbers
-    # (one more looked whether the way is there)
-    assert sum(int(it) for _, it in numbers["sessions_total"]) == 21, numbers
+    # HAProxy counts a session when it ends, a little after its peer sees that. (One more looked whether the way is there.)
+    wait_until(lambda: (8, 21) == tuple(sum(numbers_of(place)[it]) for it in ("current_sessions", "sessions_total")))
     for it in peers:
         it.close()
+
+
+def numbers_of(place):
+    """The numbers of each process, by HAProxy."""
+    with urllib.request.urlopen(f"http://127.0.0.1:{place.figures}/metrics", timeout=10) as answer:
+        text = answer.read().decode()
+    found = {it: re.findall(rf'^haproxy_server_{it}{{proxy="store",server="(\d)"}} (\d+)$', text, re.M) for it in FIGURES}
+    assert all([name for name, _ in it] == NAMES for it in found.values()), found
+    return {name: [int(number) for _, number in it] for name, it in found.items()}
 
 
 FIGURES = ["current_sessions", "sessions_total", "bytes_in_total", "check_failures_total"]
