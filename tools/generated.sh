@@ -1,6 +1,6 @@
 #!/usr/bin/env bash
 # tools/generated.sh    whether capnpc_rattle and `rt fmt` write again what is kept: cp_schema_capnp, of the request in crates/capnpc_rattle/stdin, and
-#                       addressbook, notebook, chat, clauses, shapes, store and jobs, of their schemas, where `capnp` is installed. A plugin that isn't built runs unproved, as a first look.
+#                       addressbook, notebook, chat, clauses, directory, shapes, store and jobs, of their schemas, where `capnp` is installed. A plugin that isn't built runs unproved, as a first look.
 #                       And whether it keeps what it must: crates of others, and all but what can't be written.
 #
 # The request is what `capnp compile -o-` printed of the schema.capnp that the reference library has beside it (0.9.2).
@@ -63,7 +63,7 @@ keeps() { # what the plugin must not write, or not all of
 }
 
 if command -v capnp >/dev/null; then
-    for crate in addressbook notebook chat clauses shapes store jobs; do regenerate "$crate"; done
+    for crate in addressbook notebook chat clauses directory shapes store jobs; do regenerate "$crate"; done
     keeps
 fi
 [ "$differ" -eq 0 ] || fail "the plugin writes otherwise than what is kept, as shown above"

@@ -10,7 +10,7 @@ const TYPES: &str = "\
     IsCall IsCallIf IsElsewhere IsFull Element Lends List ListRef Makes MakesOf Method MethodCall MethodFault \
     MethodRequest MethodResult NamedResults NamingError None Ok Option Passes UnknownEnumerant PointerReader TypedPipeline Pipeline Reads \
     Refuses Reply Request Result ResultPayload Results Self ObjectDispatch ServiceCall \
-    ServiceObject SessionCall SessionCap Some String StructBuilder StructReader StructListBuilder CapTableBuilder TextReader TooLong \
+    ServiceObject SessionCall SessionCap SharedClient Some String StructBuilder StructReader StructListBuilder CapTableBuilder TextReader TooLong \
     Tree Type TypedClient TypedResolver Unbuilt Unit Unnamed Vec Whole WrongKind";
 
 /// Words of Rattle.

@@ -5,7 +5,8 @@ use Rattle.cp_refs.specs.declared.call.Request.{Request}
 use Rattle.cp_refs.specs.declared.cap.Cap.{Cap}
 use Rattle.cp_objects.specs.declared.objects.Objects.{Objects}
 use Rattle.cp_objects.specs.ObjectTable.{ObjectTableKind}
-use Rattle.cp_objects.specs.declared.waker.Waker.{Waker}
+use Rattle.cp_objects.specs.declared.letters.Letter.{Letter}
+use Rattle.cp_objects.specs.declared.letters.LetterBody.{LetterBody}
 use Rattle.cp_vat_machine.specs.declared.event.Event.{Event}
 use Rattle.cp_vat_machine.specs.declared.event.Event.TheVariants as events
 use Rattle.cp_vat_machine.specs.declared.event.Value.{Value}
@@ -73,8 +74,12 @@ module _ {H : Type 0} (table : ObjectTableKind H) where
   Wakes object old new = sessions.Wakes table object old.session new.session × (new ≡ record old { session = new.session })
 
   -- who is to be woken of another session is handed out, and nothing else is done
-  abbrev pub HandsOn : Option Waker → Conversation H → Conversation H → Type 0
-  HandsOn waker old new = sessions.HandsOn table waker old.session new.session × (new ≡ record old { session = new.session })
+  abbrev pub HandsOn : Option Letter → Conversation H → Conversation H → Type 0
+  HandsOn letter old new = sessions.HandsOn table letter old.session new.session × (new ≡ record old { session = new.session })
+
+  -- what a letter of another session says is done
+  abbrev pub Delivers : LetterBody → Conversation H → Conversation H → Type 0
+  Delivers body old new = sessions.Delivers table body old.session new.session × (new ≡ record old { session = new.session })
 
 -- an object more is there, which stays, and nothing else was done
 abbrev pub Exports : {A : Type 0} → A → Conversation (Objects A) → Conversation (Objects A) → Type 0

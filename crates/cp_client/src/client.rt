@@ -6,7 +6,7 @@ ghost use Rattle.cp_vat_machine.specs.declared.event.Event.TheVariants as events
 ghost use Rattle.cp_objects.specs.Objects.{alone, objects_of};
 ghost use Rattle.cp_session.specs.Doing.{ReleasesUntaken, next_cap};
 ghost use Rattle.cp_session.specs.State.{link_of, state_of};
-ghost use Rattle.cp_client.specs.Calls.{Asks, Exports, Finishes, HandsOn, IsUnasked, IsUndone, IsUnreleased, KeepsRest, Releases, Wakes};
+ghost use Rattle.cp_client.specs.Calls.{Asks, Delivers, Exports, Finishes, HandsOn, IsUnasked, IsUndone, IsUnreleased, KeepsRest, Releases, Wakes};
 ghost use Rattle.cp_client.specs.Devices.{fresh};
 ghost use Rattle.cp_client.specs.Conversation.{beginning, new_conversation, options_of};
 ghost use Rattle.cp_client.specs.ConversationOf.{seen};
@@ -26,7 +26,7 @@ use crate::questions::Questions;
 use cp_connection::{ConnectionFault, ConnectionStats};
 use cp_dispatch::SessionEvent;
 use cp_frame::Mode;
-use cp_objects::{Objects, ServedObject, SessionCap, Waker};
+use cp_objects::{Letter, LetterBody, Objects, ServedObject, SessionCap};
 use cp_refs::{Cap, Outcome, Request};
 use cp_session::{CallingSession, DrivenSession, Session, SessionLimits, SessionOptions};
 use cp_stream::{DeviceError, Tap};
@@ -72,7 +72,7 @@ const NOW: u64 = 0;
 /// there fails with `no such object`. Without objects it is a type that has no values.
 ///
 /// An object that wakes another one has that polled before more is read. A client has no clock: nobody is woken by
-/// `wake_after`. Objects of other sessions are to be woken that `next_wake` names.
+/// `wake_after`. Letters to other sessions are those of `next_letter`.
 ///
 /// An import is released when all who were given it gave it up: each object, once for each call and outcome that named it, and the
 /// program, once for each outcome that it waited for or might have (`release`).
@@ -336,11 +336,19 @@ impl<R: Read + Drop, W: Write + Drop, S: CallingSession> SessionClient<R, W, S> 
         self.session.wake(object)
     }
 
-    /// Takes out the first object of another session that an object here wants to be woken.
-    pub fn next_wake(&mut self) -> Option<Waker>
+    /// Takes out the first letter to another session: deliver it there.
+    pub fn next_letter(&mut self) -> Option<Letter>
         ensures { let at = seen S.state R.remaining W.contents in HandsOn S.table result (at self.old) (at self.new) }
     {
-        self.session.next_wake()
+        self.session.next_letter()
+    }
+
+    /// Does what a letter of another session says, when the client next waits.
+    pub fn deliver(&mut self, body: LetterBody) -> Result<(), AllocError>
+        ensures delivers { let at = seen S.state R.remaining W.contents in OnOk result (Delivers S.table body (at self.old) (at self.new)) }
+        ensures undelivered { let at = seen S.state R.remaining W.contents in OnErr result (KeepsRest (at self.old) (at self.new)) }
+    {
+        self.session.deliver(body)
     }
 
     /// Why the vat closed, if it did.

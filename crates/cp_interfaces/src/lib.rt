@@ -21,6 +21,7 @@ mod resolving;
 mod results;
 mod served;
 mod service_call;
+mod shared;
 mod target;
 mod typed_pipeline;
 
@@ -44,5 +45,6 @@ pub use resolving::{TypedResolver, fail};
 pub use results::Results;
 pub use served::{Dispatch, ObjectDispatch};
 pub use service_call::{MethodResult, ServiceCall};
+pub use shared::SharedClient;
 pub use target::CallTarget;
 pub use typed_pipeline::{Lends, TypedPipeline};

@@ -1,7 +1,7 @@
 //! Calls, as methods of objects have them.
 
 ghost use Rattle.std.specs.Prelude.{◌≡◌, [], Some, true, false, IfOk, OnOk, OnErr};
-ghost use Rattle.cp_objects.specs.Context.{keeping, keeping_for, context_of};
+ghost use Rattle.cp_objects.specs.Context.{keeping, keeping_for, context_of, shared_of, sharing};
 ghost use Rattle.cp_objects.specs.SessionCap.{IsTakenIf, are_of, is_of};
 ghost use Rattle.cp_interfaces.specs.Calls.{import_of};
 ghost use Rattle.cp_interfaces.specs.Replies.{given_up, with_import};
@@ -9,10 +9,12 @@ ghost use Rattle.cp_interfaces.specs.ServiceCalls.{reply_for};
 
 use crate::call::MethodCall;
 use crate::cap_table::CapTable;
+use crate::client::TypedClient;
 use crate::fault::MethodFault;
 use crate::later::LaterAnswer;
 use crate::replies::{given_up, refuse, reply};
 use crate::results::Results;
+use crate::shared::SharedClient;
 use crate::target::CallTarget;
 use cp_objects::{Context, ReferenceError, SessionCap};
 use cp_servants::Reply;
@@ -99,6 +101,27 @@ impl<'c, P, R> ServiceCall<'c, P, R> {
     {
         context.keep_for(object, target.cap())?;
         Ok(self.keep_import(target)?)
+    }
+
+    /// A capability of the params as all connections of the host may name it (`Context::share`). It isn't given up with the answer, and the
+    /// object needn't give it up: it stays as long as what this gives, or a copy of that.
+    pub fn share<C: TypedClient, M: Drop>(
+        &mut self,
+        client: C,
+        context: &mut Context<M>,
+    ) -> Result<SharedClient<C>, ReferenceError>
+        ensures shared { IfOk result (λ shared. shared.cap ≡ shared_of (C.called client).cap (context_of context.old)) }
+        ensures kept { OnOk result (self.new.keeps.items ≡ with_import (import_of (C.called client).cap) self.old.keeps.items) }
+        ensures noted { OnOk result (context_of context.new ≡ sharing (C.called client).cap (context_of context.old)) }
+        ensures own { IsTakenIf (is_of (context_of context.old).this.session (C.called client)) result }
+        ensures left { OnErr result (self.new.keeps.items ≡ self.old.keeps.items) }
+        ensures parts { (self.new.params ≡ self.old.params) × (self.new.results ≡ self.old.results) }
+        ensures call { (self.new.of.now ≡ self.old.of.now) × (self.new.is_later ≡ self.old.is_later) }
+    {
+        let target = client.into_target();
+        let cap = context.share(target.cap())?;
+        self.keep_import(&target)?;
+        Ok(SharedClient::new(cap))
     }
 
     /// The call is answered later, by what this gives: the object, or another of its connection, stores it. What was written of its

@@ -14,3 +14,8 @@ after_ok (Err e) h f = h
 pub not_some : {X : Type 0} (o : Option X) (b : Bool) → (IsTrue b ↔ IsSome o) → b ≡ false → o ≡ None
 not_some None b h e = refl
 not_some (Some x) b h e = absurd (false≢true (sym e ∙ h.1 refl))
+
+-- what follows from two facts of a success
+pub both_ok : {T E : Type 0} {P Q R : Type 0} (r : Result T E) → OnOk r P → OnOk r Q → (P → Q → R) → OnOk r R
+both_ok (Ok x) p q f = f p q
+both_ok (Err e) p q f = p

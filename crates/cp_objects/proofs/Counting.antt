@@ -12,7 +12,11 @@ use Rattle.std.specs.FinMap.{get, insert, remove, empty, entries, values, find, 
 use Rattle.std.specs.FinMap.Entries.{by_order, below_all}
 use Rattle.cp_tables.specs.Table.{Table}
 use Rattle.cp_tables.proofs.TableLemmas.{get-remove_same, insert-remove, insert-same, remove-absent}
+use Rattle.cp_refs.specs.declared.cap.Cap.{Cap}
+use Rattle.cp_refs.specs.declared.cap.Cap.TheVariants as caps
+use Rattle.cp_objects.specs.declared.shared_cap.LentCap.{LentCap}
 use Rattle.cp_objects.specs.Counts.{AreCounts, count_of, if_any, lowered, raised, times}
+use Rattle.cp_objects.specs.Lending.{import_then, imports_in, lowered_by, raised_by}
 use Rattle.cp_objects.specs.Numbers.{is_among, joined_lists}
 
 -- ---- a number more, and one less
@@ -287,3 +291,76 @@ module _ (counts : Table ℕ) (m : Table (List ℕ)) (t : ℕ) where
 
   pub unnamed_some : (bs : List ℕ) → get m t ≡ Some bs → AreCounts counts (joined_lists (values m)) → AreCounts counts (bs ++ joined_lists (values (remove m t)))
   unnamed_some bs some are = same_counts counts (joined_lists (values m)) (bs ++ joined_lists (values (remove m t))) are (λ k. left_some k m t bs some)
+
+-- ---- counts of the imports that are lent
+module _ (k : ℕ) where
+  times_then : (cap : Cap) (ns : List ℕ) → times k (import_then cap ns) ≡ times k (import_then cap []) + times k ns
+  times_then (caps.Import i) ns = times-append k (i ∷ []) ns
+  times_then caps.None ns = omega arith
+  times_then (caps.Object n) ns = omega arith
+  times_then (caps.Promise n) ns = omega arith
+  times_then (caps.Pipelined n path) ns = omega arith
+  times_then (caps.Broken exception) ns = omega arith
+
+  abbrev in_cap : LentCap → ℕ
+  in_cap lent = times k (import_then lent.cap [])
+
+  times_imports : (es : List (ℕ × LentCap)) → times k (imports_in (map (λ e. e.1) es)) ≡ sum in_cap es
+  times_imports [] = refl
+  times_imports (e ∷ es) = times_then e.1.cap (imports_in (map (λ e. e.1) es)) ∙ ap (λ n. in_cap e.1 + n) (times_imports es)
+
+  module _ (m : Table LentCap) (t : ℕ) where
+    lent_none : (v : LentCap) → get m t ≡ None → times k (imports_in (values (insert m t v))) ≡ times k (import_then v.cap (imports_in (values m)))
+    lent_none v none =
+        times_imports (entries (insert m t v)) ∙ plus_none k _ _ (rw none at (sum-insert in_cap m t v)) ∙ ap (λ n. in_cap v + n) (sym (times_imports (entries m)))
+        ∙ sym (times_then v.cap (imports_in (values m)))
+
+    lent_some : (v b : LentCap) → get m t ≡ Some b → times k (import_then b.cap (imports_in (values (insert m t v)))) ≡ times k (import_then v.cap (imports_in (values m)))
+    lent_some v b some =
+        times_then b.cap (imports_in (values (insert m t v))) ∙ ap (λ n. in_cap b + n) (times_imports (entries (insert m t v)))
+        ∙ plus_some k _ _ _ (rw some at (sum-insert in_cap m t v)) ∙ ap (λ n. in_cap v + n) (sym (times_imports (entries m))) ∙ sym (times_then v.cap (imports_in (values m)))
+
+    unlent : (b : LentCap) → get m t ≡ Some b → times k (import_then b.cap (imports_in (values (remove m t)))) ≡ times k (imports_in (values m))
+    unlent b some =
+        times_then b.cap (imports_in (values (remove m t))) ∙ ap (λ n. in_cap b + n) (times_imports (entries (remove m t))) ∙ sum-remove in_cap m t b some
+        ∙ sym (times_imports (entries m))
+
+raised_imports : (counts : Table ℕ) (cap : Cap) (ns : List ℕ) → AreCounts counts ns → AreCounts (raised_by cap counts) (import_then cap ns)
+raised_imports counts (caps.Import i) ns are = raised_counts counts i ns are
+raised_imports counts caps.None ns are = are
+raised_imports counts (caps.Object n) ns are = are
+raised_imports counts (caps.Promise n) ns are = are
+raised_imports counts (caps.Pipelined n path) ns are = are
+raised_imports counts (caps.Broken exception) ns are = are
+
+lowered_imports : (counts : Table ℕ) (cap : Cap) (ns : List ℕ) → AreCounts counts (import_then cap ns) → AreCounts (lowered_by cap counts) ns
+lowered_imports counts (caps.Import i) ns are = lowered_counts counts i ns are
+lowered_imports counts caps.None ns are = are
+lowered_imports counts (caps.Object n) ns are = are
+lowered_imports counts (caps.Promise n) ns are = are
+lowered_imports counts (caps.Pipelined n path) ns are = are
+lowered_imports counts (caps.Broken exception) ns are = are
+
+module _ (counts : Table ℕ) (m : Table LentCap) (t : ℕ) (v : LentCap) (are : AreCounts counts (imports_in (values m))) where
+  abbrev one_more_lent : Table ℕ
+  one_more_lent = raised_by v.cap counts
+
+  one_more_counts : AreCounts one_more_lent (import_then v.cap (imports_in (values m)))
+  one_more_counts = raised_imports counts v.cap (imports_in (values m)) are
+
+  pub lent_new : get m t ≡ None → AreCounts one_more_lent (imports_in (values (insert m t v)))
+  lent_new none = same_counts one_more_lent (import_then v.cap (imports_in (values m))) _ one_more_counts (λ k. lent_none k m t v none)
+
+  pub lent_again : (b : LentCap) → get m t ≡ Some b → AreCounts (lowered_by b.cap one_more_lent) (imports_in (values (insert m t v)))
+  lent_again b some =
+      lowered_imports one_more_lent b.cap (imports_in (values (insert m t v)))
+      (same_counts one_more_lent (import_then v.cap (imports_in (values m))) (import_then b.cap (imports_in (values (insert m t v)))) one_more_counts (λ k. lent_some k m t v b some))
+
+  pub lent_back : AreCounts (lowered_by v.cap one_more_lent) (imports_in (values m))
+  lent_back = lowered_imports one_more_lent v.cap (imports_in (values m)) one_more_counts
+
+module _ (counts : Table ℕ) (m : Table LentCap) (t : ℕ) (are : AreCounts counts (imports_in (values m))) where
+  pub unlent_some : (b : LentCap) → get m t ≡ Some b → AreCounts (lowered_by b.cap counts) (imports_in (values (remove m t)))
+  unlent_some b some =
+      lowered_imports counts b.cap (imports_in (values (remove m t)))
+      (same_counts counts (imports_in (values m)) (import_then b.cap (imports_in (values (remove m t)))) are (λ k. unlent k m t b some))

@@ -1,8 +1,14 @@
 pub mod Answering
 pub mod Counting
 pub mod Ending
-pub mod Polling
+pub mod Finding
+pub mod Firsts
+pub mod Forwarding
 pub mod Holding
+pub mod Needing
+pub mod Polling
+pub mod Proxying
 pub mod Renaming
 pub mod Sets
 pub mod Settling
+pub mod Telling

@@ -1,16 +1,17 @@
 -- Calls that are given up before they are answered.
 use Rattle.std.specs.Prelude.{◌≡◌, ℕ, Option, Some, None}
 use Rattle.std.specs.FinMap.{get}
+use Rattle.cp_objects.specs.declared.any_object.AnyObject.{AnyObject}
 use Rattle.cp_objects.specs.declared.object_entry.ObjectEntry.{ObjectEntry}
 use Rattle.cp_objects.specs.Context.{ContextState}
 use Rattle.cp_objects.specs.Objects.{ObjectsState, awoken, entered, leaving, placing, settled}
 use Rattle.cp_objects.specs.ServedObject.{ServedObjectKind}
 
-module _ {A : Type 0} (kind : ServedObjectKind A A) where
+module _ {A : Type 0} (kind : ServedObjectKind (AnyObject A) A) where
   -- The object of this number is told that the call of this ticket was given up. It is to be polled, and what it did is done.
   pub record IsToldCancel (number ticket : ℕ) (old new : ObjectsState A) : Type 0 where
-    pub before : ObjectEntry A
-    pub object : A
+    pub before : ObjectEntry (AnyObject A)
+    pub object : AnyObject A
     pub place : ContextState A
     pub was : get old.members number ≡ Some before
     pub on_cancel : kind.on_cancel before.object ticket (entered number old) place object

@@ -4,19 +4,21 @@ use Rattle.std.specs.FinMap.{get, len}
 use Rattle.std.specs.FinSet as set
 use Rattle.cp_objects.specs.declared.canceled_call.CanceledCall.{CanceledCall}
 use Rattle.cp_objects.specs.declared.objects.Objects.{Objects}
-use Rattle.cp_objects.specs.declared.waker.Waker.{Waker}
-use Rattle.cp_objects.specs.Objects.{ObjectsState, objects_of, Calls, Polls, NextCalls, Responds, Ends, EndsAll, HandsSettled, changing, idle_of, in_session, loose_of, promised_so, waking, woken}
+use Rattle.cp_objects.specs.declared.letters.Letter.{Letter}
+use Rattle.cp_objects.specs.Objects.{ObjectsState, objects_of, Calls, Polls, NextCalls, Responds, Ends, EndsAll, HandsSettled, changing, idle_of, in_session, lent_in, loose_of, promised_so, waking, woken}
+use Rattle.cp_objects.specs.AnyObject.{any_object}
 use Rattle.cp_objects.specs.Canceling.{Cancels}
+use Rattle.cp_objects.specs.Delivering.{Delivers}
 use Rattle.cp_objects.specs.ObjectTable.{ObjectTableKind}
 use Rattle.cp_objects.specs.ServedObject.{ServedObjectKind}
 use Rattle.cp_objects.specs.Members.{waiting_less, without_next_calls}
 use Rattle.cp_objects.specs.Numbers.{Numbers, IsFirst}
 use Rattle.cp_objects.specs.Promises.{HandsPromiseRequest, forgetting, has_name, keeping_promise, meant, with_next_call, with_outcome}
 
--- the first of those that are to be woken elsewhere is handed out, if there is one
-abbrev pub HandsOn : {A : Type 0} → Option Waker → ObjectsState A → ObjectsState A → Type 0
-HandsOn (Some waker) old new = (old.wakes ≡ waker ∷ new.wakes) × (new ≡ record old { wakes = new.wakes })
-HandsOn None old new = (old.wakes ≡ []) × (new ≡ old)
+-- the first letter to another session is handed out, if there is one
+abbrev pub HandsOn : {A : Type 0} → Option Letter → ObjectsState A → ObjectsState A → Type 0
+HandsOn (Some letter) old new = (old.letters ≡ letter ∷ new.letters) × (new ≡ record old { letters = new.letters })
+HandsOn None old new = (old.letters ≡ []) × (new ≡ old)
 
 -- the first of the calls that were made and given up is handed out, if there is one
 abbrev pub HandsCanceled : {A : Type 0} → Option CanceledCall → ObjectsState A → ObjectsState A → Type 0
@@ -31,27 +33,28 @@ IsAwake s = (k : ℕ) × (set.contains s k ≡ true)
 abbrev pub grown : {A : Type 0} → ServedObjectKind A A → ObjectTableKind (Objects A)
 grown kind = record {
   holds = λ number f. IsSome (get (objects_of f).members number);
-  calls = λ number ticket request reply old new. Calls kind number ticket request reply (objects_of old) (objects_of new);
-  polls = λ number given old new. Polls kind number given (objects_of old) (objects_of new);
-  next_calls = λ number next_call old new. NextCalls kind number next_call (objects_of old) (objects_of new);
+  calls = λ number ticket request reply old new. Calls (any_object kind) number ticket request reply (objects_of old) (objects_of new);
+  polls = λ number given old new. Polls (any_object kind) number given (objects_of old) (objects_of new);
+  next_calls = λ number next_call old new. NextCalls (any_object kind) number next_call (objects_of old) (objects_of new);
   drops_next_calls = λ number old new. objects_of new ≡ changing number without_next_calls (objects_of old);
-  tells = λ number call_id outcome old new. Responds kind number call_id outcome (objects_of old) (objects_of new);
-  cancels = λ ticket told old new. Cancels kind ticket told (objects_of old) (objects_of new);
+  tells = λ number call_id outcome old new. Responds (any_object kind) number call_id outcome (objects_of old) (objects_of new);
+  cancels = λ ticket told old new. Cancels (any_object kind) ticket told (objects_of old) (objects_of new);
   hands_canceled = λ call old new. HandsCanceled call (objects_of old) (objects_of new);
   waits_less = λ number old new. objects_of new ≡ changing number waiting_less (objects_of old);
   is_next = λ from next f. IsFirst from next (objects_of f).awake;
   says_more = λ more f. IsTrue more ↔ IsAwake (objects_of f).awake;
-  guests = λ f. min (len (objects_of f).members + len (objects_of f).promised.names) (2 ^ 64 - 1);
+  guests = λ f. min (len (objects_of f).members + len (objects_of f).promised.names + lent_in (objects_of f)) (2 ^ 64 - 1);
   idle = λ f. idle_of (objects_of f);
-  ends = λ number left old new. Ends kind number left (objects_of old) (objects_of new);
-  ends_all = λ old new. EndsAll kind (objects_of old) (objects_of new);
+  ends = λ number left old new. Ends (any_object kind) number left (objects_of old) (objects_of new);
+  ends_all = λ old new. EndsAll (any_object kind) (objects_of old) (objects_of new);
   hands_settled = λ given old new. HandsSettled given (objects_of old) (objects_of new);
   is_in = λ session old new. objects_of new ≡ in_session session (objects_of old);
   is_at = λ now old new. objects_of new ≡ record (objects_of old) { context = record (objects_of old).context { now = now } };
   wakes_due = λ old new. objects_of new ≡ woken (objects_of old);
   wakes = λ number old new. objects_of new ≡ waking number (objects_of old);
   deadline = λ f. (objects_of f).first_alarm;
-  hands_on = λ waker old new. HandsOn waker (objects_of old) (objects_of new);
+  hands_on = λ letter old new. HandsOn letter (objects_of old) (objects_of new);
+  delivers = λ body old new. Delivers body (objects_of old) (objects_of new);
   hands_given_up = λ imports old new. (imports ≡ (objects_of old).given_up) × (objects_of new ≡ record (objects_of old) { given_up = [] });
   hands_promise_request = λ promise_request old new.
       HandsPromiseRequest promise_request (objects_of old).promised (objects_of new).promised × (objects_of new ≡ promised_so (objects_of new).promised (objects_of old));

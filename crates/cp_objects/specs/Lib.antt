@@ -1,4 +1,6 @@
 pub mod SessionCap
+pub mod SharedCap
+pub mod Letters
 pub mod Context
 pub mod ServedObject
 pub mod Either
@@ -6,7 +8,13 @@ pub mod Numbers
 pub mod Members
 pub mod Counts
 pub mod Promises
+pub mod Lending
+pub mod Proxying
+pub mod Forwarding
+pub mod SharingCode
+pub mod AnyObject
 pub mod Objects
+pub mod Delivering
 pub mod Canceling
 pub mod ObjectTable
 pub mod Listed

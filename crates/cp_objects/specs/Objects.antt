@@ -1,11 +1,12 @@
 -- The objects of a connection, with those that they make.
-use Rattle.std.specs.Prelude.{◌≡◌, ◌≢◌, ℕ, ◌+◌, ◌-◌, ◌==◌, ◌&&◌, ◌||◌, Bool, true, false, if◌then◌else◌, nat_lt, not, List, [], ◌∷◌, ◌++◌, drop, slice_get, Option, Some, None, is_some}
+use Rattle.std.specs.Prelude.{◌≡◌, ◌≢◌, ℕ, ◌+◌, ◌-◌, ◌==◌, ◌&&◌, ◌||◌, Bool, true, false, if◌then◌else◌, nat_lt, not, List, [], ◌∷◌, ◌++◌, drop, length, slice_get, Option, Some, None, is_some}
 use Rattle.std.specs.List.{list_any}
-use Rattle.std.specs.Option.{option_map_or}
+use Rattle.std.specs.Option.{option_map_or, unwrap_or}
 use Rattle.std.specs.FinMap.{get, insert, remove, empty, values, entries}
 use Rattle.std.specs.FinSet as set
 use Rattle.cp_tables.specs.Table.{Table, with_change}
 use Rattle.cp_refs.specs.declared.cap.Cap.{Cap}
+use Rattle.cp_refs.specs.declared.cap.Cap.TheVariants as caps
 use Rattle.cp_refs.specs.declared.call.Request.{Request}
 use Rattle.cp_refs.specs.declared.outcome.Outcome.{Outcome}
 use Rattle.cp_vat_machine.specs.InUse.{caps_of}
@@ -21,22 +22,29 @@ use Rattle.cp_objects.specs.declared.context.ObjectEffect.TheVariants as effects
 use Rattle.cp_objects.specs.declared.context.NewCap.{NewCap}
 use Rattle.cp_objects.specs.declared.context.NewCap.TheVariants as new_caps
 use Rattle.cp_objects.specs.declared.object_entry.ObjectEntry.{ObjectEntry}
-use Rattle.cp_objects.specs.declared.waker.Waker.{Waker}
+use Rattle.cp_objects.specs.declared.any_object.AnyObject.{AnyObject}
+use Rattle.cp_objects.specs.declared.any_object.AnyObject.TheVariants as any
+use Rattle.cp_objects.specs.declared.letters.Letter.{Letter}
+use Rattle.cp_objects.specs.declared.letters.LetterBody.TheVariants as bodies
+use Rattle.cp_objects.specs.declared.shared_cap.LentCap.{LentCap}
 use Rattle.cp_objects.specs.declared.objects.Objects.{Objects}
+use Rattle.cp_objects.specs.AnyObject.{lent_by, with_lent}
 use Rattle.cp_objects.specs.Context.{ContextState, begun, context_of, without_those_made}
+use Rattle.cp_objects.specs.Forwarding.{new_forwarder}
+use Rattle.cp_objects.specs.Proxying.{new_proxy}
 use Rattle.cp_objects.specs.ServedObject.{ServedObjectKind}
 use Rattle.cp_objects.specs.ServedObject as served_object
-use Rattle.cp_objects.specs.Counts.{those_in}
+use Rattle.cp_objects.specs.Counts.{those_in, times}
 use Rattle.cp_objects.specs.Members.{has_call, held_in, next_calls_of, departed, earlier, is_later, newborn, not_to_call, to_call}
 use Rattle.cp_objects.specs.Numbers.{Numbers, is_among, is_number, local_in, without, without_each}
 use Rattle.cp_objects.specs.Promises.{Promised, adopted_each, named, none_promised, promised_of, promising, resolving, with_outcome, with_request}
 
 -- The objects by their numbers; where they are, and which number the next one gets; below which number they stay; which are to be polled; who owes the answer
 -- of which call; which objects and promises the params of such a call name; their promises; what calls came to that weren't settled by polls, in order; the
--- imports that they gave up beside what they answered, in order; the calls that they made and gave up, in order; who is to be woken elsewhere, in order; and the
--- time before which none is to be woken here.
+-- imports that they gave up beside what they answered, in order; the calls that they made and gave up, in order; what goes to other sessions, in order; the object that makes the calls of
+-- others; and the time before which none is to be woken here.
 pub record ObjectsState (A : Type 0) : Type 0 where
-  pub members : Table (ObjectEntry A)
+  pub members : Table (ObjectEntry (AnyObject A))
   pub context : ContextState A
   pub stays : ℕ
   pub awake : Numbers
@@ -46,7 +54,8 @@ pub record ObjectsState (A : Type 0) : Type 0 where
   pub settled : List Settled
   pub given_up : List ℕ
   pub canceled : List CanceledCall
-  pub wakes : List Waker
+  pub letters : List Letter
+  pub forwarder : Option ℕ
   pub first_alarm : Option ℕ
 
 abbrev pub objects_of : {A : Type 0} → Objects A → ObjectsState A
@@ -61,13 +70,14 @@ objects_of f = record {
   settled = f.settled.items;
   given_up = f.given_up;
   canceled = f.canceled.items;
-  wakes = f.wakes.items;
+  letters = f.letters.items;
+  forwarder = f.forwarder;
   first_alarm = f.first_alarm;
 }
 
 -- no objects
 abbrev pub alone : {A : Type 0} → ObjectsState A
-alone = record { members = empty; context = begun; stays = 0; awake = set.empty; pending_answers = empty; param_caps = empty; promised = none_promised; settled = []; given_up = []; canceled = []; wakes = []; first_alarm = None }
+alone = record { members = empty; context = begun; stays = 0; awake = set.empty; pending_answers = empty; param_caps = empty; promised = none_promised; settled = []; given_up = []; canceled = []; letters = []; forwarder = None; first_alarm = None }
 
 -- the first time that is to come
 abbrev pub first_of : ℕ → Option ℕ → Option ℕ → Option ℕ
@@ -87,6 +97,10 @@ abbrev pub own_of : ℕ → List ℕ → Option Settled → Table ℕ → Option
 own_of number holds None pending_answers = None
 own_of number holds (Some given) pending_answers = if is_number number (get pending_answers given.ticket) then Some (giving_held holds given) else None
 
+-- an object of this number is changed so, if it is there
+abbrev pub with_object : {X : Type 0} → Table (ObjectEntry X) → ℕ → (X → X) → Table (ObjectEntry X)
+with_object members number change = with_change members number (λ m. record m { object = change m.object })
+
 -- the number of the first of these
 abbrev pub first_of_entries : {X : Type 0} → List (ℕ × X) → Option ℕ
 first_of_entries [] = None
@@ -101,13 +115,27 @@ module _ {A : Type 0} where
   abbrev pub promised_so : Promised → ObjectsState A → ObjectsState A
   promised_so promised state = record state { promised = promised }
 
+  -- it is this from now on
+  abbrev pub placing : ℕ → ObjectEntry (AnyObject A) → ObjectsState A → ObjectsState A
+  placing number member state = record state { members = insert state.members number member }
+
+  -- it is to be polled
+  abbrev pub awoken : ℕ → ObjectsState A → ObjectsState A
+  awoken number state = record state { awake = set.insert state.awake number }
+
+  -- an object is there that stands for this, under this number, and is to be polled
+  abbrev pub joining_proxy : ℕ → LentCap → ObjectsState A → ObjectsState A
+  joining_proxy number shared state =
+      record (awoken number (placing number (newborn (any.Proxy (new_proxy shared))) state)) { context = record state.context { stands = insert state.context.stands number shared } }
+
   -- one object more is there, under the next number, and is to be polled; or one promise of the object that does something
   abbrev pub joining : NewCap A → ObjectsState A → ObjectsState A
   joining (new_caps.Object object) state = record state {
-    members = insert state.members state.context.next (newborn object);
+    members = insert state.members state.context.next (newborn (any.Own object));
     awake = set.insert state.awake state.context.next;
     context = record state.context { next = state.context.next + 1 };
   }
+  joining (new_caps.Proxy shared) state = joining_proxy state.context.next shared (record state { context = record state.context { next = state.context.next + 1 } })
   joining new_caps.Promise state = record state {
     promised = promising state.context.next state.context.this.object state.promised;
     context = record state.context { next = state.context.next + 1 };
@@ -134,16 +162,8 @@ module _ {A : Type 0} where
   adding_each (object ∷ more) state = adding_each more (adding object state)
 
   -- the object of this number is as it was but for this
-  abbrev pub changing : ℕ → (ObjectEntry A → ObjectEntry A) → ObjectsState A → ObjectsState A
+  abbrev pub changing : ℕ → (ObjectEntry (AnyObject A) → ObjectEntry (AnyObject A)) → ObjectsState A → ObjectsState A
   changing number change state = record state { members = with_change state.members number change }
-
-  -- it is this from now on
-  abbrev pub placing : ℕ → ObjectEntry A → ObjectsState A → ObjectsState A
-  placing number member state = record state { members = insert state.members number member }
-
-  -- it is to be polled
-  abbrev pub awoken : ℕ → ObjectsState A → ObjectsState A
-  awoken number state = record state { awake = set.insert state.awake number }
 
   -- it isn't to be polled any more
   abbrev pub resting : ℕ → ObjectsState A → ObjectsState A
@@ -188,6 +208,50 @@ module _ {A : Type 0} where
       if has_call call_id (next_calls_of number state.members) then changing number (not_to_call call_id) state
       else record state { canceled = state.canceled ++ record { number = number; call_id = call_id } ∷ [] }
 
+  -- this goes to another session, after what went before
+  abbrev pub posting : Letter → ObjectsState A → ObjectsState A
+  posting letter state = record state { letters = state.letters ++ letter ∷ [] }
+
+  -- the object is there that makes the calls of other sessions, under the next number if it is new
+  abbrev pub joining_forwarder : ℕ → ObjectsState A → ObjectsState A
+  joining_forwarder number state =
+      record (awoken number (placing number (newborn (any.Forwarder new_forwarder)) (record state { context = record state.context { next = number + 1 } }))) { forwarder = Some number }
+
+  abbrev pub with_forwarder : ObjectsState A → ObjectsState A
+  with_forwarder state = if is_some state.forwarder then state else joining_forwarder state.context.next state
+
+  -- the number of it, where it is there
+  abbrev pub forwarder_of : ObjectsState A → ℕ
+  forwarder_of state = unwrap_or state.forwarder 0
+
+  -- how many capabilities they lend
+  abbrev pub lent_in : ObjectsState A → ℕ
+  lent_in state = option_map_or (λ number. option_map_or (λ entry. lent_by entry.object) (get state.members number) 0) state.forwarder 0
+
+  -- An import that an object holds is lent: the forwarder holds it in its place, once.
+  abbrev pub once_held : ℕ → ℕ → ObjectsState A → ObjectsState A
+  once_held number i state = if nat_lt 1 (times i (held_by number state)) then giving_up_import number i state else state
+
+  abbrev pub holding_import : ℕ → ℕ → ℕ → ObjectsState A → ObjectsState A
+  holding_import number forwarder i state = once_held forwarder i (handing_over number forwarder i state)
+
+  -- the object of a number is this from now on
+  abbrev pub becoming : ℕ → (AnyObject A → AnyObject A) → ObjectsState A → ObjectsState A
+  becoming number change state = record state { members = with_object state.members number change }
+
+  -- an object or a promise of this end that is lent is kept
+  abbrev pub holding_lent : ℕ → ℕ → Cap → ObjectsState A → ObjectsState A
+  holding_lent number forwarder (caps.Import i) state = holding_import number forwarder i state
+  holding_lent number forwarder (caps.Object k) state = changing forwarder (λ m. record m { keeps = m.keeps ++ k ∷ [] }) state
+  holding_lent number forwarder other state = state
+
+  -- This is lent from now on, and held for that; an import that an object held it holds no more.
+  abbrev pub lending_from : ℕ → ℕ → LentCap → ObjectsState A → ObjectsState A
+  lending_from forwarder number shared state = becoming forwarder (with_lent shared) (awoken forwarder (holding_lent number forwarder shared.cap state))
+
+  abbrev pub lending_cap : ℕ → LentCap → ObjectsState A → ObjectsState A
+  lending_cap number shared state = let at = with_forwarder state in lending_from (forwarder_of at) number shared at
+
   -- what the object of this number did is done
   abbrev pub following : ℕ → ObjectEffect → ObjectsState A → ObjectsState A
   following number (effects.Keep keeper kept) state = changing keeper (λ m. record m { keeps = m.keeps ++ kept ∷ [] }) state
@@ -195,13 +259,15 @@ module _ {A : Type 0} where
   following number (effects.GiveUp kept) state = changing number (λ m. record m { keeps = without kept m.keeps }) state
   following number (effects.GiveUpImport i) state = giving_up_import number i state
   following number (effects.Wake waker) state =
-      if waker.session == state.context.this.session then waking waker.object state else record state { wakes = state.wakes ++ waker ∷ [] }
+      if waker.session == state.context.this.session then waking waker.object state else posting (record { to = waker.session; body = bodies.Wake waker.object }) state
   following number (effects.WakeAt time) state =
       record (changing number (λ m. record m { alarm = Some time }) state) { first_alarm = Some (earlier state.first_alarm time) }
   following number (effects.Resolve promise value) state = promised_so (resolving promise value state.promised) state
   following number (effects.Call next_call) state = changing number (to_call next_call) state
   following number (effects.Cancel call_id) state = giving_up_call number call_id state
   following number (effects.Settle given) state = settling given state
+  following number (effects.Lend shared) state = lending_cap number shared state
+  following number (effects.Post letter) state = posting letter state
 
   abbrev pub followed : ℕ → List ObjectEffect → ObjectsState A → ObjectsState A
   followed number [] state = state
@@ -260,9 +326,12 @@ module _ {A : Type 0} where
   abbrev pub is_kept : ObjectsState A → ℕ → Bool
   is_kept state k = is_among k (values state.promised.makers) || list_any (λ member. is_among k member.keeps) (values state.members)
 
-  -- the object owes an answer, or the params of a call that isn't answered name it; or it made a promise that isn't resolved, or another keeps it
+  -- The object owes an answer, or the params of a call that isn't answered name it; or it made a promise that isn't resolved, or another keeps it. While an outcome is
+  -- to be handed out, which may name any, each is held.
   abbrev pub is_held : ObjectsState A → ℕ → Bool
-  is_held state k = is_among k (values state.pending_answers) || (list_any (λ named. is_among k named) (values state.param_caps) || is_kept state k)
+  is_held state k =
+      nat_lt 0 (length state.settled)
+      || (is_among k (values state.pending_answers) || (list_any (λ named. is_among k named) (values state.param_caps) || is_kept state k))
 
   -- these are those that made such a promise, and those that another keeps
   abbrev pub AreKept : ObjectsState A → Numbers → Type 0
@@ -270,11 +339,11 @@ module _ {A : Type 0} where
 
   -- An object goes where the program didn't add it, it waits for no outcome, owes no answer, has no promise to resolve, and no object keeps it. It stays while
   -- the connection refers to it.
-  abbrev pub is_idle : ObjectsState A → ℕ → ObjectEntry A → Bool
-  is_idle state k member = not (nat_lt k state.stays) && member.asked == 0 && not (is_held state k)
+  abbrev pub is_idle : ObjectsState A → ℕ → ObjectEntry (AnyObject A) → Bool
+  is_idle state k member = not (nat_lt k state.stays) && member.asked == 0 && not (is_number k state.forwarder) && not (is_held state k)
 
   -- those of these, in order
-  abbrev pub idle_among : ObjectsState A → List (ℕ × ObjectEntry A) → List ℕ
+  abbrev pub idle_among : ObjectsState A → List (ℕ × ObjectEntry (AnyObject A)) → List ℕ
   idle_among state [] = []
   idle_among state (entry ∷ more) = if is_idle state entry.0 entry.1 then entry.0 ∷ idle_among state more else idle_among state more
 
@@ -295,7 +364,11 @@ module _ {A : Type 0} where
 
   -- the object of this number is gone
   abbrev pub losing : ℕ → ObjectsState A → ObjectsState A
-  losing number state = record state { members = remove state.members number; awake = set.remove state.awake number }
+  losing number state = record state {
+    members = remove state.members number;
+    awake = set.remove state.awake number;
+    context = record state.context { stands = remove state.context.stands number };
+  }
 
   -- what it leaves
   abbrev pub departed_of : ℕ → ObjectsState A → Departed
@@ -310,12 +383,12 @@ module _ {A : Type 0} where
   first_number state = first_of_entries (entries state.members)
 
   -- the objects whose time has come, in order
-  abbrev pub due_among : ℕ → List (ℕ × ObjectEntry A) → List ℕ
+  abbrev pub due_among : ℕ → List (ℕ × ObjectEntry (AnyObject A)) → List ℕ
   due_among now [] = []
   due_among now (entry ∷ more) = if is_later now entry.1.alarm then due_among now more else entry.0 ∷ due_among now more
 
   -- the first of their times that is to come, and of this one
-  abbrev pub next_alarm : ℕ → Option ℕ → List (ℕ × ObjectEntry A) → Option ℕ
+  abbrev pub next_alarm : ℕ → Option ℕ → List (ℕ × ObjectEntry (AnyObject A)) → Option ℕ
   next_alarm now first [] = first
   next_alarm now first (entry ∷ more) = next_alarm now (first_of now first entry.1.alarm) more
 
@@ -336,12 +409,12 @@ module _ {A : Type 0} where
   woken state = if is_later state.context.now state.first_alarm then state else rung_at state.context.now state
 
 -- Of objects of one kind.
-module _ {A : Type 0} (kind : ServedObjectKind A A) where
+module _ {A : Type 0} (kind : ServedObjectKind (AnyObject A) A) where
   -- The object of this number is called, and sees promises of this end under numbers. It is given the call's imports, and does what its kind says. What it replied
   -- is noted, but that it gives up only imports that it holds; it is to be polled, and what it did beside is done.
   pub record Calls (number ticket : ℕ) (request : Request) (reply : Reply) (old new : ObjectsState A) : Type 0 where
-    pub before : ObjectEntry A
-    pub object : A
+    pub before : ObjectEntry (AnyObject A)
+    pub object : AnyObject A
     pub place : ContextState A
     pub first : ObjectsState A
     pub seen : Request
@@ -355,15 +428,15 @@ module _ {A : Type 0} (kind : ServedObjectKind A A) where
         (leaving place (placing number (record before { object = object; holds = before.holds ++ named_imports request.caps }) first))))
 
   -- After a poll an object is to be polled again exactly if it gave something, which is owed no more, or says that it may give more.
-  pub data GoesOn (number : ℕ) (object : A) (state : ObjectsState A) : Option Settled → ObjectsState A → Type 0 where
+  pub data GoesOn (number : ℕ) (object : AnyObject A) (state : ObjectsState A) : Option Settled → ObjectsState A → Type 0 where
     gave_some : (given : Settled) → GoesOn number object state (Some given) (answering number given state)
     says_more : kind.says_more true object → GoesOn number object state None state
     rests : kind.says_more false object → GoesOn number object state None (resting number state)
 
   -- The object of this number is polled. What it settled counts if it owed that, and what it did beside is done.
   pub record Polls (number : ℕ) (given : Option Settled) (old new : ObjectsState A) : Type 0 where
-    pub before : ObjectEntry A
-    pub object : A
+    pub before : ObjectEntry (AnyObject A)
+    pub object : AnyObject A
     pub place : ContextState A
     pub said : Option Settled
     pub rest : ObjectsState A
@@ -375,8 +448,8 @@ module _ {A : Type 0} (kind : ServedObjectKind A A) where
 
   -- It is asked for a call, which it is to make before those that it sends meanwhile. What it did beside is done.
   pub record AsksNextCall (number : ℕ) (old new : ObjectsState A) : Type 0 where
-    pub before : ObjectEntry A
-    pub object : A
+    pub before : ObjectEntry (AnyObject A)
+    pub object : AnyObject A
     pub place : ContextState A
     pub said : Option OutgoingCall
     pub was : get old.members number ≡ Some before
@@ -390,8 +463,8 @@ module _ {A : Type 0} (kind : ServedObjectKind A A) where
 
   -- An object is told what a call of its own came to, and given the imports of that. It is to be polled, and what it did beside is done.
   pub record Responds (number call_id : ℕ) (outcome : Outcome) (old new : ObjectsState A) : Type 0 where
-    pub before : ObjectEntry A
-    pub object : A
+    pub before : ObjectEntry (AnyObject A)
+    pub object : AnyObject A
     pub place : ContextState A
     pub first : ObjectsState A
     pub adopts : first ≡ adopting (caps_of outcome) old
@@ -402,8 +475,8 @@ module _ {A : Type 0} (kind : ServedObjectKind A A) where
 
   -- The object of this number is told its end. What it made isn't kept, and what it did beside is done.
   pub record IsToldEnd (number : ℕ) (old new : ObjectsState A) : Type 0 where
-    pub before : ObjectEntry A
-    pub object : A
+    pub before : ObjectEntry (AnyObject A)
+    pub object : AnyObject A
     pub place : ContextState A
     pub was : get old.members number ≡ Some before
     pub ends : served_object.Ends kind before.object (entered number old) place object

@@ -2,6 +2,7 @@
 
 ghost use Rattle.std.specs.Prelude.{◌≡◌, IfOk, OnOk, IsSome};
 ghost use Rattle.std.specs.FinMap as maps;
+ghost use Rattle.cp_objects.specs.AnyObject.{any_object};
 ghost use Rattle.cp_objects.specs.Canceling.{Cancels, IsToldCancel};
 ghost use Rattle.cp_objects.specs.Objects.{giving_up_call, objects_of};
 
@@ -14,7 +15,7 @@ use std::alloc::AllocError;
 impl<O: ServedObject<Makes = O>> Objects<O> {
     /// Tells the object that owes the answer of this call that nobody waits for it any more, if there is one. Says which.
     pub(crate) fn cancel(&mut self, ticket: u64) -> Result<Option<u32>, AllocError>
-        ensures { IfOk result (λ told. Cancels O.makes ticket told (objects_of self.old) (objects_of self.new)) }
+        ensures { IfOk result (λ told. Cancels (any_object O.makes) ticket told (objects_of self.old) (objects_of self.new)) }
     {
         let Some(owner) = self.pending_answers.owner(ticket) else {
             return Ok(None);
@@ -41,7 +42,7 @@ impl<O: ServedObject<Makes = O>> Objects<O> {
     /// Tells an object that a call was given up, and does what it did then.
     fn tell_cancel(&mut self, number: u32, ticket: u64) -> Result<(), AllocError>
         requires { IsSome (maps.get self.old.members number) }
-        ensures { OnOk result (IsToldCancel O.makes number ticket (objects_of self.old) (objects_of self.new)) }
+        ensures { OnOk result (IsToldCancel (any_object O.makes) number ticket (objects_of self.old) (objects_of self.new)) }
     {
         self.context.enter(number);
         let member = self.members.entry_mut(number);

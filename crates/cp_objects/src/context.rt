@@ -1,19 +1,22 @@
 //! What an object may do beside what it answers.
 
-ghost use Rattle.std.specs.Prelude.{◌≡◌, ◌+◌, ◌==◌, [], IfOk, IfSome, OnOk, OnErr};
-ghost use Rattle.cp_objects.specs.Context.{answering, begun, giving_up, keeping, keeping_for, may_resolve, next_number, own_object, context_of, time_after, with_effect, with_made, with_promise, without_those_made};
+ghost use Rattle.std.specs.Prelude.{◌≡◌, ◌+◌, ◌==◌, [], IfOk, IfSome, OnOk, OnErr, option_copied};
+ghost use Rattle.cp_objects.specs.Context.{answering, begun, cap_here, caps_here, context_of, giving_up, hereby, hereby_each, keeping, keeping_for, may_resolve, named_here, next_number, own_object, shared_each, shared_of, sharing, sharing_each, stood_for, time_after, with_effect, with_made, with_promise, without_those_made};
 ghost use Rattle.cp_objects.specs.SessionCap.{IsTakenIf, are_of, is_of};
 ghost use Rattle.cp_objects.specs.declared.context.ObjectEffect.{ObjectEffect};
 ghost use Rattle.cp_objects.specs.declared.context.ObjectEffect.TheVariants as effects;
 
 use crate::later::{DroppedCall, DroppedCalls, LaterCall};
+use crate::letters::Letter;
 use crate::reference_error::ReferenceError;
 use crate::resolver::Resolver;
 use crate::session_call::SessionCall;
 use crate::session_cap::SessionCap;
+use crate::shared_cap::{SharedCap, SharedCaps};
 use crate::waker::Waker;
-use cp_refs::{Cap, Outcome};
+use cp_refs::{Cap, Caps, Outcome};
 use cp_servants::{OutgoingCall, Settled};
+use cp_tables::Entries;
 use cp_vat_machine::Ids;
 use std::alloc::{AllocError, Global};
 use std::mem;
@@ -24,6 +27,8 @@ pub(crate) enum NewCap<M> {
     Object(M),
     /// A promise of the object's.
     Promise,
+    /// What stands for another session's capability.
+    Proxy(SharedCap),
 }
 
 /// What an object did beside what it answered.
@@ -48,6 +53,10 @@ pub(crate) enum ObjectEffect {
     Cancel(u64),
     /// A call that is to be answered later comes to this.
     Settle(Settled),
+    /// The session lends this, which the object holds no more if it is an import.
+    Lend(SharedCap),
+    /// This goes to another session.
+    Post(Letter),
 }
 
 /// Where an object is while it is called, polled, or told a response or its end: what it may do there beside what it answers. `M` is the one
@@ -65,6 +74,12 @@ pub struct Context<M> {
     made: Vec<NewCap<M>>,
     /// What else was done, in order.
     effects: Vec<ObjectEffect>,
+    /// The key under which is lent what is lent next. None is given twice.
+    next_key: u64,
+    /// What stands for capabilities of other sessions, and for which.
+    pub(crate) stands: Entries<SharedCap>,
+    /// The bytes of calls to other sessions that are open.
+    pub(crate) forwarded: u64,
     /// The later calls that were dropped, once there were later calls.
     dropped: Option<DroppedCalls>,
 }
@@ -201,6 +216,40 @@ impl<M: Drop> Context<M> {
         ensures err { OnErr result (context_of self.new ≡ context_of self.old) }
     {
         self.note(ObjectEffect::Settle(settled))
+    }
+
+    /// A capability that the object was given, or an object or a promise of the connection, as all sessions of the host may name it: store
+    /// what this gives where the objects of other connections find it. What it stands for stays as long as that or a copy of it is there. An
+    /// import is held for that from then on, and no more by the object. What stands for another session's capability is shared as that.
+    ///
+    /// # Errors
+    ///
+    /// It is of another session, or memory ran out.
+    pub fn share(&mut self, cap: &SessionCap) -> Result<SharedCap, ReferenceError>
+        ensures shared { IfOk result (λ shared. shared ≡ shared_of cap.now.cap (context_of self.old)) }
+        ensures noted { OnOk result (context_of self.new ≡ sharing cap.now.cap (context_of self.old)) }
+        ensures err { OnErr result (context_of self.new ≡ context_of self.old) }
+        ensures own { IsTakenIf (is_of (context_of self.old).this.session cap.now) result }
+    {
+        if !cap.is_of(self.this.session) {
+            return Err(ReferenceError::OtherSession);
+        }
+        Ok(self.share_own(cap.cap())?)
+    }
+
+    /// What is shared, as objects of this session name it: the capability itself where it is of this session; else an object that stands for it
+    /// (a new one each time), whose calls are made in the session that shared it, in the order in which they came.
+    ///
+    /// # Errors
+    ///
+    /// Memory ran out, or 2^32 objects were made.
+    pub fn here(&mut self, shared: &SharedCap) -> Result<SessionCap, AllocError>
+        ensures named { IfOk result (λ cap. cap ≡ named_here shared.now (context_of self.old)) }
+        ensures noted { OnOk result (context_of self.new ≡ hereby shared.now (context_of self.old)) }
+        ensures err { OnErr result (context_of self.new ≡ context_of self.old) }
+    {
+        let cap = self.here_own(shared)?;
+        Ok(self.own(cap))
     }
 
     /// The object itself.
@@ -340,6 +389,9 @@ impl<M: Drop> Context<M> {
             next: 0,
             made: Vec::new(alloc),
             effects: Vec::new(alloc),
+            next_key: 0,
+            stands: Entries::new(alloc),
+            forwarded: 0,
             dropped: None,
         }
     }
@@ -407,6 +459,93 @@ impl<M: Drop> Context<M> {
         Ok(())
     }
 
+    /// This goes to another session.
+    pub(crate) fn post(&mut self, letter: Letter) -> Result<(), AllocError>
+        ensures { OnOk result (context_of self.new ≡ with_effect (context_of self.old) (effects.Post letter)) }
+    {
+        self.note(ObjectEffect::Post(letter))
+    }
+
+    /// The capabilities of a table as all sessions name them.
+    pub(crate) fn share_each(&mut self, caps: &Caps) -> Result<SharedCaps, AllocError>
+        ensures shared { IfOk result (λ shared. shared ≡ shared_each caps.now (context_of self.old)) }
+        ensures noted { OnOk result (context_of self.new ≡ sharing_each caps.now (context_of self.old)) }
+    {
+        let mut shared = Vec::with_capacity(self.alloc, caps.caps().len())?;
+        for cap in caps.caps() {
+            shared.push(self.share_own(cap)?)?;
+        }
+        Ok(SharedCaps::new(shared))
+    }
+
+    /// What is shared, as a table of this session names it.
+    pub(crate) fn here_each(&mut self, shared: &SharedCaps) -> Result<Caps, AllocError>
+        ensures named { IfOk result (λ caps. caps ≡ caps_here shared.now (context_of self.old)) }
+        ensures noted { OnOk result (context_of self.new ≡ hereby_each shared.now (context_of self.old)) }
+    {
+        let mut caps = Vec::with_capacity(self.alloc, shared.caps().len())?;
+        for one in shared.caps() {
+            caps.push(self.here_own(one)?)?;
+        }
+        Ok(Caps::new(caps))
+    }
+
+    /// A capability of this session as all sessions name it.
+    pub(crate) fn share_own(&mut self, cap: &Cap) -> Result<SharedCap, AllocError>
+        ensures shared { IfOk result (λ shared. shared ≡ shared_of cap.now (context_of self.old)) }
+        ensures noted { OnOk result (context_of self.new ≡ sharing cap.now (context_of self.old)) }
+        ensures err { OnErr result (context_of self.new ≡ context_of self.old) }
+    {
+        if let Some(shared) = self.stood_for(cap) {
+            return shared.copy();
+        }
+        let session = self.this.session;
+        if matches!(cap, Cap::None | Cap::Broken(_)) {
+            return SharedCap::new(self.alloc, session, 0, cap.copy(self.alloc)?);
+        }
+        let key = self.next_key;
+        let Some(next) = key.checked_add(1) else {
+            return Err(AllocError);
+        };
+        let shared = SharedCap::new(self.alloc, session, key, cap.copy(self.alloc)?)?;
+        self.note(ObjectEffect::Lend(shared.copy()?))?;
+        self.next_key = next;
+        Ok(shared)
+    }
+
+    /// What is shared, as this session names it.
+    fn here_own(&mut self, shared: &SharedCap) -> Result<Cap, AllocError>
+        ensures named { IfOk result (λ cap. cap ≡ cap_here shared.now (context_of self.old)) }
+        ensures noted { OnOk result (context_of self.new ≡ hereby shared.now (context_of self.old)) }
+        ensures err { OnErr result (context_of self.new ≡ context_of self.old) }
+    {
+        if shared.is_home(self.this.session) {
+            return shared.cap().copy(self.alloc);
+        }
+        let Some(number) = number_after(self.next, self.made.len()) else {
+            return Err(AllocError);
+        };
+        self.made.push(NewCap::Proxy(shared.copy()?))?;
+        Ok(Cap::Object(number))
+    }
+
+    /// What an object stands for, if it does, though it was made just now.
+    fn stood_for(&self, cap: &Cap) -> Option<&SharedCap>
+        ensures { option_copied result ≡ stood_for cap.now (context_of self.now) }
+    {
+        let Cap::Object(number) = cap else {
+            return None;
+        };
+        if let Some(shared) = self.stands.get(*number) {
+            return Some(shared);
+        }
+        let place = number.checked_sub(self.next)?;
+        match self.made.get(place as usize)? {
+            NewCap::Proxy(shared) => Some(shared),
+            _ => None,
+        }
+    }
+
     /// Takes out the later call that was dropped first, if one was.
     pub(crate) fn next_dropped(&self) -> Option<DroppedCall> {
         match &self.dropped {
@@ -448,7 +587,7 @@ impl<M: Drop> Context<M> {
     }
 
     /// Keeps once less what is of this session, or gives it up.
-    fn give_up_own(&mut self, cap: &Cap) -> Result<(), AllocError>
+    pub(crate) fn give_up_own(&mut self, cap: &Cap) -> Result<(), AllocError>
         ensures noted { OnOk result (context_of self.new ≡ giving_up cap.now (context_of self.old)) }
         ensures err { OnErr result (context_of self.new ≡ context_of self.old) }
     {

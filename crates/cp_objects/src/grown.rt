@@ -2,13 +2,13 @@
 
 use crate::canceled_call::CanceledCall;
 use crate::departed::Departed;
+use crate::letters::{Letter, LetterBody};
 use crate::members::wait_for_one_less;
 use crate::numbers::Numbers;
 use crate::object_table::ObjectTable;
 use crate::objects::Objects;
 use crate::promise_request::PromiseRequest;
 use crate::served_object::ServedObject;
-use crate::waker::Waker;
 use cp_refs::{Outcome, PromiseId};
 use cp_servants::{OutgoingCall, Reply, RequestView, Settled};
 use cp_vat_machine::Ids;
@@ -76,7 +76,9 @@ impl<O: ServedObject<Makes = O>> ObjectTable for Objects<O> {
     }
 
     fn guests(&self) -> usize {
-        self.len().saturating_add(self.promises.len())
+        self.len()
+            .saturating_add(self.promises.len())
+            .saturating_add(self.lent())
     }
 
     fn idle(&self, _alloc: Global) -> Result<Ids, AllocError> {
@@ -115,8 +117,12 @@ impl<O: ServedObject<Makes = O>> ObjectTable for Objects<O> {
         Objects::wake(self, number)
     }
 
-    fn next_wake(&mut self) -> Option<Waker> {
-        self.wakes.pop_front()
+    fn next_letter(&mut self) -> Option<Letter> {
+        Objects::next_letter(self)
+    }
+
+    fn deliver(&mut self, body: LetterBody) -> Result<(), AllocError> {
+        Objects::deliver(self, body)
     }
 
     fn take_given_up(&mut self, alloc: Global) -> Ids {

@@ -2,9 +2,9 @@
 
 use crate::canceled_call::CanceledCall;
 use crate::departed::Departed;
+use crate::letters::{Letter, LetterBody};
 use crate::object_table::ObjectTable;
 use crate::promise_request::PromiseRequest;
-use crate::waker::Waker;
 use cp_refs::{Outcome, PromiseId};
 use cp_servants::{
     OutgoingCall, Reply, RequestView, Servant, Settled, any_has_more, call_at, next_call_at,
@@ -106,8 +106,13 @@ impl<O: Servant> ObjectTable for Vec<O> {
         Ok(())
     }
 
-    fn next_wake(&mut self) -> Option<Waker> {
+    fn next_letter(&mut self) -> Option<Letter> {
         None
+    }
+
+    fn deliver(&mut self, body: LetterBody) -> Result<(), AllocError> {
+        drop(body);
+        Ok(())
     }
 
     fn take_given_up(&mut self, alloc: Global) -> Ids {

@@ -1,8 +1,8 @@
 //! What changes of the objects of a connection.
 
-ghost use Rattle.std.specs.Prelude.{◌≡◌, ◌≢◌, ◌∷◌, ◌++◌, [], true, false, IfOk, OnOk, drop, slice_get};
+ghost use Rattle.std.specs.Prelude.{◌≡◌, ◌≢◌, ◌∷◌, ◌++◌, [], true, false, IfOk, OnOk, drop, nat_lt, slice_get};
 ghost use Rattle.cp_tables.specs.Table.{with_change};
-ghost use Rattle.cp_objects.specs.Counts.{those_in};
+ghost use Rattle.cp_objects.specs.Counts.{those_in, times};
 ghost use Rattle.cp_objects.specs.Members.{has_call, held_in, next_calls_of, not_to_call, to_call, waiting_less, without_next_calls};
 ghost use Rattle.cp_objects.specs.Numbers.{is_among, without, without_each};
 
@@ -68,6 +68,16 @@ pub(crate) fn holds<O>(members: &Entries<ObjectEntry<O>>, number: u32, import: u
 {
     match members.get(number) {
         Some(member) => member.holds.contains(import),
+        None => false,
+    }
+}
+
+/// Whether an object holds an import more often than once.
+pub(crate) fn holds_twice<O>(members: &Entries<ObjectEntry<O>>, number: u32, import: u32) -> bool
+    ensures { result ≡ nat_lt 1 (times import (held_in number members.now)) }
+{
+    match members.get(number) {
+        Some(member) => member.holds.times(import) > 1,
         None => false,
     }
 }

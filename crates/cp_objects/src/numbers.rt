@@ -82,6 +82,13 @@ impl Numbers {
         self.numbers.contains(&number)
     }
 
+    /// How often this is one of them.
+    pub(crate) fn times(&self, number: u32) -> usize
+        ensures { result ≡ times number self.now }
+    {
+        times(number, &self.numbers)
+    }
+
     /// Those of other numbers that are among them, each as often as it is at most.
     pub(crate) fn those_of(&self, alloc: Global, others: &[u32]) -> Result<Ids, AllocError>
         ensures { IfOk result (λ found. found ≡ those_in others.now self.now) }

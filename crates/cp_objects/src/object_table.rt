@@ -6,8 +6,8 @@ ghost use Rattle.cp_objects.specs.ObjectTable.{ObjectTableKind};
 
 use crate::canceled_call::CanceledCall;
 use crate::departed::Departed;
+use crate::letters::{Letter, LetterBody};
 use crate::promise_request::PromiseRequest;
-use crate::waker::Waker;
 use cp_refs::{Outcome, PromiseId};
 use cp_servants::{OutgoingCall, Reply, RequestView, Settled};
 use cp_vat_machine::Ids;
@@ -118,9 +118,13 @@ pub trait ObjectTable: Drop {
     fn wake(&mut self, number: u32) -> Result<(), AllocError>
         ensures { OnOk result (table.wakes number self.old self.new) };
 
-    /// Takes out the first object of another session that is to be woken.
-    fn next_wake(&mut self) -> Option<Waker>
+    /// Takes out the first letter to another session.
+    fn next_letter(&mut self) -> Option<Letter>
         ensures { table.hands_on result self.old self.new };
+
+    /// Does what a letter of another session says.
+    fn deliver(&mut self, body: LetterBody) -> Result<(), AllocError>
+        ensures { OnOk result (table.delivers body self.old self.new) };
 
     /// Takes out the imports that objects gave up beside what they answered, in order.
     fn take_given_up(&mut self, alloc: Global) -> Ids

@@ -6,16 +6,19 @@ ghost use Rattle.cp_vat_machine.specs.InUse.{caps_of};
 ghost use Rattle.cp_servants.specs.declared.servant.Settled.{Settled};
 ghost use Rattle.cp_servants.specs.Outcomes.{named_imports};
 ghost use Rattle.cp_servants.specs.Requests.{request_of};
+ghost use Rattle.cp_objects.specs.AnyObject.{any_object};
 ghost use Rattle.cp_objects.specs.Objects.{NextCalls, Calls, Ends, EndsAll, HandsSettled, AsksNextCall, IsToldEnd, Polls, Responds, adding, adopting, alone, answering, asking, awoken, changing, departed_of, failing, first_number, followed, followed_last, following, following_last, giving_held, giving_up_import, handing_over, held_by, in_session, joining, objects_of, lending, losing, noting, own_of, placing, replying_held, resting, settled, settled_last, settling, waking, with_those_made};
 ghost use Rattle.cp_objects.specs.Context.{next_number, own_object};
 ghost use Rattle.cp_objects.specs.Counts.{those_in};
 ghost use Rattle.cp_objects.specs.Members.{earlier, newborn, without_next_calls};
 ghost use Rattle.cp_objects.specs.declared.context.ObjectEffect.TheVariants as effects;
 
+use crate::any_object::AnyObject;
 use crate::canceled_call::CanceledCall;
 use crate::context::{Context, NewCap, ObjectEffect};
 use crate::departed::Departed;
 use crate::later::DroppedCall;
+use crate::letters::{Letter, LetterBody};
 use crate::members::{
     add_next_call, drop_next_calls, give_up, give_up_import, has_next_call, held_of, hold, holds,
     keep, let_go, set_alarm, take_next_call,
@@ -62,7 +65,7 @@ use std::collections::VecDeque;
 #[derive(Drop)]
 pub struct Objects<O> {
     pub(crate) alloc: Global,
-    pub(crate) members: Entries<ObjectEntry<O>>,
+    pub(crate) members: Entries<ObjectEntry<AnyObject<O>>>,
     pub(crate) context: Context<O>,
     /// The objects below this number were added by the program.
     pub(crate) stays: u32,
@@ -77,8 +80,10 @@ pub struct Objects<O> {
     pub(crate) given_up: Numbers,
     /// The calls that objects made and gave up, in order.
     pub(crate) canceled: VecDeque<CanceledCall>,
-    /// The objects of other sessions that are to be woken, in order.
-    pub(crate) wakes: VecDeque<Waker>,
+    /// What goes to other sessions of the host, in order.
+    pub(crate) letters: VecDeque<Letter>,
+    /// The object that makes the calls of other sessions, once there is one.
+    pub(crate) forwarder: Option<u32>,
     /// No object is to be woken before this time.
     pub(crate) first_alarm: Option<u64>,
 }
@@ -100,7 +105,8 @@ impl<O: ServedObject<Makes = O>> Objects<O> {
             settled: VecDeque::new(alloc),
             given_up: Numbers::new(alloc),
             canceled: VecDeque::new(alloc),
-            wakes: VecDeque::new(alloc),
+            letters: VecDeque::new(alloc),
+            forwarder: None,
             first_alarm: None,
         }
     }
@@ -150,7 +156,7 @@ impl<O: ServedObject<Makes = O>> Objects<O> {
         request: RequestView<'_>,
     ) -> Result<Reply, AllocError>
         requires { IsSome (maps.get self.old.members number) }
-        ensures { IfOk result (λ reply. Calls O.makes number ticket (request_of request.entry) reply (objects_of self.old) (objects_of self.new)) }
+        ensures { IfOk result (λ reply. Calls (any_object O.makes) number ticket (request_of request.entry) reply (objects_of self.old) (objects_of self.new)) }
     {
         let imports = named_imports(self.alloc, &request.caps)?;
         self.adopt_each(&request.caps)?;
@@ -180,7 +186,7 @@ impl<O: ServedObject<Makes = O>> Objects<O> {
     /// Polls an object.
     pub(crate) fn poll(&mut self, number: u32) -> Result<Option<Settled>, AllocError>
         requires { IsSome (maps.get self.old.members number) }
-        ensures { IfOk result (λ given. Polls O.makes number given (objects_of self.old) (objects_of self.new)) }
+        ensures { IfOk result (λ given. Polls (any_object O.makes) number given (objects_of self.old) (objects_of self.new)) }
     {
         self.context.enter(number);
         let member = self.members.entry_mut(number);
@@ -195,7 +201,7 @@ impl<O: ServedObject<Makes = O>> Objects<O> {
     /// The next call of an object: the first that it is yet to make. Where there is none, it is asked before.
     pub(crate) fn next_call(&mut self, number: u32) -> Result<Option<OutgoingCall>, AllocError>
         requires { IsSome (maps.get self.old.members number) }
-        ensures { IfOk result (λ call. NextCalls O.makes number call (objects_of self.old) (objects_of self.new)) }
+        ensures { IfOk result (λ call. NextCalls (any_object O.makes) number call (objects_of self.old) (objects_of self.new)) }
     {
         if has_next_call(&self.members, number) {
             return Ok(take_next_call(&mut self.members, number));
@@ -212,7 +218,7 @@ impl<O: ServedObject<Makes = O>> Objects<O> {
         outcome: Outcome,
     ) -> Result<(), AllocError>
         requires { IsSome (maps.get self.old.members number) }
-        ensures { OnOk result (Responds O.makes number call_id outcome (objects_of self.old) (objects_of self.new)) }
+        ensures { OnOk result (Responds (any_object O.makes) number call_id outcome (objects_of self.old) (objects_of self.new)) }
     {
         let imports = given_imports(self.alloc, &outcome)?;
         self.adopt_given(&outcome)?;
@@ -248,7 +254,7 @@ impl<O: ServedObject<Makes = O>> Objects<O> {
     /// Tells an object its end, does what it did then, and drops it.
     pub(crate) fn end(&mut self, number: u32) -> Result<Departed, AllocError>
         requires { IsSome (maps.get self.old.members number) }
-        ensures { IfOk result (λ departed. Ends O.makes number departed (objects_of self.old) (objects_of self.new)) }
+        ensures { IfOk result (λ departed. Ends (any_object O.makes) number departed (objects_of self.old) (objects_of self.new)) }
     {
         let told = self.tell_end(number);
         // It is told once, so it goes where memory ran out, too.
@@ -264,7 +270,7 @@ impl<O: ServedObject<Makes = O>> Objects<O> {
 
     /// Tells each object its end, in the order of the numbers, does what it did then, and drops it.
     pub(crate) fn end_all(&mut self) -> Result<(), AllocError>
-        ensures { OnOk result (EndsAll O.makes (objects_of self.old) (objects_of self.new)) }
+        ensures { OnOk result (EndsAll (any_object O.makes) (objects_of self.old) (objects_of self.new)) }
     {
         for _ in 0..u64::MAX {
             let Some(number) = self.first_number() else {
@@ -471,7 +477,7 @@ impl<O: ServedObject<Makes = O>> Objects<O> {
     /// Tells an object its end, and does what it did then.
     fn tell_end(&mut self, number: u32) -> Result<(), AllocError>
         requires { IsSome (maps.get self.old.members number) }
-        ensures { OnOk result (IsToldEnd O.makes number (objects_of self.old) (objects_of self.new)) }
+        ensures { OnOk result (IsToldEnd (any_object O.makes) number (objects_of self.old) (objects_of self.new)) }
     {
         self.context.enter(number);
         let member = self.members.entry_mut(number);
@@ -485,6 +491,7 @@ impl<O: ServedObject<Makes = O>> Objects<O> {
         ensures gone { objects_of self.new ≡ losing number (objects_of self.old) }
     {
         self.awake.remove(number);
+        drop(self.context.stands.remove(number));
         match self.members.remove(number) {
             Some(member) => member.into_departed(),
             None => Departed::none(self.alloc),
@@ -494,7 +501,7 @@ impl<O: ServedObject<Makes = O>> Objects<O> {
     /// Asks an object for a call, which it is to make before those that it sends meanwhile.
     fn ask_object(&mut self, number: u32) -> Result<(), AllocError>
         requires { IsSome (maps.get self.old.members number) }
-        ensures { OnOk result (AsksNextCall O.makes number (objects_of self.old) (objects_of self.new)) }
+        ensures { OnOk result (AsksNextCall (any_object O.makes) number (objects_of self.old) (objects_of self.new)) }
     {
         self.context.enter(number);
         let member = self.members.entry_mut(number);
@@ -587,6 +594,11 @@ impl<O: ServedObject<Makes = O>> Objects<O> {
             ObjectEffect::Call(next_call) => add_next_call(&mut self.members, number, next_call),
             ObjectEffect::Cancel(call_id) => self.give_up_call(number, call_id),
             ObjectEffect::Settle(settled) => self.settle_call(settled),
+            ObjectEffect::Lend(shared) => self.lend_cap(number, shared),
+            ObjectEffect::Post(letter) => {
+                self.letters.push_back(letter)?;
+                Ok(())
+            }
         }
     }
 
@@ -605,7 +617,7 @@ impl<O: ServedObject<Makes = O>> Objects<O> {
     }
 
     /// An object gives an import up beside what it answers, if it holds it: else another one's hold would go.
-    fn give_up_held(&mut self, number: u32, import: u32) -> Result<(), AllocError>
+    pub(crate) fn give_up_held(&mut self, number: u32, import: u32) -> Result<(), AllocError>
         ensures { OnOk result (objects_of self.new ≡ giving_up_import number import (objects_of self.old)) }
     {
         if !holds(&self.members, number, import) {
@@ -616,7 +628,12 @@ impl<O: ServedObject<Makes = O>> Objects<O> {
     }
 
     /// Has another object hold an import in place of one that holds it, if it is there.
-    fn hand_over(&mut self, number: u32, keeper: u32, import: u32) -> Result<(), AllocError>
+    pub(crate) fn hand_over(
+        &mut self,
+        number: u32,
+        keeper: u32,
+        import: u32,
+    ) -> Result<(), AllocError>
         ensures { OnOk result (objects_of self.new ≡ handing_over number keeper import (objects_of self.old)) }
     {
         if self.members.contains(keeper) && holds(&self.members, number, import) {
@@ -633,12 +650,15 @@ impl<O: ServedObject<Makes = O>> Objects<O> {
         if waker.session == self.context.waker().session {
             return self.wake(waker.object);
         }
-        self.wakes.push_back(waker)?;
+        self.letters.push_back(Letter {
+            to: waker.session,
+            body: LetterBody::Wake(waker.object),
+        })?;
         Ok(())
     }
 
     /// The objects and promises that were made are there from now on, each under the next number.
-    fn join(&mut self) -> Result<(), AllocError>
+    pub(crate) fn join(&mut self) -> Result<(), AllocError>
         ensures { OnOk result (objects_of self.new ≡ with_those_made (objects_of self.old)) }
     {
         let made = self.context.take_made();
@@ -659,13 +679,18 @@ impl<O: ServedObject<Makes = O>> Objects<O> {
         };
         self.context.set_next(next);
         match new_cap {
-            NewCap::Object(object) => self.join_object(number, object),
+            NewCap::Object(object) => self.join_object(number, AnyObject::Own(object)),
             NewCap::Promise => self.promises.make(number, self.context.waker().object),
+            NewCap::Proxy(shared) => self.join_proxy(number, shared),
         }
     }
 
     /// One object more is there, and is to be polled.
-    fn join_object(&mut self, number: u32, object: O) -> Result<(), AllocError>
+    pub(crate) fn join_object(
+        &mut self,
+        number: u32,
+        object: AnyObject<O>,
+    ) -> Result<(), AllocError>
         ensures { OnOk result (objects_of self.new ≡ awoken number (placing number (newborn object) (objects_of self.old))) }
     {
         self.members

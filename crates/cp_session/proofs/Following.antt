@@ -3,6 +3,7 @@ use Rattle.std.proofs.Common.{◌≡◌, ◌+◌, ◌++◌, ◌∷◌, List, [],
 use Rattle.std.proofs.lemmas.List.{nil_from_length, length-append}
 use Rattle.cp_dispatch.specs.Rounds.{by_object, by_none}
 use Rattle.std.specs.FinMap.{get}
+use Rattle.cp_objects.specs.declared.any_object.AnyObject.{AnyObject}
 use Rattle.cp_objects.specs.declared.object_entry.ObjectEntry.{ObjectEntry}
 use Rattle.cp_objects.specs.Objects.{ObjectsState}
 use Rattle.cp_objects.specs.ObjectTable.{ObjectTableKind}
@@ -26,7 +27,7 @@ pub no_object_serves : {A : Type 0} (kind : ServedObjectKind A A) → NoObjectSe
 no_object_serves {A = A} kind k ticket call reply old new objects others none (by_object holds calls) =
     absurd (none≢some calls.before (sym none ∙ ap (λ (objects_state : ObjectsState A). get objects_state.members k) (sym calls.adopts) ∙ calls.was))
   where
-    none≢some : (member : ObjectEntry A) → None ≡ Some member → ⊥
+    none≢some : (member : ObjectEntry (AnyObject A)) → None ≡ Some member → ⊥
     none≢some member e = cc
 no_object_serves kind k ticket call reply old new objects others none (by_none few is same left) = (is, same, left)
 

@@ -203,7 +203,8 @@ does_life {H = H} {old = old} (runs.tells event told is) =
     life_of_transfer is
     (life_same (life_none (link_of old)) (ap (λ (s : State H). link_of s) told.rest ∙ handed_link told.notice old.service.work told.work told.hands))
 does_life {H = H} {old = old} (runs.wakes object woken is) = life_of_transfer is (life_same (life_none (link_of old)) (ap (λ (s : State H). link_of s) woken.1))
-does_life {H = H} {old = old} (runs.hands_on waker handed is) = life_of_transfer is (life_same (life_none (link_of old)) (ap (λ (s : State H). link_of s) handed.1))
+does_life {H = H} {old = old} (runs.hands_on letter handed is) = life_of_transfer is (life_same (life_none (link_of old)) (ap (λ (s : State H). link_of s) handed.1))
+does_life {H = H} {old = old} (runs.delivers body delivered is) = life_of_transfer is (life_same (life_none (link_of old)) (ap (λ (s : State H). link_of s) delivered.1))
 does_life {H = H} (runs.calls call is_call did is) =
     life_of_transfer is (life_same (life_one (life.acts call.event call.result is_call did.1)) (ap (λ (s : State H). link_of s) did.2))
 does_life {H = H} (runs.gives_back import result back is) =

@@ -6,7 +6,7 @@ use Rattle.cp_session.specs.State.{State}
 
 -- nothing after it
 pub both_nothing : (transfer : Transfer) → both transfer nothing ≡ transfer
-both_nothing transfer = rw (append-nil transfer.given, append-nil transfer.taken, append-nil transfer.written, append-nil transfer.ended, append-nil transfer.called, append-nil transfer.released, append-nil transfer.roused, append-nil transfer.refused, append-nil transfer.ticked, append-nil transfer.told, append-nil transfer.woken, append-nil transfer.times) refl
+both_nothing transfer = rw (append-nil transfer.given, append-nil transfer.taken, append-nil transfer.written, append-nil transfer.ended, append-nil transfer.called, append-nil transfer.released, append-nil transfer.roused, append-nil transfer.delivered, append-nil transfer.refused, append-nil transfer.ticked, append-nil transfer.told, append-nil transfer.sent, append-nil transfer.times) refl
 
 -- nothing before it
 pub nothing_both : (transfer : Transfer) → both nothing transfer ≡ transfer
@@ -14,7 +14,7 @@ nothing_both transfer = refl
 
 pub both_assoc : (a b c : Transfer) → both (both a b) c ≡ both a (both b c)
 both_assoc a b c =
-    rw (append_assoc a.given b.given c.given, append_assoc a.taken b.taken c.taken, append_assoc a.written b.written c.written, append_assoc a.ended b.ended c.ended, append_assoc a.called b.called c.called, append_assoc a.released b.released c.released, append_assoc a.roused b.roused c.roused, append_assoc a.refused b.refused c.refused, append_assoc a.ticked b.ticked c.ticked, append_assoc a.told b.told c.told, append_assoc a.woken b.woken c.woken, append_assoc a.times b.times c.times) refl
+    rw (append_assoc a.given b.given c.given, append_assoc a.taken b.taken c.taken, append_assoc a.written b.written c.written, append_assoc a.ended b.ended c.ended, append_assoc a.called b.called c.called, append_assoc a.released b.released c.released, append_assoc a.roused b.roused c.roused, append_assoc a.delivered b.delivered c.delivered, append_assoc a.refused b.refused c.refused, append_assoc a.ticked b.ticked c.ticked, append_assoc a.told b.told c.told, append_assoc a.sent b.sent c.sent, append_assoc a.times b.times c.times) refl
 
 -- one call alone
 pub runs_one : {H : Type 0} {table : ObjectTableKind H} {old new : State H} (transfer : Transfer) → Does table old transfer new → Runs table old transfer new

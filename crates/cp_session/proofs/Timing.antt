@@ -177,7 +177,8 @@ module _ {H : Type 0} (table : ObjectTableKind H) (stay : (objects : H) → tabl
   done_still (runs.refuses now refused is) none = refused_still refused none
   done_still (runs.tells event told is) none = same_still told.rest none
   done_still (runs.wakes object woken is) none = same_still woken.1 none
-  done_still (runs.hands_on waker handed is) none = same_still handed.1 none
+  done_still (runs.hands_on letter handed is) none = same_still handed.1 none
+  done_still (runs.delivers body delivered is) none = same_still delivered.1 none
   done_still (runs.calls call is_call did is) none = same_still did.2 none
   done_still (runs.gives_back import result back is) none = same_still back.same none
   done_still (runs.finishes question finished is) none = canceled_still finished.cancels (untaken_still _ _ finished.untaken finished.releases none)

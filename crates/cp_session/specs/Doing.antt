@@ -14,7 +14,8 @@ use Rattle.cp_connection.specs.Excess.{excess_of}
 use Rattle.cp_connection.specs.Link.{Link}
 use Rattle.cp_connection.specs.Receiving.{Wrote}
 use Rattle.cp_objects.specs.declared.objects.Objects.{Objects}
-use Rattle.cp_objects.specs.declared.waker.Waker.{Waker}
+use Rattle.cp_objects.specs.declared.letters.Letter.{Letter}
+use Rattle.cp_objects.specs.declared.letters.LetterBody.{LetterBody}
 use Rattle.cp_objects.specs.Objects.{adding, objects_of}
 use Rattle.cp_objects.specs.ObjectTable.{ObjectTableKind}
 use Rattle.cp_objects.specs.Context.{next_number, own_object}
@@ -318,9 +319,13 @@ module _ {H : Type 0} (table : ObjectTableKind H) where
   abbrev pub Wakes : ℕ → State H → State H → Type 0
   Wakes object old new = table.wakes object old.objects new.objects × (new ≡ record old { objects = new.objects; service = stirred old.service })
 
-  -- whom an object wants to be woken of another session is handed out, and nothing else is done
-  abbrev pub HandsOn : Option Waker → State H → State H → Type 0
-  HandsOn waker old new = table.hands_on waker old.objects new.objects × (new ≡ record old { objects = new.objects })
+  -- the first letter to another session is handed out, and nothing else is done
+  abbrev pub HandsOn : Option Letter → State H → State H → Type 0
+  HandsOn letter old new = table.hands_on letter old.objects new.objects × (new ≡ record old { objects = new.objects })
+
+  -- What a letter of another session says is done. Empty polls are counted anew, and nothing else is done.
+  abbrev pub Delivers : LetterBody → State H → State H → Type 0
+  Delivers body old new = table.delivers body old.objects new.objects × (new ≡ record old { objects = new.objects; service = stirred old.service })
 
   -- when a limit of time is met, if no byte moves before; or that time has come, unless nothing more is given
   abbrev pub due_of : State H → Option ℕ

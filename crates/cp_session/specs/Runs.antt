@@ -8,13 +8,14 @@ use Rattle.cp_connection.specs.declared.fault.ConnectionFault.{ConnectionFault}
 use Rattle.cp_connection.specs.Link.{Link}
 use Rattle.cp_connection.specs.Lives.{IsCall}
 use Rattle.cp_refs.specs.declared.outcome.Outcome.{Outcome}
-use Rattle.cp_objects.specs.declared.waker.Waker.{Waker}
+use Rattle.cp_objects.specs.declared.letters.Letter.{Letter}
+use Rattle.cp_objects.specs.declared.letters.LetterBody.{LetterBody}
 use Rattle.cp_objects.specs.ObjectTable.{ObjectTableKind}
 use Rattle.cp_dispatch.specs.Receiving.{IsCutShort, is_unreceived, ran_out}
 use Rattle.cp_dispatch.specs.declared.event.SessionEvent.{SessionEvent}
 use Rattle.cp_session.specs.declared.progress.Phase.{Phase}
 use Rattle.cp_session.specs.declared.progress.Phase.TheVariants as phases
-use Rattle.cp_session.specs.Doing.{Closes, Did, EndsBytes, EndsCut, FinishesQuestion, GivesBack, HandsOn, IsRefused, IsUntaken, PollsOn, Receives, ReleasesOutcome, RunsOut, Tells, Ticks, Wakes, Writes}
+use Rattle.cp_session.specs.Doing.{Closes, Delivers, Did, EndsBytes, EndsCut, FinishesQuestion, GivesBack, HandsOn, IsRefused, IsUntaken, PollsOn, Receives, ReleasesOutcome, RunsOut, Tells, Ticks, Wakes, Writes}
 use Rattle.cp_session.specs.State.{State, link_of}
 
 -- a call that the program made, and what it gave
@@ -23,8 +24,8 @@ pub record Call : Type 0 where
   pub result : Result Value ConnectionFault
 
 -- What one call of a session did. It was given these bytes, of which its connection took those, and dropped the others; and it was told that these were written,
--- and at these times that the peer's bytes ended. The program made these calls, released these outcomes, woke these objects, refused the peer at these times, and said at those that time
--- passed. These events were handed out, and so were these objects of other sessions, which are to be woken. All the times that it was given are these.
+-- and at these times that the peer's bytes ended. The program made these calls, released these outcomes, woke these objects, delivered these letters, refused the peer at these
+-- times, and said at those that time passed. These events were handed out, and so were these letters to other sessions. All the times that it was given are these.
 pub record Transfer : Type 0 where
   pub given : List ℕ
   pub taken : List ℕ
@@ -33,16 +34,17 @@ pub record Transfer : Type 0 where
   pub called : List Call
   pub released : List Outcome
   pub roused : List ℕ
+  pub delivered : List LetterBody
   pub refused : List ℕ
   pub ticked : List ℕ
   pub told : List SessionEvent
-  pub woken : List Waker
+  pub sent : List Letter
   pub times : List ℕ
 
 -- nothing of all this
 abbrev pub nothing : Transfer
 nothing =
-    record { given = []; taken = []; written = []; ended = []; called = []; released = []; roused = []; refused = []; ticked = []; told = []; woken = []; times = [] }
+    record { given = []; taken = []; written = []; ended = []; called = []; released = []; roused = []; delivered = []; refused = []; ticked = []; told = []; sent = []; times = [] }
 
 -- a call at this time, and nothing else of all this
 abbrev pub called_at : ℕ → Transfer
@@ -62,10 +64,11 @@ both one other = record {
   called = one.called ++ other.called;
   released = one.released ++ other.released;
   roused = one.roused ++ other.roused;
+  delivered = one.delivered ++ other.delivered;
   refused = one.refused ++ other.refused;
   ticked = one.ticked ++ other.ticked;
   told = one.told ++ other.told;
-  woken = one.woken ++ other.woken;
+  sent = one.sent ++ other.sent;
   times = one.times ++ other.times;
 }
 
@@ -102,8 +105,9 @@ module _ {H : Type 0} (table : ObjectTableKind H) where
     closes : {transfer : Transfer} {new : State H} (now : ℕ) → Closes table old now new → transfer ≡ called_at now → Does old transfer new
     tells : {transfer : Transfer} {new : State H} (event : Option SessionEvent) → Tells old event new → transfer ≡ record nothing { told = option_to_list event } → Does old transfer new
     wakes : {transfer : Transfer} {new : State H} (object : ℕ) → Wakes table object old new → transfer ≡ record nothing { roused = object ∷ [] } → Does old transfer new
-    hands_on : {transfer : Transfer} {new : State H} (waker : Option Waker) → HandsOn table waker old new → transfer ≡ record nothing { woken = option_to_list waker }
+    hands_on : {transfer : Transfer} {new : State H} (letter : Option Letter) → HandsOn table letter old new → transfer ≡ record nothing { sent = option_to_list letter }
         → Does old transfer new
+    delivers : {transfer : Transfer} {new : State H} (body : LetterBody) → Delivers table body old new → transfer ≡ record nothing { delivered = body ∷ [] } → Does old transfer new
     calls : {transfer : Transfer} {new : State H} (call : Call) → IsCall call.event → Did old call.event call.result new → transfer ≡ record nothing { called = call ∷ [] } → Does old transfer new
     gives_back : {transfer : Transfer} {new : State H} (import : ℕ) (result : Result Value ConnectionFault) → GivesBack import old result new
         → transfer ≡ record nothing { called = record { event = own_calls.Release import; result = result } ∷ [] } → Does old transfer new

@@ -2,7 +2,7 @@
 
 ghost use Rattle.std.specs.Prelude.{◌≡◌, ◌↔◌, ◌≤◌, ◌⊎◌, true, false, IsTrue, IfOk, IfErr, OnOk, OnErr, length};
 ghost use Rattle.cp_objects.specs.ObjectTable.{ObjectTableKind};
-ghost use Rattle.cp_session.specs.Doing.{Closes, EndsBytes, EndsCut, HandsOn, HasMore, HasNone, IsRefused, IsUntaken, KeepsRest, MayTake, PollsOn, Receives, RunsOut, Tells, Ticks, Wakes, Writes, due_of, fault_of};
+ghost use Rattle.cp_session.specs.Doing.{Closes, Delivers, EndsBytes, EndsCut, HandsOn, HasMore, HasNone, IsRefused, IsUntaken, KeepsRest, MayTake, PollsOn, Receives, RunsOut, Tells, Ticks, Wakes, Writes, due_of, fault_of};
 ghost use Rattle.cp_session.specs.Kept.{kept_of};
 ghost use Rattle.cp_session.specs.Progress.{IsDraining};
 ghost use Rattle.cp_session.specs.State.{State, link_of, new_state};
@@ -11,7 +11,7 @@ ghost use Rattle.cp_session.specs.declared.progress.Phase.TheVariants as phases;
 use crate::options::SessionOptions;
 use cp_connection::{ConnectionFault, ConnectionStats};
 use cp_dispatch::SessionEvent;
-use cp_objects::Waker;
+use cp_objects::{Letter, LetterBody};
 use std::alloc::{AllocError, Global};
 
 /// What a driver does with a session: bytes and time go in, bytes, events and the next deadline come out.
@@ -136,7 +136,12 @@ pub trait DrivenSession: Drop {
         ensures wakes { OnOk result (Wakes table object (state self.old) (state self.new)) }
         ensures unwoken { OnErr result (KeepsRest (state self.old) (state self.new)) };
 
-    /// Takes out the first object of another session that an object here wants to be woken.
-    fn next_wake(&mut self) -> Option<Waker>
+    /// Takes out the first letter to another session: deliver it there.
+    fn next_letter(&mut self) -> Option<Letter>
         ensures { HandsOn table result (state self.old) (state self.new) };
+
+    /// Does what a letter of another session says: then `has_more` says so, while little waits to be written.
+    fn deliver(&mut self, body: LetterBody) -> Result<(), AllocError>
+        ensures delivers { OnOk result (Delivers table body (state self.old) (state self.new)) }
+        ensures undelivered { OnErr result (KeepsRest (state self.old) (state self.new)) };
 }

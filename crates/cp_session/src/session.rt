@@ -14,7 +14,7 @@ use crate::progress::{Progress, earlier};
 use crate::sweep::has_come;
 use cp_connection::{ConnectionFault, ConnectionStats};
 use cp_dispatch::{Limit, SessionEvent};
-use cp_objects::{ObjectTable, Objects, ServedObject, SessionCap, Waker};
+use cp_objects::{Letter, LetterBody, ObjectTable, Objects, ServedObject, SessionCap};
 use cp_refs::{Cap, Outcome, PromiseId, Request};
 use std::alloc::{AllocError, Global};
 
@@ -28,7 +28,7 @@ use std::alloc::{AllocError, Global};
 /// 3. While `has_more` says so, call `poll`: an object may give more though nothing comes, or a call of yours is one of an object
 ///    here.
 /// 4. After each of these take the events by `poll_event`, until there is none, and write `outgoing`; `wrote` notes how much went out.
-///    Objects of other sessions are to be woken that `next_wake` names: `wake` them, and `poll` those sessions.
+///    Letters to other sessions are those of `next_letter`: `deliver` each to its session, in order, and `poll` that.
 /// 5. At `deadline`, and after what came was taken, call `tick`: it ends the session where that meets a limit. Where `kept` says more
 ///    than you allow, call `refuse`.
 /// 6. Once `is_draining`, all went out: close the stream for writing, unless the peer closed. Once `is_over`, close it.
@@ -240,8 +240,14 @@ impl<H: ObjectTable> DrivenSession for SessionOver<H> {
         Ok(())
     }
 
-    fn next_wake(&mut self) -> Option<Waker> {
-        self.objects.next_wake()
+    fn next_letter(&mut self) -> Option<Letter> {
+        self.objects.next_letter()
+    }
+
+    fn deliver(&mut self, body: LetterBody) -> Result<(), AllocError> {
+        self.objects.deliver(body)?;
+        self.endpoint.stir();
+        Ok(())
     }
 }
 

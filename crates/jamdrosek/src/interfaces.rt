@@ -27,6 +27,7 @@ pub use cp_interfaces::{
     Dispatch, LaterAnswer, Lends, ListsBuilder, MethodCall, MethodFault, MethodRequest,
     MethodResult, NamedResults, NamingError, NoFieldsBuilder, NoFieldsPipeline, NoFieldsReader,
     NoResults, ObjectDispatch, Pipeline, ResultPayload, Results, ServiceCall, ServiceObject,
-    TextListBuilder, TypedClient, TypedPipeline, TypedResolver, fail, payload_of, refuse, reply,
+    SharedClient, TextListBuilder, TypedClient, TypedPipeline, TypedResolver, fail, payload_of,
+    refuse, reply,
 };
 pub use cp_refs::failed;

@@ -35,8 +35,8 @@
 
 pub use cp_builder::BuildError;
 pub use cp_objects::{
-    Context, Either, LaterCall, Objects, PromiseRequest, ReferenceError, Resolver, ServantObject,
-    ServedObject, SessionCall, SessionCap, Waker,
+    Context, Either, LaterCall, Letter, LetterBody, Objects, PromiseRequest, ReferenceError,
+    Resolver, ServantObject, ServedObject, SessionCall, SessionCap, SharedCap, Waker,
 };
 pub use cp_refs::{Cap, Caps, Outcome, Request};
 pub use cp_servants::{

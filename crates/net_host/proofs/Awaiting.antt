@@ -6,7 +6,7 @@ use Rattle.cp_session.specs.Doing.{due_of}
 use Rattle.cp_session.specs.Progress.{earlier}
 use Rattle.net_host.specs.declared.host.HostEvent.{HostEvent}
 use Rattle.net_host.specs.declared.host.HostEvent.TheVariants as all_news
-use Rattle.net_host.specs.Floor.{AwaitsAll, AwaitsEach, BeginsAwaited, Floor, Puts, ReportsAwaited, Rounds, Tells, Turns, begins, ends, goes_on, rests, sweeps, turns, wakes, wakes_none, wakes_short}
+use Rattle.net_host.specs.Floor.{AwaitsAll, AwaitsEach, BeginsAwaited, Floor, Puts, ReportsAwaited, Rounds, Tells, Turns, begins, bounces, delivers, delivers_short, ends, goes_on, rests, sweeps, turns}
 use Rattle.net_host.specs.HostedConnections.{Served}
 use Rattle.net_host.proofs.Timing.{same_some}
 use Rattle.net_host.specs.Timing.{ComesBy}
@@ -73,13 +73,13 @@ module _ {H : Type 0} (table : ObjectTableKind H) where
 
   turned : (old new : Floor H) → Turns table old new → AwaitsAll table old → AwaitsAll table new
   turned old new (rests r) all = same_each old.due new.due old.served new.served r.same r.due all
-  turned old new (goes_on key one next woken was stays puts ended note added awaits) all = put_each old.due new.due old.served new.served key next puts awaits all
-  turned old new (ends key one last woken end was by puts ended forgets added due) all = out_each old.due new.due old.served new.served key puts due all
-  turned old new (wakes waker one next first served rouses puts ended budget awaits) all =
-      put_each old.due new.due old.served new.served (key_of waker.session) next puts awaits all
-  turned old new (wakes_none waker first unserved same ended budget due) all = same_each old.due new.due old.served new.served same due all
-  turned old new (wakes_short waker one end first served short puts ended forgets due) all =
-      out_each old.due new.due old.served new.served (key_of waker.session) puts due all
+  turned old new (goes_on key one next sent was stays puts ended note added awaits) all = put_each old.due new.due old.served new.served key next puts awaits all
+  turned old new (ends key one last sent end was by puts ended forgets added due) all = out_each old.due new.due old.served new.served key puts due all
+  turned old new (delivers letter one next first served takes puts ended budget awaits) all =
+      put_each old.due new.due old.served new.served (key_of letter.to) next puts awaits all
+  turned old new (bounces letter rest first unserved back same ended budget due) all = same_each old.due new.due old.served new.served same due all
+  turned old new (delivers_short letter one failed last rest sent end first served lost short added puts ended forgets due) all =
+      out_each old.due new.due old.served new.served (key_of letter.to) puts due all
   turned old new (sweeps same ended budget waits first) all = first.each
 
   in_rounds : (old new : Floor H) → Rounds table old new → AwaitsAll table old → AwaitsAll table new

@@ -1,20 +1,22 @@
 -- How turns follow each other, and what a slab of connections shows of them.
-use Rattle.std.proofs.Common.{◌≡◌, ◌≢◌, ◌∙◌, ℕ, [], ◌∷◌, Option, Some, None, IsSome, inl, inr, refl, sym, ap, subst, ◌≤◌, Bool, cond, is_some, arith}
+use Rattle.std.proofs.Common.{◌≡◌, ◌≢◌, ◌∙◌, ℕ, List, [], ◌∷◌, Option, Some, None, IsSome, Ok, inl, inr, refl, sym, ap, subst, ◌≤◌, Bool, cond, is_some, arith}
 use Rattle.std.specs.Option.{option_map}
 use Rattle.std.proofs.lemmas.Bool.{cases_eq}
 use Rattle.std.proofs.lemmas.List.Sums.{sum_by-set}
 use Rattle.slab.specs.Slab.{Slab, Updates, get, slab_len, with_value}
 use Rattle.slab.proofs.SlabLemmas.{ContainsKey-within, Updates-with_value}
 use Rattle.cp_connection.specs.declared.event.ConnectionStats.{ConnectionStats}
-use Rattle.cp_objects.specs.declared.waker.Waker.{Waker}
+use Rattle.cp_objects.specs.declared.letters.Letter.{Letter}
 use Rattle.cp_objects.specs.ObjectTable.{ObjectTableKind}
-use Rattle.cp_session.specs.Doing.{due_of}
+use Rattle.cp_session.specs.Doing.{Did, due_of}
+use Rattle.cp_vat_machine.specs.declared.event.Event.TheVariants as machine
+use Rattle.cp_vat_machine.specs.declared.event.Value.TheVariants as values
 use Rattle.cp_session.specs.Progress.{earlier}
-use Rattle.cp_session.specs.State.{State, link_of, new_state}
+use Rattle.cp_session.specs.State.{State, new_state}
 use Rattle.net_sockets.specs.Flow.{Flow}
 use Rattle.net_sockets.specs.declared.listener.Peer.{Peer}
+use Rattle.net_host.proofs.Leaving.{left_number, left_peer}
 use Rattle.net_host.specs.declared.end.End.{End}
-use Rattle.net_host.specs.declared.end.End.TheVariants as all_ends
 use Rattle.net_host.specs.declared.end.Ended.{Ended}
 use Rattle.net_host.specs.declared.event_loop.EventLoop.{EventLoop}
 use Rattle.net_host.specs.declared.hosted_connection.HostedConnection.{HostedConnection}
@@ -22,8 +24,9 @@ use Rattle.net_host.specs.declared.host.HostEvent.{HostEvent}
 use Rattle.net_host.specs.declared.pending.PendingConnection.{PendingConnection}
 use Rattle.net_host.specs.declared.config.HostConfig.{HostConfig}
 use Rattle.net_host.specs.declared.host.HostEvent.TheVariants as all_news
-use Rattle.net_host.specs.Floor.{Floor, IsServed, Puts, Reports, Rests, Rounds, Seats, SeatsAt, Tells, begins, floor_of, options_of, seen, turns}
-use Rattle.net_host.specs.HostedConnections.{IsShort, IsUnroused, Served, end_or, new_served, served_of, stats_of}
+use Rattle.net_host.specs.Connecting.{Asks, own_options_of}
+use Rattle.net_host.specs.Floor.{Begins, Floor, IsServed, Puts, Reports, Rests, Rounds, Seats, SeatsAt, Tells, begins, floor_of, options_of, seen, turns}
+use Rattle.net_host.specs.HostedConnections.{IsUndelivered, LeavesShort, Served, new_served, served_of, stats_of}
 use Rattle.net_host.specs.Roster.{Accepts, Roster}
 use Rattle.net_host.specs.Waking.{key_of, session_of}
 
@@ -38,7 +41,7 @@ module _ {H : Type 0} {table : ObjectTableKind H} where
   reports_after news c h k = (k.0, rounds_both h k.1, k.2)
 
 pub rests_none : {H : Type 0} (floor : Floor H) → Rests floor floor
-rests_none floor = record { same = λ key. refl; ended = refl; budget = refl; wakes = refl; due = refl }
+rests_none floor = record { same = λ key. refl; ended = refl; budget = refl; letters = refl; due = refl }
 
 -- the key is this one
 pub written_at : {H : Type 0} {old new : ℕ → Option (Served H)} {key at : ℕ} {slot : Option (Served H)} → key ≡ at → Puts old key slot new → Puts old at slot new
@@ -88,9 +91,9 @@ module _ {S D H : Type 0} (state : S → State H) (flow : D → Flow) where
 
 module _ {S D H : Type 0} (state : S → State H) (flow : D → Flow) where
   -- no connection is under the key of a session
-  pub unserved_none : (old : EventLoop S D) (waker : Waker) (key : ℕ) → key ≡ key_of waker.session → None ≡ get old.guests key → (one : Served H)
-      → IsServed (floor_of state flow old) waker one → ⊥
-  unserved_none old waker key at none one served =
+  pub unserved_none : (old : EventLoop S D) (to key : ℕ) → key ≡ key_of to → None ≡ get old.guests key → (one : Served H)
+      → IsServed (floor_of state flow old) to one → ⊥
+  unserved_none old to key at none one served =
       absurd (cc (served.there, ap (λ k. seen state flow old.guests k) at, ap (λ o. option_map (served_of state flow) o) none))
 
   abbrev number_in : Option (Served H) → ℕ
@@ -98,29 +101,27 @@ module _ {S D H : Type 0} (state : S → State H) (flow : D → Flow) where
   number_in (Some one) = one.number
 
   -- the one that is has a session of another number
-  pub unserved_other : (old : EventLoop S D) (waker : Waker) (key session : ℕ) (hosted : HostedConnection S D) → key ≡ key_of waker.session → Some hosted ≡ get old.guests key
-      → session ≡ session_of hosted.number key → session ≢ waker.session → (one : Served H) → IsServed (floor_of state flow old) waker one → ⊥
-  unserved_other old waker key session hosted at there is differs one served =
+  pub unserved_other : (old : EventLoop S D) (to key session : ℕ) (hosted : HostedConnection S D) → key ≡ key_of to → Some hosted ≡ get old.guests key
+      → session ≡ session_of hosted.number key → session ≢ to → (one : Served H) → IsServed (floor_of state flow old) to one → ⊥
+  unserved_other old to key session hosted at there is differs one served =
       let here : Some (served_of state flow hosted) ≡ Some one = ap (λ o. option_map (served_of state flow) o) there ∙ ap (λ k. seen state flow old.guests k) at ∙ served.there in
       let number : hosted.number ≡ one.number = ap (λ o. number_in o) here in
       differs (is ∙ ap (λ n. session_of n key) number ∙ ap (λ k. session_of one.number k) at ∙ served.named)
 
-  pub is_served : (old : EventLoop S D) (waker : Waker) (key session : ℕ) (hosted : HostedConnection S D) → key ≡ key_of waker.session → Some hosted ≡ get old.guests key
-      → session ≡ session_of hosted.number key → session ≡ waker.session → IsServed (floor_of state flow old) waker (served_of state flow hosted)
-  is_served old waker key session hosted at there is same = record {
+  pub is_served : (old : EventLoop S D) (to key session : ℕ) (hosted : HostedConnection S D) → key ≡ key_of to → Some hosted ≡ get old.guests key
+      → session ≡ session_of hosted.number key → session ≡ to → IsServed (floor_of state flow old) to (served_of state flow hosted)
+  is_served old to key session hosted at there is same = record {
     there = ap (λ k. seen state flow old.guests k) (sym at) ∙ ap (λ o. option_map (served_of state flow) o) (sym there);
     named = ap (λ k. session_of hosted.number k) (sym at) ∙ sym is ∙ same;
   }
 
-module _ {H : Type 0} where
-  -- a connection ended as memory ran out while it was woken
-  pub ran_out : (one woken last : Served H) (end : End) → IsUnroused one woken → last ≡ record woken { end = None } → IsShort woken end
-      → (last.number ≡ one.number) × (last.peer ≡ one.peer) × (stats_of last ≡ stats_of one) × IsShort one end
-  ran_out one woken last end still same short = (
-    ap (λ (x : Served H). x.number) same ∙ ap (λ (x : Served H). x.number) still.1,
-    ap (λ (x : Served H). x.peer) same ∙ ap (λ (x : Served H). x.peer) still.1,
-    ap (λ (x : Served H). stats_of x) same ∙ ap (λ (s : State H). (link_of s).stats) still.0,
-    (short.0, short.1, short.2 ∙ ap (λ (x : Served H). end_or x.end (all_ends.Failed short.0)) still.1),
+module _ {H : Type 0} {table : ObjectTableKind H} where
+  -- a connection ended as memory ran out while a letter was delivered to it
+  pub ran_out : {now : ℕ} {sent : List Letter} (one failed last : Served H) (end : End) → IsUndelivered one failed → LeavesShort table now failed sent end last
+      → (last.number ≡ one.number) × (last.peer ≡ one.peer)
+  ran_out {now = now} {sent = sent} one failed last end lost short = (
+    left_number now failed last sent end short ∙ ap (λ (x : Served H). x.number) lost.1,
+    left_peer now failed last sent end short ∙ ap (λ (x : Served H). x.peer) lost.1,
   )
 
 -- what came is news of no end
@@ -131,35 +132,32 @@ tells_accepted old new (all_news.Ended number peer end stats) floor next accepts
 tells_accepted old new all_news.Woken floor next accepts e none = absurd accepts
 
 -- there was no news of an end to give
-pub rests_unended : {S D H : Type 0} (state : S → State H) (flow : D → Flow) (old new : EventLoop S D) → new.guests ≡ old.guests → new.budget ≡ old.budget → new.wakes ≡ old.wakes → new.time ≡ old.time → old.ended.items ≡ new.ended.items
+pub rests_unended : {S D H : Type 0} (state : S → State H) (flow : D → Flow) (old new : EventLoop S D) → new.guests ≡ old.guests → new.budget ≡ old.budget → new.letters ≡ old.letters → new.time ≡ old.time → old.ended.items ≡ new.ended.items
     → Rests (floor_of state flow old) (floor_of state flow new)
-rests_unended state flow old new same budget wakes time first =
-    record { same = λ key. ap (λ guests. seen state flow guests key) same; ended = sym first; budget = budget; wakes = ap (λ w. w.items) wakes; due = ap (λ t. t.sweep_at) time }
+rests_unended state flow old new same budget letters time first =
+    record { same = λ key. ap (λ guests. seen state flow guests key) same; ended = sym first; budget = budget; letters = ap (λ w. w.items) letters; due = ap (λ t. t.sweep_at) time }
 
 -- nothing was done with any connection where the event loop is the same
 pub rests_same : {S D H : Type 0} (state : S → State H) (flow : D → Flow) (old new : EventLoop S D) → new ≡ old → Rests (floor_of state flow old) (floor_of state flow new)
-rests_same state flow old new e = record { same = λ key. ap (λ event_loop. seen state flow event_loop.guests key) e; ended = ap (λ event_loop. event_loop.ended.items) e; budget = ap (λ event_loop. event_loop.budget) e; wakes = ap (λ event_loop. event_loop.wakes.items) e; due = ap (λ event_loop. event_loop.time.sweep_at) e }
+rests_same state flow old new e = record { same = λ key. ap (λ event_loop. seen state flow event_loop.guests key) e; ended = ap (λ event_loop. event_loop.ended.items) e; budget = ap (λ event_loop. event_loop.budget) e; letters = ap (λ event_loop. event_loop.letters.items) e; due = ap (λ event_loop. event_loop.time.sweep_at) e }
 
 -- news of an end is of the first of those of which there was none
-pub tells_ended : {S D H : Type 0} (state : S → State H) (flow : D → Flow) (old new : EventLoop S D) (ended : Ended) (news : HostEvent) → new.guests ≡ old.guests → new.budget ≡ old.budget → new.wakes ≡ old.wakes → new.time ≡ old.time
+pub tells_ended : {S D H : Type 0} (state : S → State H) (flow : D → Flow) (old new : EventLoop S D) (ended : Ended) (news : HostEvent) → new.guests ≡ old.guests → new.budget ≡ old.budget → new.letters ≡ old.letters → new.time ≡ old.time
     → old.ended.items ≡ ended ∷ new.ended.items → news ≡ all_news.Ended ended.number ended.peer ended.end ended.stats → Tells (floor_of state flow old) (Some news) (floor_of state flow new)
-tells_ended state flow old new ended news same budget wakes time first is = rw is (ap (λ guests. seen state flow guests) same, first, budget, ap (λ w. w.items) wakes, ap (λ t. t.sweep_at) time)
+tells_ended state flow old new ended news same budget letters time first is = rw is (ap (λ guests. seen state flow guests) same, first, budget, ap (λ w. w.items) letters, ap (λ t. t.sweep_at) time)
 
 module _ {S D H : Type 0} (state : S → State H) (flow : D → Flow) where
   -- more room changes no connection
   pub kept_in_room : (guests mid : Slab (HostedConnection S D)) → mid ≡ record guests { capacity = mid.capacity } → (key : ℕ) → seen state flow mid key ≡ seen state flow guests key
   kept_in_room guests mid e key = ap (λ (s : Slab (HostedConnection S D)). seen state flow s key) e
 
-  -- a connection more is served with its objects, once there is room
-  pub seats_in_room : (table : ObjectTableKind H) (plan : HostConfig) (pending : PendingConnection D) (objects seated : H) (now : ℕ) (old : EventLoop S D) (new : Floor H)
-      → (mid after : Slab (HostedConnection S D)) (key : ℕ) (hosted : HostedConnection S D) → mid ≡ record old.guests { capacity = mid.capacity } → get mid key ≡ None → Updates mid after key (Some hosted)
-      → served_of state flow hosted ≡ new_served flow pending (new_state (options_of plan) seated now) → new.served ≡ seen state flow after → new.ended ≡ old.ended.items → new.budget ≡ old.budget
-      → new.wakes ≡ old.wakes.items → new.due ≡ earlier old.time.sweep_at (due_of table (new_state (options_of plan) seated now))
-      → table.is_in (session_of pending.number key) objects seated → now ≡ old.time.at → Seats table flow plan (Some pending) objects (floor_of state flow old) new
-  seats_in_room table plan pending objects seated now old new mid after key hosted room vacant updates is shows same as_much no_more due knows at =
-      let puts = seen_puts state flow mid after key (Some hosted) updates in
-      subst (λ time. SeatsAt table flow time plan pending objects (floor_of state flow old) new) at (
-        seated,
+  -- a connection more is served, once there is room
+  begins_in_room : (table : ObjectTableKind H) (one : Served H) (old : EventLoop S D) (new : Floor H) (mid after : Slab (HostedConnection S D)) (key : ℕ) (hosted : HostedConnection S D)
+      → mid ≡ record old.guests { capacity = mid.capacity } → get mid key ≡ None → Updates mid after key (Some hosted) → served_of state flow hosted ≡ one → new.served ≡ seen state flow after
+      → new.ended ≡ old.ended.items → new.budget ≡ old.budget → new.letters ≡ old.letters.items → new.due ≡ earlier old.time.sweep_at (due_of table one.session)
+      → (seat : Begins table (floor_of state flow old) one new) × (seat.key ≡ key)
+  begins_in_room table one old new mid after key hosted room vacant updates is shows same as_much no_more due =
+      let puts = seen_puts state flow mid after key (Some hosted) updates in (
         record {
           key = key;
           free = sym (kept_in_room old.guests mid room key) ∙ ap (λ o. option_map (served_of state flow) o) vacant;
@@ -169,11 +167,39 @@ module _ {S D H : Type 0} (state : S → State H) (flow : D → Flow) where
           };
           ended = same;
           budget = as_much;
-          wakes = no_more;
+          letters = no_more;
           due = due;
         },
-        knows,
+        refl,
       )
+
+  -- one more is served with its objects
+  pub seats_in_room : (table : ObjectTableKind H) (plan : HostConfig) (pending : PendingConnection D) (objects seated : H) (now : ℕ) (old : EventLoop S D) (new : Floor H)
+      → (mid after : Slab (HostedConnection S D)) (key : ℕ) (hosted : HostedConnection S D) → mid ≡ record old.guests { capacity = mid.capacity } → get mid key ≡ None → Updates mid after key (Some hosted)
+      → served_of state flow hosted ≡ new_served flow pending (new_state (options_of plan) seated now) → new.served ≡ seen state flow after → new.ended ≡ old.ended.items → new.budget ≡ old.budget
+      → new.letters ≡ old.letters.items → new.due ≡ earlier old.time.sweep_at (due_of table (new_state (options_of plan) seated now))
+      → table.is_in (session_of pending.number key) objects seated → now ≡ old.time.at → Seats table flow plan (Some pending) objects (floor_of state flow old) new
+  seats_in_room table plan pending objects seated now old new mid after key hosted room vacant updates is shows same as_much no_more due knows at =
+      let one = new_served flow pending (new_state (options_of plan) seated now) in
+      let begins = begins_in_room table one old new mid after key hosted room vacant updates is shows same as_much no_more due in
+      subst (λ time. SeatsAt table flow time plan pending objects (floor_of state flow old) new) at
+      (seated, begins.0, subst (λ k. table.is_in (session_of pending.number k) objects seated) (sym begins.1) knows)
+
+  -- one more is that was made from here, in a session of its own, and its peer was asked
+  pub asks_in_room : (table : ObjectTableKind H) (plan : HostConfig) (pending : PendingConnection D) (number : ℕ) (objects seated : H) (session : State H) (old : EventLoop S D) (new : Floor H)
+      → (mid after : Slab (HostedConnection S D)) (key : ℕ) (hosted : HostedConnection S D) → mid ≡ record old.guests { capacity = mid.capacity } → get mid key ≡ None → Updates mid after key (Some hosted)
+      → served_of state flow hosted ≡ new_served flow pending session → new.served ≡ seen state flow after → new.ended ≡ old.ended.items → new.budget ≡ old.budget → new.letters ≡ old.letters.items
+      → new.due ≡ earlier old.time.sweep_at (due_of table session) → number ≡ session_of pending.number key → table.is_in number objects seated
+      → Did (new_state (own_options_of plan) seated old.time.at) machine.Bootstrap (Ok (values.Question 0)) session → Asks table flow plan pending number objects (floor_of state flow old) new
+  asks_in_room table plan pending number objects seated session old new mid after key hosted room vacant updates is shows same as_much no_more due named knows asked =
+      let begins = begins_in_room table (new_served flow pending session) old new mid after key hosted room vacant updates is shows same as_much no_more due in
+      (seated, session, begins.0, named ∙ ap (λ k. session_of pending.number k) (sym begins.1), knows, asked)
+
+-- the peer of a session that began so was asked by the question of this number
+pub asked_of : {H : Type 0} (first begun new : State H) (question : ℕ) → first ≡ begun → question ≡ 0 → Did first machine.Bootstrap (Ok (values.Question question)) new
+    → Did begun machine.Bootstrap (Ok (values.Question 0)) new
+asked_of first begun new question is none did =
+    subst (λ n. Did begun machine.Bootstrap (Ok (values.Question n)) new) none (subst (λ (s : State _). Did s machine.Bootstrap (Ok (values.Question question)) new) is did)
 
 -- the end of a connection that kept its number and peer, and what it took and sent
 pub ended_as : (ended : Ended) (number n : ℕ) (peer p : Peer) (end : End) (stats s : ConnectionStats) → ended ≡ record { number = n; peer = p; end = end; stats = s }

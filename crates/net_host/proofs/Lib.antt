@@ -2,7 +2,10 @@ pub mod Awaiting
 pub mod Deciding
 pub mod Fed
 pub mod Floors
+pub mod Leaving
+pub mod Letters
 pub mod Once
+pub mod Outgoing
 pub mod Overdue
 pub mod Rosters
 pub mod Serving

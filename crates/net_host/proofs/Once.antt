@@ -9,7 +9,7 @@ use Rattle.net_host.specs.declared.end.Ended.{Ended}
 use Rattle.net_host.specs.declared.host.HostEvent.{HostEvent}
 use Rattle.net_host.specs.declared.host.HostEvent.TheVariants as all_news
 use Rattle.net_host.proofs.Serving.{works_number}
-use Rattle.net_host.specs.Floor.{Begins, Floor, Puts, QueuesEnd, Rounds, Tells, Turns, begins, ends, goes_on, rests, sweeps, turns, wakes, wakes_none, wakes_short}
+use Rattle.net_host.specs.Floor.{Begins, Floor, Puts, QueuesEnd, Rounds, Tells, Turns, begins, bounces, delivers, delivers_short, ends, goes_on, rests, sweeps, turns}
 use Rattle.net_host.specs.HostedConnections.{Served, stats_of}
 use Rattle.net_host.specs.Once.{Has, IsGone, IsGoneBy, IsOnce, ends_of}
 use Rattle.net_host.specs.Waking.{key_of}
@@ -104,30 +104,30 @@ module _ {H : Type 0} {table : ObjectTableKind H} where
   once_turn : (old new : Floor H) (number : ℕ) → Turns table old new → IsOnce old number → IsOnce new number
   once_turn old new number (rests r) once =
       once_by old new number (λ key has. subst (λ (slot : Option (Served H)). Has slot number) (r.same key) has) r.ended once
-  once_turn old new number (goes_on key one next woken was stays puts same noted added awaits) once =
+  once_turn old new number (goes_on key one next sent was stays puts same noted added awaits) once =
       once_by old new number (back_over old.served new.served key one next number was (works_number stays.works) puts) same once
-  once_turn old new number (ends key one last woken end was by puts ended forgotten added due) once = once_out old new number key one end (stats_of last) was puts ended once
-  once_turn old new number (wakes waker one next first served rouses puts same budget awaits) once =
-      once_by old new number (back_over old.served new.served (key_of waker.session) one next number served.there (ap (λ (x : Served H). x.number) rouses.1) puts) same once
-  once_turn old new number (wakes_none waker first unserved still same budget due) once =
+  once_turn old new number (ends key one last sent end was by puts ended forgotten added due) once = once_out old new number key one end (stats_of last) was puts ended once
+  once_turn old new number (delivers letter one next first served takes puts same budget awaits) once =
+      once_by old new number (back_over old.served new.served (key_of letter.to) one next number served.there (ap (λ (x : Served H). x.number) takes.1) puts) same once
+  once_turn old new number (bounces letter rest first unserved back still same budget due) once =
       once_by old new number (λ key has. subst (λ (slot : Option (Served H)). Has slot number) (still key) has) same once
-  once_turn old new number (wakes_short waker one end first served short puts ended forgotten due) once =
-      once_out old new number (key_of waker.session) one end (stats_of one) served.there puts ended once
+  once_turn old new number (delivers_short letter one failed last rest sent end first served lost short added puts ended forgotten due) once =
+      once_out old new number (key_of letter.to) one end (stats_of last) served.there puts ended once
   once_turn old new number (sweeps still same budget waits first) once =
       once_by old new number (λ key has. subst (λ (slot : Option (Served H)). Has slot number) (still key) has) same once
 
   gone_turn : (old new : Floor H) (number : ℕ) → Turns table old new → IsGone old number → IsGone new number
   gone_turn old new number (rests r) gone =
       gone_by old new number (λ key has. subst (λ (slot : Option (Served H)). Has slot number) (r.same key) has) r.ended gone
-  gone_turn old new number (goes_on key one next woken was stays puts same noted added awaits) gone =
+  gone_turn old new number (goes_on key one next sent was stays puts same noted added awaits) gone =
       gone_by old new number (back_over old.served new.served key one next number was (works_number stays.works) puts) same gone
-  gone_turn old new number (ends key one last woken end was by puts ended forgotten added due) gone = gone_out old new number key one end (stats_of last) was puts ended gone
-  gone_turn old new number (wakes waker one next first served rouses puts same budget awaits) gone =
-      gone_by old new number (back_over old.served new.served (key_of waker.session) one next number served.there (ap (λ (x : Served H). x.number) rouses.1) puts) same gone
-  gone_turn old new number (wakes_none waker first unserved still same budget due) gone =
+  gone_turn old new number (ends key one last sent end was by puts ended forgotten added due) gone = gone_out old new number key one end (stats_of last) was puts ended gone
+  gone_turn old new number (delivers letter one next first served takes puts same budget awaits) gone =
+      gone_by old new number (back_over old.served new.served (key_of letter.to) one next number served.there (ap (λ (x : Served H). x.number) takes.1) puts) same gone
+  gone_turn old new number (bounces letter rest first unserved back still same budget due) gone =
       gone_by old new number (λ key has. subst (λ (slot : Option (Served H)). Has slot number) (still key) has) same gone
-  gone_turn old new number (wakes_short waker one end first served short puts ended forgotten due) gone =
-      gone_out old new number (key_of waker.session) one end (stats_of one) served.there puts ended gone
+  gone_turn old new number (delivers_short letter one failed last rest sent end first served lost short added puts ended forgotten due) gone =
+      gone_out old new number (key_of letter.to) one end (stats_of last) served.there puts ended gone
   gone_turn old new number (sweeps still same budget waits first) gone =
       gone_by old new number (λ key has. subst (λ (slot : Option (Served H)). Has slot number) (still key) has) same gone
 

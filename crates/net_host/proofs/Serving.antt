@@ -5,7 +5,7 @@ use Rattle.std.specs.IoError.{raw_os_error}
 use Rattle.std.specs.declared.io.Error.{Error}
 use Rattle.cp_connection.specs.declared.excess.Excess.{Excess}
 use Rattle.cp_connection.specs.declared.fault.ConnectionFault.{ConnectionFault}
-use Rattle.cp_objects.specs.declared.waker.Waker.{Waker}
+use Rattle.cp_objects.specs.declared.letters.Letter.{Letter}
 use Rattle.cp_objects.specs.ObjectTable.{ObjectTableKind}
 use Rattle.cp_dispatch.specs.declared.event.SessionEvent.{SessionEvent}
 use Rattle.cp_session.specs.declared.limits.SessionLimits.{SessionLimits}
@@ -21,13 +21,14 @@ use Rattle.cp_session.specs.Progress.{Meets, TicksTo, ended, ended_by, excess_by
 use Rattle.cp_session.specs.Runs.{Does, begins, both, ends, ends_inside, nothing, polls, runs_out, tells, ticks, writes, called_at}
 use Rattle.cp_session.specs.State.{State}
 use Rattle.cp_session.proofs.Running.{runs_both, runs_one}
+use Rattle.net_host.proofs.Leaving.{left_number, left_peer}
 use Rattle.net_host.specs.declared.end.End.{End}
 use Rattle.net_host.specs.declared.end.End.TheVariants as all_ends
 use Rattle.net_host.specs.Feeding.{IsFed}
 use Rattle.net_sockets.specs.Flow.{Flow, Moves, Rests}
 use Rattle.net_host.proofs.Fed.{at_both, at_none, at_one, parts}
 use Rattle.net_sockets.proofs.Flowing.{flows_both, flows_none, flows_still}
-use Rattle.net_host.specs.HostedConnections.{Adds, Breaks, Closes, EndsBy, Fails, FailsBy, HandsOver, HandsSome, HasFailed, Hears, IsShort, IsTooMuch, IsWhy, Lasts, Minds, Passes, Proceeds, Sends, Served, Serves, Shuts, Stops, StopsAfter, TakesIn, Works, breaks_off, end_after, end_of, end_or, ends_broken, ends_short, ends_whole, fails_short, fails_whole, heard, is_short, kept_by, minds_full, minds_none, none, or_before, passes_on, some, stats_of}
+use Rattle.net_host.specs.HostedConnections.{Adds, Breaks, Closes, EndsBy, Fails, FailsBy, HandsOver, HandsSome, HasFailed, Hears, IsShort, IsTooMuch, IsWhy, Lasts, LeavesShort, Minds, Passes, Proceeds, Sends, Served, Serves, Shuts, Stops, StopsAfter, TakesIn, Works, breaks_off, end_after, end_of, end_or, ends_broken, ends_short, ends_unnoted, ends_whole, fails_short, fails_whole, heard, is_short, kept_by, minds_full, minds_none, none, or_before, passes_on, some, stats_of}
 use Rattle.net_host.specs.Waking.{HandsAll, HandsOut, hands_more, hands_none}
 
 -- events, and more of them
@@ -77,7 +78,8 @@ module _ {H : Type 0} {table : ObjectTableKind H} where
     unroused = refl;
     unrefused = refl;
     unticked = refl;
-    unwoken = refl;
+    undelivered = refl;
+    unsent = refl;
     at_once = at_none now;
     in_order = append-nil s.rest;
     flow = flows_none s.flow;
@@ -96,7 +98,8 @@ module _ {H : Type 0} {table : ObjectTableKind H} where
     unroused = rw (h.unroused, k.unroused) refl;
     unrefused = rw (h.unrefused, k.unrefused) refl;
     unticked = rw (h.unticked, k.unticked) refl;
-    unwoken = rw (h.unwoken, k.unwoken) refl;
+    undelivered = rw (h.undelivered, k.undelivered) refl;
+    unsent = rw (h.unsent, k.unsent) refl;
     at_once = at_both now h.transfer.times k.transfer.times h.at_once k.at_once;
     in_order =
         sym (append_assoc a.rest came more) ∙ ap (λ (x : List ℕ). x ++ more) h.in_order ∙ append_assoc h.transfer.given b.rest more
@@ -116,7 +119,8 @@ module _ {H : Type 0} {table : ObjectTableKind H} where
     unroused = refl;
     unrefused = refl;
     unticked = refl;
-    unwoken = refl;
+    undelivered = refl;
+    unsent = refl;
     at_once = at_none now;
     in_order = append-nil s.rest;
     flow = still;
@@ -135,7 +139,8 @@ module _ {H : Type 0} {table : ObjectTableKind H} where
     unroused = refl;
     unrefused = refl;
     unticked = refl;
-    unwoken = refl;
+    undelivered = refl;
+    unsent = refl;
     at_once = at_one now;
     in_order = append-nil s.rest;
     flow = moved;
@@ -200,7 +205,8 @@ module _ {H : Type 0} {table : ObjectTableKind H} where
     unroused = refl;
     unrefused = refl;
     unticked = refl;
-    unwoken = refl;
+    undelivered = refl;
+    unsent = refl;
     at_once = fed.2;
     in_order = append-nil s.rest ∙ sym is ∙ parts left count;
     flow = flows_none s.flow;
@@ -219,7 +225,8 @@ module _ {H : Type 0} {table : ObjectTableKind H} where
     unroused = refl;
     unrefused = refl;
     unticked = refl;
-    unwoken = refl;
+    undelivered = refl;
+    unsent = refl;
     at_once = fed.2;
     in_order = rw empty is;
     flow = moved;
@@ -269,38 +276,39 @@ module _ {H : Type 0} {table : ObjectTableKind H} where
     unroused = rw (h.unroused) refl;
     unrefused = rw (h.unrefused) refl;
     unticked = rw (h.unticked) refl;
-    unwoken = rw (h.unwoken) refl;
+    undelivered = rw (h.undelivered) refl;
+    unsent = rw (h.unsent) refl;
     at_once = at_both now h.transfer.times [] h.at_once (at_none now);
     in_order = h.in_order ∙ ap (λ (x : List ℕ). x ++ left) (sym (append-nil h.transfer.given));
     flow = rw (append-nil h.transfer.ended, append-nil h.transfer.written, ap (λ (x : Served H). x.flow) k.3) h.flow;
     end = ap (λ (x : Served H). x.end) k.3 ∙ ap (λ known. end_after known k.0) h.end ∙ sym (end_after-both a.end h.transfer.told k.0);
   }
 
-  -- ---- whom its objects want to be woken
+  -- ---- what it sends
 
-  pub hands_begin : (s : Served H) (wakes : List Waker) → Adds wakes (λ woken. HandsSome table s woken s) wakes
-  hands_begin s wakes = ([], sym (append-nil wakes), (hands_none, refl))
+  pub hands_begin : (s : Served H) (letters : List Letter) → Adds letters (λ sent. HandsSome table s sent s) letters
+  hands_begin s letters = ([], sym (append-nil letters), (hands_none, refl))
 
   -- one more is handed out, where room was made
-  pub hands_next : {a b c : Served H} (first so_far room next : List Waker) (waker : Waker) → Adds first (λ woken. HandsSome table a woken b) so_far → room ≡ so_far
-      → HandsOn table (Some waker) b.session c.session → c ≡ record b { session = c.session } → next ≡ room ++ waker ∷ [] → Adds first (λ woken. HandsSome table a woken c) next
-  hands_next {c = c} first so_far room next waker h same one is added = (
-    h.0 ++ waker ∷ [],
-    added ∙ ap (λ (x : List Waker). x ++ waker ∷ []) (same ∙ h.1) ∙ append_assoc first h.0 (waker ∷ []),
-    (hands_more waker h.2.0 one refl, is ∙ ap (λ (x : Served H). record x { session = c.session }) h.2.1),
+  pub hands_next : {a b c : Served H} (first so_far room next : List Letter) (letter : Letter) → Adds first (λ sent. HandsSome table a sent b) so_far → room ≡ so_far
+      → HandsOn table (Some letter) b.session c.session → c ≡ record b { session = c.session } → next ≡ room ++ letter ∷ [] → Adds first (λ sent. HandsSome table a sent c) next
+  hands_next {c = c} first so_far room next letter h same one is added = (
+    h.0 ++ letter ∷ [],
+    added ∙ ap (λ (x : List Letter). x ++ letter ∷ []) (same ∙ h.1) ∙ append_assoc first h.0 (letter ∷ []),
+    (hands_more letter h.2.0 one refl, is ∙ ap (λ (x : Served H). record x { session = c.session }) h.2.1),
   )
 
   -- none was left
-  pub hands_end : {a b c : Served H} (first so_far room : List Waker) → Adds first (λ woken. HandsSome table a woken b) so_far → room ≡ so_far
-      → HandsOn table None b.session c.session → c ≡ record b { session = c.session } → Adds first (λ woken. HandsOver table a woken c) room
+  pub hands_end : {a b c : Served H} (first so_far room : List Letter) → Adds first (λ sent. HandsSome table a sent b) so_far → room ≡ so_far
+      → HandsOn table None b.session c.session → c ≡ record b { session = c.session } → Adds first (λ sent. HandsOver table a sent c) room
   hands_end {b = b} {c = c} first so_far room h same one is = (
     h.0,
     same ∙ h.1,
     ((b.session, h.2.0, one), is ∙ ap (λ (x : Served H). record x { session = c.session }) h.2.1),
   )
 
-  pub hands_still : {a b : Served H} (first so_far room : List Waker) → Adds first (λ woken. HandsSome table a woken b) so_far → room ≡ so_far
-      → Adds first (λ woken. HandsSome table a woken b) room
+  pub hands_still : {a b : Served H} (first so_far room : List Letter) → Adds first (λ sent. HandsSome table a sent b) so_far → room ≡ so_far
+      → Adds first (λ sent. HandsSome table a sent b) room
   hands_still first so_far room h same = (h.0, same ∙ h.1, h.2)
 
   -- ---- what a turn comes to
@@ -326,12 +334,12 @@ module _ {H : Type 0} {table : ObjectTableKind H} where
   goes_none (inl passed) limited = absurd (passed.0 (inr (inr limited)))
   goes_none (inr stopped) limited = stopped.1
 
-  -- who is to be woken is handed out whatever the phase
-  same_phase_so_far : {a b : State H} {woken : List Waker} → HandsOut table a woken b → b.progress.phase ≡ a.progress.phase
+  -- letters are handed out whatever the phase
+  same_phase_so_far : {a b : State H} {sent : List Letter} → HandsOut table a sent b → b.progress.phase ≡ a.progress.phase
   same_phase_so_far hands_none = refl
-  same_phase_so_far (hands_more waker before one is) = ap (λ (x : State H). x.progress.phase) one.1 ∙ same_phase_so_far before
+  same_phase_so_far (hands_more letter before one is) = ap (λ (x : State H). x.progress.phase) one.1 ∙ same_phase_so_far before
 
-  same_phase : {a b : State H} {woken : List Waker} → HandsAll table a woken b → b.progress.phase ≡ a.progress.phase
+  same_phase : {a b : State H} {sent : List Letter} → HandsAll table a sent b → b.progress.phase ≡ a.progress.phase
   same_phase h = ap (λ (x : State H). x.progress.phase) h.2.1 ∙ same_phase_so_far h.1
 
   -- a session that isn't over once time passed met no limit, but the one of which its peer is told
@@ -360,7 +368,8 @@ module _ {H : Type 0} {table : ObjectTableKind H} where
     unroused = h.unroused;
     unrefused = h.unrefused;
     unticked = h.unticked;
-    unwoken = h.unwoken;
+    undelivered = h.undelivered;
+    unsent = h.unsent;
     at_once = h.at_once;
     in_order = h.in_order;
     flow = flows_still h.flow still;
@@ -399,20 +408,20 @@ module _ {H : Type 0} {table : ObjectTableKind H} where
   passes_peer : {most now : ℕ} {a b : Served H} → Passes table most now a b → b.peer ≡ a.peer
   passes_peer h = ap (λ (x : Served H). x.peer) h.hears.3 ∙ h.proceeds.1.peer
 
-  pub works_number : {most now : ℕ} {a b : Served H} {woken : List Waker} → Works table most now a woken b → b.number ≡ a.number
+  pub works_number : {most now : ℕ} {a b : Served H} {sent : List Letter} → Works table most now a sent b → b.number ≡ a.number
   works_number h = ap (λ (x : Served H). x.number) h.hands.1 ∙ passes_number h.passes
 
-  works_peer : {most now : ℕ} {a b : Served H} {woken : List Waker} → Works table most now a woken b → b.peer ≡ a.peer
+  works_peer : {most now : ℕ} {a b : Served H} {sent : List Letter} → Works table most now a sent b → b.peer ≡ a.peer
   works_peer h = ap (λ (x : Served H). x.peer) h.hands.1 ∙ passes_peer h.passes
 
-  pub works_failure : {most now : ℕ} {a b : Served H} {woken : List Waker} → Works table most now a woken b → b.failure ≡ a.failure
+  pub works_failure : {most now : ℕ} {a b : Served H} {sent : List Letter} → Works table most now a sent b → b.failure ≡ a.failure
   works_failure h = ap (λ (x : Served H). x.failure) h.hands.1 ∙ ap (λ (x : Served H). x.failure) h.passes.hears.3 ∙ h.passes.proceeds.2
 
-  pub works_as : {most now : ℕ} {a b c : Served H} {woken : List Waker} → Works table most now a woken b → c ≡ b → Works table most now a woken c
-  works_as {most = most} {now = now} {a = a} {woken = woken} h e = subst (λ (x : Served H). Works table most now a woken x) (sym e) h
+  pub works_as : {most now : ℕ} {a b c : Served H} {sent : List Letter} → Works table most now a sent b → c ≡ b → Works table most now a sent c
+  works_as {most = most} {now = now} {a = a} {sent = sent} h e = subst (λ (x : Served H). Works table most now a sent x) (sym e) h
 
   -- one that isn't over then met no limit, but the one of which its peer is told
-  pub works_unmet : {most now : ℕ} {a b : Served H} {woken : List Waker} (h : Works table most now a woken b) → b.session.progress.phase ≢ phases.Over → (limit : Limit)
+  pub works_unmet : {most now : ℕ} {a b : Served H} {sent : List Letter} (h : Works table most now a sent b) → b.session.progress.phase ≢ phases.Over → (limit : Limit)
       → Meets h.passes.worked.session.limits h.passes.worked.session.progress (kept_by table h.passes.worked) now limit → IsTooMuch table h.passes.worked.session
   works_unmet {now = now} h goes_on =
       let turn = h.passes in
@@ -435,24 +444,30 @@ module _ {H : Type 0} {table : ObjectTableKind H} where
   lasts_peer (passes_on through) = passes_peer through
 
   -- it is closed, and keeps its number and peer
-  closed : {most now : ℕ} {woken : List Waker} (old last new : Served H) (end : End) → last.number ≡ old.number → last.peer ≡ old.peer → EndsBy table most now old woken last end
-      → new ≡ record last { end = None } → Closes table most now old woken end new
+  closed : {most now : ℕ} {sent : List Letter} (old last new : Served H) (end : End) → last.number ≡ old.number → last.peer ≡ old.peer → EndsBy table most now old sent last end
+      → new ≡ record last { end = None } → Closes table most now old sent end new
   closed old last new end number peer by is =
       (ap (λ (x : Served H). x.number) is ∙ number, ap (λ (x : Served H). x.peer) is ∙ peer, last, by, ap (λ (x : Served H). stats_of x) is)
 
   -- once all are handed out
-  pub closes : {most now : ℕ} {woken : List Waker} (old last new : Served H) (end : End) → Works table most now old woken last → IsWhy table most last end
-      → new ≡ record last { end = None } → Closes table most now old woken end new
+  pub closes : {most now : ℕ} {sent : List Letter} (old last new : Served H) (end : End) → Works table most now old sent last → IsWhy table most last end
+      → new ≡ record last { end = None } → Closes table most now old sent end new
   closes old last new end h why is = closed old last new end (works_number h) (works_peer h) (ends_whole h why) is
 
-  -- as memory ran out
-  pub closes_short : {most now : ℕ} {woken : List Waker} (old last new : Served H) (end : End) → Works table most now old woken last → IsShort last end
-      → new ≡ record last { end = None } → Closes table most now old woken end new
-  closes_short old last new end h short is = closes old last new end h (is_short short) is
+  -- as memory ran out once it went on
+  pub closes_short : {most now : ℕ} {sent more : List Letter} (old worked new : Served H) (end : End) → Works table most now old sent worked
+      → LeavesShort table now worked more end new → Closes table most now old (sent ++ more) end new
+  closes_short {now = now} {sent = sent} {more = more} old worked new end h left = (
+    left_number now worked new more end left ∙ works_number h,
+    left_peer now worked new more end left ∙ works_peer h,
+    new,
+    ends_unnoted worked sent more h left refl,
+    refl,
+  )
 
   -- as its stream failed, or memory ran out
-  pub closes_failed : {most now : ℕ} {woken : List Waker} (old last new : Served H) (error : Error) (end : End) → Fails table most now old woken error last
-      → end ≡ end_or last.end (all_ends.Failed error) → new ≡ record last { end = None } → Closes table most now old woken end new
+  pub closes_failed : {most now : ℕ} {sent : List Letter} (old last new : Served H) (error : Error) (end : End) → Fails table most now old sent error last
+      → end ≡ end_or last.end (all_ends.Failed error) → new ≡ record last { end = None } → Closes table most now old sent end new
   closes_failed old last new error end (fails_whole broken served breaks shuts hands) why is =
       closed old last new end (ap (λ (x : Served H). x.number) hands.1 ∙ ap (λ (x : Served H). x.number) shuts.1 ∙ breaks.0.1.1.number)
       (ap (λ (x : Served H). x.peer) hands.1 ∙ ap (λ (x : Served H). x.peer) shuts.1 ∙ breaks.0.1.1.peer)

@@ -5,7 +5,7 @@ use Rattle.cp_refs.specs.Memory.{counted}
 use Rattle.cp_objects.specs.ObjectTable.{ObjectTableKind}
 use Rattle.cp_session.specs.Budget.{IsWithin, Keeping, allowed}
 use Rattle.cp_session.proofs.Sharing.{stays}
-use Rattle.net_host.specs.Floor.{Floor, ReportsWithin, Rounds, Tells, Turns, begins, ends, goes_on, number_of, rests, sweeps, turns, wakes, wakes_none, wakes_short}
+use Rattle.net_host.specs.Floor.{Floor, ReportsWithin, Rounds, Tells, Turns, begins, bounces, delivers, delivers_short, ends, goes_on, number_of, rests, sweeps, turns}
 use Rattle.net_host.specs.Waking.{key_of}
 use Rattle.net_host.specs.HostedConnections.{kept_by}
 use Rattle.net_host.specs.declared.host.HostEvent.{HostEvent}
@@ -32,13 +32,13 @@ module _ {H : Type 0} where
 module _ {H : Type 0} {table : ObjectTableKind H} where
   turned : (old new : Floor H) → Turns table old new → IsWithin old.budget → IsWithin new.budget
   turned old new (rests r) within = same old.budget new.budget r.budget within
-  turned old new (goes_on key one next woken was stays puts ended note added awaits) within =
+  turned old new (goes_on key one next sent was stays puts ended note added awaits) within =
       noted old.budget new.budget (number_of key) (kept_by table next) stays.within note within
-  turned old new (ends key one last woken end was by puts ended forgets added due) within = forgotten old.budget new.budget (number_of key) forgets within
-  turned old new (wakes waker one next first served rouses puts ended as_much awaits) within = same old.budget new.budget as_much within
-  turned old new (wakes_none waker first unserved still ended as_much due) within = same old.budget new.budget as_much within
-  turned old new (wakes_short waker one end first served short puts ended forgets due) within =
-      forgotten old.budget new.budget (number_of (key_of waker.session)) forgets within
+  turned old new (ends key one last sent end was by puts ended forgets added due) within = forgotten old.budget new.budget (number_of key) forgets within
+  turned old new (delivers letter one next first served takes puts ended as_much awaits) within = same old.budget new.budget as_much within
+  turned old new (bounces letter rest first unserved back still ended as_much due) within = same old.budget new.budget as_much within
+  turned old new (delivers_short letter one failed last rest sent end first served lost short added puts ended forgets due) within =
+      forgotten old.budget new.budget (number_of (key_of letter.to)) forgets within
   turned old new (sweeps still ended as_much waits first) within = same old.budget new.budget as_much within
 
   in_rounds : (old new : Floor H) → Rounds table old new → IsWithin old.budget → IsWithin new.budget

@@ -4,7 +4,7 @@ use Rattle.std.proofs.lemmas.Bool.{cases_eq}
 use Rattle.cp_objects.specs.ObjectTable.{ObjectTableKind}
 use Rattle.net_host.specs.declared.host.HostEvent.{HostEvent}
 use Rattle.net_host.specs.declared.host.HostEvent.TheVariants as all_news
-use Rattle.net_host.specs.Floor.{Begins, Floor, Puts, Rounds, Tells, Turns, begins, ends, goes_on, rests, sweeps, turns, wakes, wakes_none, wakes_short}
+use Rattle.net_host.specs.Floor.{Begins, Floor, Puts, Rounds, Tells, Turns, begins, bounces, delivers, delivers_short, ends, goes_on, rests, sweeps, turns}
 use Rattle.net_host.specs.HostedConnections.{Served}
 use Rattle.net_host.specs.Once.{IsUnfailed, NoneFailed, StaysUnfailed}
 use Rattle.net_host.specs.Waking.{key_of}
@@ -36,16 +36,16 @@ module _ {H : Type 0} {table : ObjectTableKind H} where
 
   turned : (old new : Floor H) → Turns table old new → NoneFailed old → NoneFailed new
   turned old new (rests r) none = λ k. subst (λ (s : Option (Served H)). IsUnfailed s) (sym (r.same k)) (none k)
-  turned old new (goes_on key one next woken was stays puts ended note added awaits) none =
+  turned old new (goes_on key one next sent was stays puts ended note added awaits) none =
       let had : one.failure ≡ None = subst (λ (s : Option (Served H)). IsUnfailed s) was (none key) in
       unfailed_puts old.served new.served key (Some next) puts none (works_failure stays.works ∙ had)
-  turned old new (ends key one last woken end was by puts ended forgets added due) none = unfailed_puts old.served new.served key None puts none tt
-  turned old new (wakes waker one next first served rouses puts ended budget awaits) none =
-      let had : one.failure ≡ None = subst (λ (s : Option (Served H)). IsUnfailed s) served.there (none (key_of waker.session)) in
-      unfailed_puts old.served new.served (key_of waker.session) (Some next) puts none (ap (λ (x : Served H). x.failure) rouses.1 ∙ had)
-  turned old new (wakes_none waker first unserved same ended budget due) none = λ k. subst (λ (s : Option (Served H)). IsUnfailed s) (sym (same k)) (none k)
-  turned old new (wakes_short waker one end first served short puts ended forgets due) none =
-      unfailed_puts old.served new.served (key_of waker.session) None puts none tt
+  turned old new (ends key one last sent end was by puts ended forgets added due) none = unfailed_puts old.served new.served key None puts none tt
+  turned old new (delivers letter one next first served takes puts ended budget awaits) none =
+      let had : one.failure ≡ None = subst (λ (s : Option (Served H)). IsUnfailed s) served.there (none (key_of letter.to)) in
+      unfailed_puts old.served new.served (key_of letter.to) (Some next) puts none (ap (λ (x : Served H). x.failure) takes.1 ∙ had)
+  turned old new (bounces letter rest first unserved back same ended budget due) none = λ k. subst (λ (s : Option (Served H)). IsUnfailed s) (sym (same k)) (none k)
+  turned old new (delivers_short letter one failed last rest sent end first served lost short added puts ended forgets due) none =
+      unfailed_puts old.served new.served (key_of letter.to) None puts none tt
   turned old new (sweeps same ended budget waits first) none = λ k. subst (λ (s : Option (Served H)). IsUnfailed s) (sym (same k)) (none k)
 
   in_rounds : (old new : Floor H) → Rounds table old new → NoneFailed old → NoneFailed new

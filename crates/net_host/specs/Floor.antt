@@ -1,10 +1,13 @@
 -- The connections of a host, and what is done with them.
-use Rattle.std.specs.Prelude.{◌≡◌, ◌≢◌, ◌%◌, ◌^◌, Contains, ℕ, true, List, [], ◌∷◌, ◌++◌, Option, Some, None, option_map}
+use Rattle.std.specs.Prelude.{◌≡◌, ◌≢◌, ◌%◌, ◌^◌, Contains, ℕ, true, List, [], ◌∷◌, ◌++◌, Option, Some, None, option_map, option_to_list}
 use Rattle.std.specs.FinMap as map
 use Rattle.slab.specs.Slab.{Slab, get}
 use Rattle.cp_connection.specs.declared.event.ConnectionStats.{ConnectionStats}
 use Rattle.cp_refs.specs.Memory.{counted}
+use Rattle.cp_objects.specs.declared.letters.Letter.{Letter}
+use Rattle.cp_objects.specs.declared.letters.LetterBody.TheVariants as bodies
 use Rattle.cp_objects.specs.declared.waker.Waker.{Waker}
+use Rattle.cp_objects.specs.Letters.{bounced}
 use Rattle.cp_objects.specs.ObjectTable.{ObjectTableKind}
 use Rattle.cp_session.specs.Budget.{IsWithin, Keeping, allowed}
 use Rattle.cp_session.specs.declared.options.SessionOptions.{SessionOptions}
@@ -26,18 +29,18 @@ use Rattle.net_host.specs.declared.host.Look.TheVariants as looks
 use Rattle.net_host.specs.declared.limits.HostLimits.{HostLimits}
 use Rattle.net_host.specs.declared.pending.PendingConnection.{PendingConnection}
 use Rattle.net_host.specs.declared.config.HostConfig.{HostConfig}
-use Rattle.net_host.specs.HostedConnections.{Served, kept_by, served_of, new_served, forgetting, noting, EndsBy, IsOverdue, IsShort, Rouses, Stays, stats_of}
+use Rattle.net_host.specs.HostedConnections.{Served, kept_by, served_of, new_served, forgetting, noting, EndsBy, IsOverdue, IsUndelivered, LeavesShort, Stays, TakesLetter, stats_of}
 use Rattle.net_host.specs.Limits.{pool_of, share_of}
 use Rattle.net_host.specs.Timing.{ComesBy}
 use Rattle.net_host.specs.Waking.{key_of, session_of}
 
--- The connections that are served, by their keys, the ends of which there was no news yet, what may be kept for all together, and the objects that are to be woken,
+-- The connections that are served, by their keys, the ends of which there was no news yet, what may be kept for all together, and the letters that are to be delivered,
 -- in order; when limits of time are looked at next, if a connection has one; and the milliseconds since the host began, at its last look at the clock.
 pub record Floor (H : Type 0) : Type 0 where
   pub served : ℕ → Option (Served H)
   pub ended : List Ended
   pub budget : Keeping
-  pub wakes : List Waker
+  pub letters : List Letter
   pub due : Option ℕ
   pub now : ℕ
 
@@ -47,7 +50,7 @@ seen state flow guests key = option_map (served_of state flow) (get guests key)
 
 -- the connections of an event loop
 abbrev pub floor_of : {S D H : Type 0} → (S → State H) → (D → Flow) → EventLoop S D → Floor H
-floor_of state flow event_loop = record { served = seen state flow event_loop.guests; ended = event_loop.ended.items; budget = event_loop.budget; wakes = event_loop.wakes.items; due = event_loop.time.sweep_at; now = event_loop.time.at }
+floor_of state flow event_loop = record { served = seen state flow event_loop.guests; ended = event_loop.ended.items; budget = event_loop.budget; letters = event_loop.letters.items; due = event_loop.time.sweep_at; now = event_loop.time.at }
 
 -- the connections of a host
 abbrev pub connections_of : {S H : Type 0} → (S → State H) → SessionHost S → Floor H
@@ -64,7 +67,7 @@ IsFresh (Some pending) = failure_of pending.stream ≡ None
 
 -- nobody is served by a host with these limits
 abbrev pub nobody : {H : Type 0} → HostLimits → Floor H
-nobody limits = record { served = λ key. None; ended = []; budget = record { share = share_of limits; pool = pool_of limits; kept = map.empty }; wakes = []; due = None; now = 0 }
+nobody limits = record { served = λ key. None; ended = []; budget = record { share = share_of limits; pool = pool_of limits; kept = map.empty }; letters = []; due = None; now = 0 }
 
 -- the number of a connection in the budget, by its key (there is no memory for 2^32 connections)
 abbrev pub number_of : ℕ → ℕ
@@ -92,7 +95,7 @@ module _ {H : Type 0} where
     pub same : (key : ℕ) → new.served key ≡ old.served key
     pub ended : new.ended ≡ old.ended
     pub budget : new.budget ≡ old.budget
-    pub wakes : new.wakes ≡ old.wakes
+    pub letters : new.letters ≡ old.letters
     pub due : new.due ≡ old.due
 
   -- how many bytes may be kept for the connection under a key
@@ -106,14 +109,14 @@ module _ {H : Type 0} where
   abbrev pub Forgets : Floor H → ℕ → Floor H → Type 0
   Forgets old key new = new.budget ≡ forgetting old.budget (number_of key)
 
-  -- the connection is served whose session has the number that this waker says
-  pub record IsServed (floor : Floor H) (waker : Waker) (one : Served H) : Type 0 where
-    pub there : floor.served (key_of waker.session) ≡ Some one
-    pub named : session_of one.number (key_of waker.session) ≡ waker.session
+  -- the connection is served whose session has this number
+  pub record IsServed (floor : Floor H) (session : ℕ) (one : Served H) : Type 0 where
+    pub there : floor.served (key_of session) ≡ Some one
+    pub named : session_of one.number (key_of session) ≡ session
 
-  -- one object more is to be woken, after the others
+  -- a letter says that an object is to be woken, after the others
   abbrev pub waking : Floor H → Waker → Floor H
-  waking floor waker = record floor { wakes = floor.wakes ++ waker ∷ [] }
+  waking floor waker = record floor { letters = floor.letters ++ record { to = waker.session; body = bodies.Wake waker.object } ∷ [] }
 
   -- news of its end is to come, with its number and peer, and what it took and sent
   abbrev pub QueuesEnd : Floor H → Served H → End → ConnectionStats → Floor H → Type 0
@@ -123,7 +126,7 @@ module _ {H : Type 0} where
   -- that all is over, only where there was news of each end.
   abbrev pub Tells : Floor H → Option HostEvent → Floor H → Type 0
   Tells old (Some (all_news.Ended number peer end stats)) new =
-      (new.served ≡ old.served) × (old.ended ≡ record { number = number; peer = peer; end = end; stats = stats } ∷ new.ended) × (new.budget ≡ old.budget) × (new.wakes ≡ old.wakes) × (new.due ≡ old.due)
+      (new.served ≡ old.served) × (old.ended ≡ record { number = number; peer = peer; end = end; stats = stats } ∷ new.ended) × (new.budget ≡ old.budget) × (new.letters ≡ old.letters) × (new.due ≡ old.due)
   Tells old other new = (new ≡ old) × (old.ended ≡ [])
 
 module _ {H : Type 0} (table : ObjectTableKind H) where
@@ -143,7 +146,7 @@ module _ {H : Type 0} (table : ObjectTableKind H) where
     pub puts : Puts old.served key (Some one) new.served
     pub ended : new.ended ≡ old.ended
     pub budget : new.budget ≡ old.budget
-    pub wakes : new.wakes ≡ old.wakes
+    pub letters : new.letters ≡ old.letters
     pub due : new.due ≡ earlier old.due (due_of table one.session)
 
   -- A connection that waited for its objects is served with them from this time on. They know the number of their session.
@@ -162,25 +165,27 @@ module _ {H : Type 0} (table : ObjectTableKind H) where
   Awaits old next new = new.due ≡ earlier old.due (due_of table next.session)
 
   -- One connection has a turn, at the host's time. It goes on; or it ended, is served no more, and news of that is to come, with its number and peer, and what it took
-  -- and sent. Whom its objects want to be woken is to be, in order. Or the first object that is to be woken is woken, in the session that its waker names; or that
-  -- isn't served any more, and nothing was done; or memory ran out for it, and its connection ended. Nothing was done with any other. Where one goes on, limits of time
+  -- and sent. What it sends to others is to be delivered, in order. Or the first letter is delivered, to the session that it is for; or that isn't served any more,
+  -- and what bounces is to be delivered last; or memory ran out for it, and its connection ended. Nothing was done with any other. Where one goes on, limits of time
   -- are looked at by its deadline. Or they were looked at, and are when the first is met.
   pub data Turns (old new : Floor H) : Type 0 where
     rests : Rests old new → Turns old new
-    goes_on : (key : ℕ) (one next : Served H) (woken : List Waker) → old.served key ≡ Some one → Stays table (most_for old key) old.now one woken next
-        → Puts old.served key (Some next) new.served → new.ended ≡ old.ended → Notes old key (kept_by table next) new → new.wakes ≡ old.wakes ++ woken
+    goes_on : (key : ℕ) (one next : Served H) (sent : List Letter) → old.served key ≡ Some one → Stays table (most_for old key) old.now one sent next
+        → Puts old.served key (Some next) new.served → new.ended ≡ old.ended → Notes old key (kept_by table next) new → new.letters ≡ old.letters ++ sent
         → Awaits old next new → Turns old new
-    ends : (key : ℕ) (one last : Served H) (woken : List Waker) (end : End) → old.served key ≡ Some one → EndsBy table (most_for old key) old.now one woken last end
-        → Puts old.served key None new.served → QueuesEnd old one end (stats_of last) new → Forgets old key new → new.wakes ≡ old.wakes ++ woken
+    ends : (key : ℕ) (one last : Served H) (sent : List Letter) (end : End) → old.served key ≡ Some one → EndsBy table (most_for old key) old.now one sent last end
+        → Puts old.served key None new.served → QueuesEnd old one end (stats_of last) new → Forgets old key new → new.letters ≡ old.letters ++ sent
         → new.due ≡ old.due → Turns old new
-    wakes : (waker : Waker) (one next : Served H) → old.wakes ≡ waker ∷ new.wakes → IsServed old waker one → Rouses table waker.object one next
-        → Puts old.served (key_of waker.session) (Some next) new.served → new.ended ≡ old.ended → new.budget ≡ old.budget → Awaits old next new → Turns old new
-    wakes_none : (waker : Waker) → old.wakes ≡ waker ∷ new.wakes → ((one : Served H) → IsServed old waker one → ⊥)
-        → ((key : ℕ) → new.served key ≡ old.served key) → new.ended ≡ old.ended → new.budget ≡ old.budget → new.due ≡ old.due → Turns old new
-    wakes_short : (waker : Waker) (one : Served H) (end : End) → old.wakes ≡ waker ∷ new.wakes → IsServed old waker one → IsShort one end
-        → Puts old.served (key_of waker.session) None new.served → QueuesEnd old one end (stats_of one) new → Forgets old (key_of waker.session) new
+    delivers : (letter : Letter) (one next : Served H) → old.letters ≡ letter ∷ new.letters → IsServed old letter.to one → TakesLetter table letter.body one next
+        → Puts old.served (key_of letter.to) (Some next) new.served → new.ended ≡ old.ended → new.budget ≡ old.budget → Awaits old next new → Turns old new
+    bounces : (letter : Letter) (rest : List Letter) → old.letters ≡ letter ∷ rest → ((one : Served H) → IsServed old letter.to one → ⊥)
+        → new.letters ≡ rest ++ option_to_list (bounced letter) → ((key : ℕ) → new.served key ≡ old.served key) → new.ended ≡ old.ended
+        → new.budget ≡ old.budget → new.due ≡ old.due → Turns old new
+    delivers_short : (letter : Letter) (one failed last : Served H) (rest sent : List Letter) (end : End) → old.letters ≡ letter ∷ rest → IsServed old letter.to one
+        → IsUndelivered one failed → LeavesShort table old.now failed sent end last → new.letters ≡ rest ++ sent
+        → Puts old.served (key_of letter.to) None new.served → QueuesEnd old one end (stats_of last) new → Forgets old (key_of letter.to) new
         → new.due ≡ old.due → Turns old new
-    sweeps : ((key : ℕ) → new.served key ≡ old.served key) → new.ended ≡ old.ended → new.budget ≡ old.budget → new.wakes ≡ old.wakes
+    sweeps : ((key : ℕ) → new.served key ≡ old.served key) → new.ended ≡ old.ended → new.budget ≡ old.budget → new.letters ≡ old.letters
         → IsFirst new.due new.served → Turns old new
 
   -- turns, one after another, and nothing else

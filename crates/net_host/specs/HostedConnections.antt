@@ -5,7 +5,8 @@ use Rattle.std.specs.IoError.{error_kind, raw_os_error}
 use Rattle.std.specs.declared.io.Error.{Error}
 use Rattle.std.specs.declared.io.ErrorKind.TheVariants as kinds
 use Rattle.cp_connection.specs.declared.event.ConnectionStats.{ConnectionStats}
-use Rattle.cp_objects.specs.declared.waker.Waker.{Waker}
+use Rattle.cp_objects.specs.declared.letters.Letter.{Letter}
+use Rattle.cp_objects.specs.declared.letters.LetterBody.{LetterBody}
 use Rattle.cp_objects.specs.ObjectTable.{ObjectTableKind}
 use Rattle.cp_dispatch.specs.declared.event.SessionEvent.{SessionEvent}
 use Rattle.cp_session.specs.Budget.{Keeping}
@@ -14,7 +15,7 @@ use Rattle.cp_dispatch.specs.declared.event.Limit.{Limit}
 use Rattle.cp_dispatch.specs.declared.event.Limit.TheVariants as limits
 use Rattle.cp_session.specs.declared.progress.Phase.TheVariants as phases
 use Rattle.cp_session.specs.Doing as doing
-use Rattle.cp_session.specs.Doing.{IsRefused, KeepsRest, MayTake, Ticks, Wakes, Writes, due_of}
+use Rattle.cp_session.specs.Doing.{Delivers, IsRefused, KeepsRest, MayTake, Ticks, Writes, due_of}
 use Rattle.cp_session.specs.Kept.{kept_of}
 use Rattle.cp_session.specs.Progress.{IsDraining, Meets}
 use Rattle.cp_session.specs.Runs.{Transfer, Runs, nothing}
@@ -132,9 +133,9 @@ HasFailed last error = (last.failure ≡ Some (raw_os_error error)) ⊎ (error_k
 abbrev pub IsShort : {H : Type 0} → Served H → End → Type 0
 IsShort last end = (error : Error) × (error_kind error ≡ kinds.OutOfMemory) × (end ≡ end_or last.end (ends.Failed error))
 
--- no object of it is woken, as memory ran out
-abbrev pub IsUnroused : {H : Type 0} → Served H → Served H → Type 0
-IsUnroused old new = KeepsRest old.session new.session × (new ≡ record old { session = new.session })
+-- it doesn't take in a letter, as memory ran out
+abbrev pub IsUndelivered : {H : Type 0} → Served H → Served H → Type 0
+IsUndelivered old new = KeepsRest old.session new.session × (new ≡ record old { session = new.session })
 
 -- its stream failed with this error, and neither gave nor took bytes
 abbrev pub FailsBy : {H : Type 0} → Served H → Error → Served H → Type 0
@@ -149,7 +150,7 @@ pub data IsWhy {H : Type 0} (table : ObjectTableKind H) (most : ℕ) (last : Ser
 
 module _ {H : Type 0} (table : ObjectTableKind H) where
   -- A connection went on. Its session was given what was left of its stream and what came of it, in order and each byte once, but what is left now, and was told of
-  -- each end of the stream. What it was told that was written its stream took. Nothing else was done with its session: the program made no call and woke no object, its peer wasn't refused, no time passed, and nobody was handed out who is to be woken.
+  -- each end of the stream. What it was told that was written its stream took. Nothing else was done with its session: the program made no call and woke no object, no letter was delivered or handed out, its peer wasn't refused, and no time passed.
   -- All that was done with it was done at this time. What is known of its end is what events said.
   pub record Serves (now : ℕ) (old : Served H) (came left : List ℕ) (new : Served H) : Type 0 where
     pub number : new.number ≡ old.number
@@ -160,7 +161,8 @@ module _ {H : Type 0} (table : ObjectTableKind H) where
     pub unroused : transfer.roused ≡ []
     pub unrefused : transfer.refused ≡ []
     pub unticked : transfer.ticked ≡ []
-    pub unwoken : transfer.woken ≡ []
+    pub undelivered : transfer.delivered ≡ []
+    pub unsent : transfer.sent ≡ []
     pub at_once : AreAt now transfer.times
     pub in_order : old.rest ++ came ≡ transfer.given ++ left
     pub flow : Moves old.flow came (length transfer.ended) transfer.written new.flow
@@ -207,13 +209,13 @@ module _ {H : Type 0} (table : ObjectTableKind H) where
     some : Writes table old.session count now new.session → Moves old.flow [] 0 (take count (link_of old.session).unwritten) new.flow
         → new ≡ record old { session = new.session; flow = new.flow } → Sends old count now new
 
-  -- its session handed out all objects of others that are to be woken
-  abbrev pub HandsOver : Served H → List Waker → Served H → Type 0
-  HandsOver old woken new = HandsAll table old.session woken new.session × (new ≡ record old { session = new.session })
+  -- its session handed out all letters to others
+  abbrev pub HandsOver : Served H → List Letter → Served H → Type 0
+  HandsOver old sent new = HandsAll table old.session sent new.session × (new ≡ record old { session = new.session })
 
   -- its session handed out these
-  abbrev pub HandsSome : Served H → List Waker → Served H → Type 0
-  HandsSome old woken new = HandsOut table old.session woken new.session × (new ≡ record old { session = new.session })
+  abbrev pub HandsSome : Served H → List Letter → Served H → Type 0
+  HandsSome old sent new = HandsOut table old.session sent new.session × (new ≡ record old { session = new.session })
 
   -- where more is kept for a session than this, it refused its peer
   pub data Minds (most now : ℕ) (old new : State H) : Type 0 where
@@ -230,74 +232,94 @@ module _ {H : Type 0} (table : ObjectTableKind H) where
     pub minds : Minds most now ticked minded
     pub hears : Hears (record worked { session = minded }) new
 
-  -- it did, and all objects of others were handed out that are to be woken
-  pub record Works (most now : ℕ) (old : Served H) (woken : List Waker) (new : Served H) : Type 0 where
+  -- it did, and all letters were handed out
+  pub record Works (most now : ℕ) (old : Served H) (sent : List Letter) (new : Served H) : Type 0 where
     pub told : Served H
     pub passes : Passes most now old told
-    pub hands : HandsOver told woken new
+    pub hands : HandsOver told sent new
 
-  -- It went on for the last time, before anybody was handed out who is to be woken: its stream failed, or memory ran out, and it was closed; or nothing failed yet.
+  -- It went on for the last time, before any letter was handed out: its stream failed, or memory ran out, and it was closed; or nothing failed yet.
   pub data Lasts (most now : ℕ) (old new : Served H) : Type 0 where
     breaks_off : (error : Error) (broken : Served H) → Breaks now old error broken → Shuts now broken new → Lasts most now old new
     passes_on : Passes most now old new → Lasts most now old new
 
-  -- It went on for the last time, as its stream failed with this error, or memory ran out, and it was closed. All objects of others that are to be woken were handed
-  -- out; or memory ran out for that, once these were.
-  pub data Fails (most now : ℕ) (old : Served H) (woken : List Waker) (error : Error) (new : Served H) : Type 0 where
-    fails_whole : (broken last : Served H) → Breaks now old error broken → Shuts now broken last → HandsOver last woken new → Fails most now old woken error new
-    fails_short : (last : Served H) → Lasts most now old last → HandsSome last woken new → error_kind error ≡ kinds.OutOfMemory → Fails most now old woken error new
+  -- its session handed out all letters to others, or these, as memory ran out for more
+  abbrev pub HandsUp : Served H → List Letter → Served H → Type 0
+  HandsUp old sent new = HandsOver old sent new ⊎ HandsSome old sent new
 
-  -- It went on for the last time, and this is how it ended: its stream failed, or memory ran out; or nothing failed, and this is why. All objects of
-  -- others that are to be woken were handed out; or memory ran out for that, once these were.
-  pub data EndsBy (most now : ℕ) (old : Served H) (woken : List Waker) (last : Served H) (end : End) : Type 0 where
-    ends_broken : (broken served : Served H) (error : Error) → Breaks now old error broken → Shuts now broken served → HandsOver served woken last
-        → end ≡ end_or last.end (ends.Failed error) → EndsBy most now old woken last end
-    ends_whole : Works most now old woken last → IsWhy table most last end → EndsBy most now old woken last end
-    ends_short : (served : Served H) → Lasts most now old served → HandsSome served woken last → IsShort last end → EndsBy most now old woken last end
+  -- Memory ran out for it: it was closed, these letters were handed out, and this is how it ended.
+  abbrev pub LeavesShort : ℕ → Served H → List Letter → End → Served H → Type 0
+  LeavesShort now old sent end new =
+      (closed : Served H) × (last : Served H) × Shuts now old closed × HandsUp closed sent last × IsShort last end × (new ≡ record last { end = None })
+
+  -- It went on for the last time, as its stream failed with this error, or memory ran out, and it was closed. All letters were handed
+  -- out; or memory ran out for that, once these were.
+  pub data Fails (most now : ℕ) (old : Served H) (sent : List Letter) (error : Error) (new : Served H) : Type 0 where
+    fails_whole : (broken last : Served H) → Breaks now old error broken → Shuts now broken last → HandsOver last sent new → Fails most now old sent error new
+    fails_short : (last : Served H) → Lasts most now old last → HandsSome last sent new → error_kind error ≡ kinds.OutOfMemory → Fails most now old sent error new
+
+  -- It went on for the last time, and this is how it ended: its stream failed, or memory ran out; or nothing failed, and this is why. All letters were handed out; or
+  -- memory ran out for that, once these were.
+  pub data EndsBy (most now : ℕ) (old : Served H) (letters : List Letter) (last : Served H) (end : End) : Type 0 where
+    ends_broken : (broken served : Served H) (error : Error) → Breaks now old error broken → Shuts now broken served → HandsOver served letters last
+        → end ≡ end_or last.end (ends.Failed error) → EndsBy most now old letters last end
+    ends_whole : Works most now old letters last → IsWhy table most last end → EndsBy most now old letters last end
+    ends_unnoted : (worked : Served H) (sent more : List Letter) → Works most now old sent worked → LeavesShort now worked more end last → letters ≡ sent ++ more
+        → EndsBy most now old letters last end
+    ends_short : (served : Served H) → Lasts most now old served → HandsSome served letters last → IsShort last end → EndsBy most now old letters last end
 
   -- It went on; by this time its session met no limit, but the one of which its peer is told. No more is kept for it than this.
-  pub record Stays (most now : ℕ) (old : Served H) (woken : List Waker) (new : Served H) : Type 0 where
-    pub works : Works most now old woken new
+  pub record Stays (most now : ℕ) (old : Served H) (sent : List Letter) (new : Served H) : Type 0 where
+    pub works : Works most now old sent new
     pub unmet : (limit : Limit)
         → Meets works.passes.worked.session.limits works.passes.worked.session.progress (kept_by table works.passes.worked) now limit
         → IsTooMuch table works.passes.worked.session
     pub within : kept_by table new ≤ most
 
   -- it is closed, has its number and its peer, and took and sent no more than when it went on for the last time
-  abbrev pub Closes : ℕ → ℕ → Served H → List Waker → End → Served H → Type 0
-  Closes most now old woken end new =
-      (new.number ≡ old.number) × (new.peer ≡ old.peer) × (last : Served H) × EndsBy most now old woken last end × (stats_of new ≡ stats_of last)
+  abbrev pub Closes : ℕ → ℕ → Served H → List Letter → End → Served H → Type 0
+  Closes most now old sent end new =
+      (new.number ≡ old.number) × (new.peer ≡ old.peer) × (last : Served H) × EndsBy most now old sent last end × (stats_of new ≡ stats_of last)
 
   -- what a turn at this time does with it, where so many bytes may be kept for it
-  abbrev pub Visits : ℕ → ℕ → Served H → List Waker → Turn → Served H → Type 0
-  Visits most now old woken (turns.Over end) new = Closes most now old woken end new
-  Visits most now old woken turns.More new = Stays most now old woken new
-  Visits most now old woken turns.Waits new = Stays most now old woken new
+  abbrev pub Visits : ℕ → ℕ → Served H → List Letter → Turn → Served H → Type 0
+  Visits most now old sent (turns.Over end) new = Closes most now old sent end new
+  Visits most now old sent turns.More new = Stays most now old sent new
+  Visits most now old sent turns.Waits new = Stays most now old sent new
 
-  -- an object of it is woken
-  abbrev pub Rouses : ℕ → Served H → Served H → Type 0
-  Rouses object old new = Wakes table object old.session new.session × (new ≡ record old { session = new.session })
+  -- it takes in a letter of another connection
+  abbrev pub TakesLetter : LetterBody → Served H → Served H → Type 0
+  TakesLetter body old new = Delivers table body old.session new.session × (new ≡ record old { session = new.session })
 
--- those that are to be woken are those of before, and then these
-abbrev pub Adds : List Waker → (List Waker → Type 0) → List Waker → Type 0
-Adds before P after = (woken : List Waker) × (after ≡ before ++ woken) × P woken
+-- the letters are those of before, and then these
+abbrev pub Adds : List Letter → (List Letter → Type 0) → List Letter → Type 0
+Adds before P after = (sent : List Letter) × (after ≡ before ++ sent) × P sent
 
--- Of a turn and its parts: whom its objects want to be woken comes after those that were to be before.
+-- Of a turn and its parts: what it sends comes after the letters of before.
 module _ {H : Type 0} (table : ObjectTableKind H) where
-  abbrev pub VisitsAdding : Allowance → Served H → List Waker → Turn → Served H → List Waker → Type 0
-  VisitsAdding allowed old before turn new after = Adds before (λ woken. Visits table allowed.kept allowed.now old woken turn new) after
+  abbrev pub VisitsAdding : Allowance → Served H → List Letter → Turn → Served H → List Letter → Type 0
+  VisitsAdding allowed old before turn new after = Adds before (λ sent. Visits table allowed.kept allowed.now old sent turn new) after
 
-  abbrev pub ClosesAdding : Allowance → Served H → List Waker → End → Served H → List Waker → Type 0
-  ClosesAdding allowed old before end new after = Adds before (λ woken. Closes table allowed.kept allowed.now old woken end new) after
+  abbrev pub ClosesAdding : Allowance → Served H → List Letter → End → Served H → List Letter → Type 0
+  ClosesAdding allowed old before end new after = Adds before (λ sent. Closes table allowed.kept allowed.now old sent end new) after
 
-  abbrev pub StaysAdding : Allowance → Served H → List Waker → Served H → List Waker → Type 0
-  StaysAdding allowed old before new after = Adds before (λ woken. Stays table allowed.kept allowed.now old woken new) after
+  abbrev pub LeavesAdding : ℕ → Served H → List Letter → End → Served H → List Letter → Type 0
+  LeavesAdding now old before end new after = Adds before (λ sent. LeavesShort table now old sent end new) after
 
-  abbrev pub WorksAdding : Allowance → Served H → List Waker → Served H → List Waker → Type 0
-  WorksAdding allowed old before new after = Adds before (λ woken. Works table allowed.kept allowed.now old woken new) after
+  abbrev pub HandsAdding : Served H → List Letter → Served H → List Letter → Type 0
+  HandsAdding old before new after = Adds before (λ sent. HandsOver table old sent new) after
 
-  abbrev pub FailsAdding : Allowance → Served H → List Waker → Error → Served H → List Waker → Type 0
-  FailsAdding allowed old before error new after = Adds before (λ woken. Fails table allowed.kept allowed.now old woken error new) after
+  abbrev pub HandsSomeAdding : Served H → List Letter → Served H → List Letter → Type 0
+  HandsSomeAdding old before new after = Adds before (λ sent. HandsSome table old sent new) after
+
+  abbrev pub StaysAdding : Allowance → Served H → List Letter → Served H → List Letter → Type 0
+  StaysAdding allowed old before new after = Adds before (λ sent. Stays table allowed.kept allowed.now old sent new) after
+
+  abbrev pub WorksAdding : Allowance → Served H → List Letter → Served H → List Letter → Type 0
+  WorksAdding allowed old before new after = Adds before (λ sent. Works table allowed.kept allowed.now old sent new) after
+
+  abbrev pub FailsAdding : Allowance → Served H → List Letter → Error → Served H → List Letter → Type 0
+  FailsAdding allowed old before error new after = Adds before (λ sent. Fails table allowed.kept allowed.now old sent error new) after
 
 -- a budget notes how much is kept for the connection of this number, or forgets it
 abbrev pub noting : Keeping → ℕ → ℕ → Keeping

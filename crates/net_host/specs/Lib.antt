@@ -6,5 +6,7 @@ pub mod Feeding
 pub mod Waking
 pub mod HostedConnections
 pub mod Floor
+pub mod Connecting
+pub mod Letters
 pub mod Once
 pub mod Figures

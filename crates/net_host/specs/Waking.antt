@@ -1,6 +1,6 @@
--- Who is woken in another connection.
+-- What goes from one connection to another.
 use Rattle.std.specs.Prelude.{◌≡◌, ℕ, ◌+◌, ◌*◌, ◌%◌, ◌^◌, ◌<◌, List, [], ◌∷◌, ◌++◌, Some, None}
-use Rattle.cp_objects.specs.declared.waker.Waker.{Waker}
+use Rattle.cp_objects.specs.declared.letters.Letter.{Letter}
 use Rattle.cp_objects.specs.ObjectTable.{ObjectTableKind}
 use Rattle.cp_session.specs.Doing.{HandsOn}
 use Rattle.cp_session.specs.State.{State}
@@ -20,12 +20,12 @@ NamesOne =
     → (number ≡ other) × (key ≡ place)
 
 module _ {H : Type 0} (table : ObjectTableKind H) where
-  -- a session handed out that these objects of others are to be woken, in order, and did nothing else
-  pub data HandsOut (old : State H) : List Waker → State H → Type 0 where
+  -- a session handed out these letters to others, in order, and did nothing else
+  pub data HandsOut (old : State H) : List Letter → State H → Type 0 where
     hands_none : HandsOut old [] old
-    hands_more : {before woken : List Waker} {mid new : State H} (waker : Waker) → HandsOut old before mid → HandsOn table (Some waker) mid new
-        → woken ≡ before ++ waker ∷ [] → HandsOut old woken new
+    hands_more : {before sent : List Letter} {mid new : State H} (letter : Letter) → HandsOut old before mid → HandsOn table (Some letter) mid new
+        → sent ≡ before ++ letter ∷ [] → HandsOut old sent new
 
-  -- these are all that its objects wanted to be woken
-  abbrev pub HandsAll : State H → List Waker → State H → Type 0
-  HandsAll old woken new = (mid : State H) × HandsOut old woken mid × HandsOn table None mid new
+  -- these are all that it had
+  abbrev pub HandsAll : State H → List Letter → State H → Type 0
+  HandsAll old sent new = (mid : State H) × HandsOut old sent mid × HandsOn table None mid new

@@ -1,6 +1,7 @@
 //! How connections are served.
 
 ghost use Rattle.std.specs.Prelude.{◌≡◌};
+ghost use Rattle.net_host.specs.Connecting.{own_options_of};
 ghost use Rattle.net_host.specs.Floor.{options_of};
 ghost use Rattle.net_host.specs.Limits.{standard_plan};
 
@@ -32,6 +33,15 @@ impl HostConfig {
             limits: HostLimits::standard(),
             count: None,
         }
+    }
+
+    /// How the session of a connection goes that is made from here. It is not closed for silence.
+    pub(crate) fn own_session(&self) -> SessionOptions
+        ensures { result ≡ own_options_of self.now }
+    {
+        let mut options = self.session();
+        options.limits.idle = u64::MAX;
+        options
     }
 
     /// How the session of a connection goes. Nobody but its objects holds its imports.

@@ -35,7 +35,7 @@ pub(crate) struct Ended {
 }
 
 impl End {
-    /// How the connection ended, if an event says so. A host asks its peers nothing.
+    /// How the connection ended, if an event says so.
     pub(crate) fn of_event(event: SessionEvent) -> Option<End>
         ensures { result ≡ end_of event }
     {

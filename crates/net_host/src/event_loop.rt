@@ -1,11 +1,13 @@
 //! The connections that a host serves, and their turns.
 
-ghost use Rattle.std.specs.Prelude.{◌≡◌, ◌<◌, ◌≤◌, ◌+◌, ℕ, [], ◌∷◌, ◌++◌, Some, None, IfNone, IfOk, OnOk, OnErr, option_to_list};
+ghost use Rattle.std.specs.Prelude.{◌≡◌, ◌<◌, ◌≤◌, ◌+◌, [], ◌∷◌, ◌++◌, Some, None, IfNone, IfOk, OnOk, OnErr, option_to_list};
 ghost use Rattle.std.specs.VecDeque.{deque_capacity, deque_len};
 ghost use Rattle.slab.specs.Slab.{HasRoomFor, Updates, slab_len};
+ghost use Rattle.cp_objects.specs.Letters.{bounced};
 ghost use Rattle.net_sockets.specs.Incoming.{Keeps};
 ghost use Rattle.net_host.specs.Figures.{SumsUp};
-ghost use Rattle.net_host.specs.Waking.{key_of};
+ghost use Rattle.net_host.specs.Connecting.{AsksNext};
+ghost use Rattle.net_host.specs.Waking.{key_of, session_of};
 ghost use Rattle.net_host.specs.Timing.{IsDue, until};
 ghost use Rattle.net_host.specs.Floor.{HasOverdue, IsFirst, Rests, Rounds, Seats, Turns, floor_of, nobody, number_of, seen, waking};
 
@@ -17,23 +19,15 @@ use crate::hosted_connection::{HostedConnection, Turn, session_number};
 use crate::limits::HostLimits;
 use crate::pending::PendingConnection;
 use crate::time::{Time, earlier};
-use cp_objects::Waker;
-use cp_session::{Budget, DrivenSession};
-use mio::event::Event;
-use mio::{Events, Poll, Token};
-use net_sockets::{Incoming, NonblockingStream, Socket};
+use cp_objects::{Letter, LetterBody, Waker};
+use cp_session::{Budget, CallingSession, DrivenSession};
+use net_sockets::{Incoming, NonblockingStream, Readiness, Socket};
 use slab::Slab;
 use std::alloc::{AllocGlobal, Global};
 use std::collections::VecDeque;
-use std::io;
+use std::io::{self, ErrorKind};
 use std::net::Net;
 use std::time::{Clock, Duration};
-
-/// The listener's token, which no connection has.
-const LISTENER: Token = Token(usize::MAX);
-
-/// The most events that one wait reports.
-const EVENTS: usize = 256;
 
 /// The most connections for which room is made at the start. Room takes memory only as it is used, and a slab that grows leaves blocks
 /// behind.
@@ -46,17 +40,15 @@ const PIECE: usize = 65_536;
 #[derive(Drop)]
 pub(crate) struct EventLoop<S, D> {
     alloc: Global,
-    poll: Poll,
-    events: Events,
+    /// What waits for all, and whose turn is next.
+    readiness: Readiness,
     guests: Slab<HostedConnection<S, D>>,
     /// What is kept for each, by the numbers of their keys.
     budget: Budget,
-    /// The keys of those that can go on at once.
-    queue: VecDeque<usize>,
     /// Those that ended, of which there was no news yet.
     ended: VecDeque<Ended>,
-    /// The objects that are to be woken, by those of other connections or by the program, in order.
-    wakes: VecDeque<Waker>,
+    /// What goes from one connection to another, or from the program to one, in order.
+    letters: VecDeque<Letter>,
     piece: Vec<u8>,
     time: Time,
 }
@@ -72,22 +64,18 @@ impl<S: DrivenSession, D: Socket> EventLoop<S, D> {
         ensures empty { IfOk result (λ it. Rests (nobody limits.now) (floor_of S.state D.flow it)) }
         ensures same { Keeps incoming.old incoming.new }
     {
-        let poll = Poll::new(rt)?;
+        let readiness = Readiness::new(rt, incoming)?;
         let alloc = rt.alloc();
-        incoming.register(alloc, poll.registry(), LISTENER)?;
-        let events = Events::with_capacity(alloc, EVENTS)?;
         let piece = vec![in alloc; 0u8; PIECE]?;
         let guests = Slab::with_capacity(alloc, limits.connections.min(ROOM))?;
         let time = Time::start(rt)?;
         Ok(EventLoop {
             alloc,
-            poll,
-            events,
+            readiness,
             guests,
             budget: Budget::new(alloc, limits.share(), limits.pool()),
-            queue: VecDeque::new(alloc),
             ended: VecDeque::new(alloc),
-            wakes: VecDeque::new(alloc),
+            letters: VecDeque::new(alloc),
             piece,
             time,
         })
@@ -109,7 +97,7 @@ impl<S: DrivenSession, D: Socket> EventLoop<S, D> {
 
     /// Whether one can go on at once.
     pub(crate) fn has_turns(&self) -> bool {
-        !self.queue.is_empty() || !self.wakes.is_empty()
+        !self.readiness.queue.is_empty() || !self.letters.is_empty()
     }
 
     /// The milliseconds since it began, at the last look at the clock.
@@ -140,7 +128,10 @@ impl<S: DrivenSession, D: Socket> EventLoop<S, D> {
         ensures woken { OnOk result (floor_of S.state D.flow self.new ≡ waking (floor_of S.state D.flow self.old) waker) }
         ensures unwoken { OnErr result (floor_of S.state D.flow self.new ≡ floor_of S.state D.flow self.old) }
     {
-        self.wakes.push_back(waker)?;
+        self.letters.push_back(Letter {
+            to: waker.session,
+            body: LetterBody::Wake(waker.object),
+        })?;
         Ok(())
     }
 
@@ -148,7 +139,7 @@ impl<S: DrivenSession, D: Socket> EventLoop<S, D> {
     pub(crate) fn next_end(&mut self) -> Option<Ended>
         ensures same { self.new.guests ≡ self.old.guests }
         ensures budget { self.new.budget ≡ self.old.budget }
-        ensures wakes { self.new.wakes ≡ self.old.wakes }
+        ensures letters { self.new.letters ≡ self.old.letters }
         ensures time { self.new.time ≡ self.old.time }
         ensures first { self.old.ended.items ≡ option_to_list result ++ self.new.ended.items }
         ensures none { IfNone result (self.old.ended.items ≡ []) }
@@ -194,14 +185,14 @@ impl<S: DrivenSession, D: Socket> EventLoop<S, D> {
         ensures same { self.new.guests ≡ record self.old.guests { capacity = self.new.guests.capacity } }
         ensures ended { self.new.ended ≡ self.old.ended }
         ensures budget { self.new.budget ≡ self.old.budget }
-        ensures wakes { self.new.wakes ≡ self.old.wakes }
+        ensures letters { self.new.letters ≡ self.old.letters }
         ensures time { self.new.time ≡ self.old.time }
         ensures stream { stream.new ≡ stream.old }
     {
         let key = self.guests.vacant_key();
         // A key in the queue that names no connection is passed over.
-        self.queue.push_back(key)?;
-        stream.register(self.poll.registry(), Token(key))?;
+        self.readiness.queue.push_back(key)?;
+        self.readiness.watch(stream, key, false)?;
         self.guests.reserve(1)?;
         Ok(key)
     }
@@ -216,11 +207,9 @@ impl<S: DrivenSession, D: Socket> EventLoop<S, D> {
         ensures len { slab_len self.new.guests ≡ slab_len self.old.guests }
         ensures rests { Rests (floor_of S.state D.flow self.old) (floor_of S.state D.flow self.new) }
     {
-        // Before the events are taken, of which none comes again.
-        self.queue.reserve(EVENTS)?;
-        self.poll.poll(&mut self.events, wait)?;
+        let has_event = self.readiness.wait(wait, &mut self.guests)?;
         self.time.look(rt)?;
-        note_events(&self.events, &mut self.guests, &mut self.queue)
+        Ok(has_event)
     }
 
     /// Gives each connection that can go on a turn.
@@ -229,10 +218,10 @@ impl<S: DrivenSession, D: Socket> EventLoop<S, D> {
         ensures turns { Rounds S.table (floor_of S.state D.flow self.old) (floor_of S.state D.flow self.new) }
     {
         // One piece or one round of polls each, so that a fast peer delays the others by a piece.
-        for _ in 0..self.queue.len() {
+        for _ in 0..self.readiness.queue.len() {
             self.turn(limits)?;
         }
-        self.wake_each()?;
+        self.deliver_each()?;
         self.sweep()
     }
 
@@ -243,7 +232,7 @@ impl<S: DrivenSession, D: Socket> EventLoop<S, D> {
     {
         // Nothing fails once a connection had its turn: so its end is reported.
         self.ended.reserve(1)?;
-        let Some(key) = self.queue.pop_front() else {
+        let Some(key) = self.readiness.queue.pop_front() else {
             return Ok(());
         };
         let Some(hosted) = self.guests.get_mut(key) else {
@@ -256,10 +245,15 @@ impl<S: DrivenSession, D: Socket> EventLoop<S, D> {
             account,
             now: self.time.now(),
         };
-        match hosted.turn(&mut self.piece, &mut self.budget, &mut self.wakes, allowed) {
+        match hosted.turn(
+            &mut self.piece,
+            &mut self.budget,
+            &mut self.letters,
+            allowed,
+        ) {
             Turn::More => {
                 self.time.expect(hosted.deadline());
-                self.queue.push_back_reserved(key);
+                self.readiness.queue.push_back_reserved(key);
                 Ok(())
             }
             Turn::Waits => {
@@ -274,59 +268,73 @@ impl<S: DrivenSession, D: Socket> EventLoop<S, D> {
         }
     }
 
-    /// Wakes the objects that are to be.
-    fn wake_each(&mut self) -> io::Result<()>
+    /// Delivers the letters that are there.
+    fn deliver_each(&mut self) -> io::Result<()>
         ensures len { slab_len self.new.guests ≤ slab_len self.old.guests }
         ensures turns { Rounds S.table (floor_of S.state D.flow self.old) (floor_of S.state D.flow self.new) }
     {
-        for _ in 0..self.wakes.len() {
-            self.wake_next()?;
+        for _ in 0..self.letters.len() {
+            self.deliver_next()?;
         }
         Ok(())
     }
 
-    /// Wakes the first object that is to be, so that its connection has a turn. Where that isn't served any more, nothing is done.
-    fn wake_next(&mut self) -> io::Result<()>
+    /// Delivers the first letter, so that its connection has a turn. Where that isn't served any more, what bounces comes last.
+    fn deliver_next(&mut self) -> io::Result<()>
         ensures len { slab_len self.new.guests ≤ slab_len self.old.guests }
         ensures turns { Turns S.table (floor_of S.state D.flow self.old) (floor_of S.state D.flow self.new) }
     {
         // Nothing fails once the first was taken out: so none is lost.
         self.ended.reserve(1)?;
-        self.queue.reserve(1)?;
-        self.wake_first();
+        self.readiness.queue.reserve(1)?;
+        self.deliver_first();
         Ok(())
     }
 
-    /// Wakes the first object that is to be, where there is room for what that leads to.
-    fn wake_first(&mut self)
+    /// Delivers the first letter, where there is room for what that leads to.
+    fn deliver_first(&mut self)
         requires ends { deque_len self.old.ended < deque_capacity self.old.ended }
-        requires enters { deque_len self.old.queue < deque_capacity self.old.queue }
+        requires enters { deque_len self.old.readiness.queue < deque_capacity self.old.readiness.queue }
         ensures len { slab_len self.new.guests ≤ slab_len self.old.guests }
         ensures turns { Turns S.table (floor_of S.state D.flow self.old) (floor_of S.state D.flow self.new) }
     {
-        let Some(waker) = self.wakes.pop_front() else {
+        let Some(letter) = self.letters.pop_front() else {
             return;
         };
-        let key = key_of(waker.session);
+        let key = key_of(letter.to);
         let Some(hosted) = self.guests.get_mut(key) else {
-            return;
+            return self.bounce(letter);
         };
-        if hosted.session(key) != waker.session {
-            return;
+        if hosted.session(key) != letter.to {
+            return self.bounce(letter);
         }
-        match hosted.wake(waker.object) {
+        match hosted.deliver(letter.body) {
             Ok(enters) => {
                 self.time.expect(hosted.deadline());
                 if enters {
-                    self.queue.push_back_reserved(key);
+                    self.readiness.queue.push_back_reserved(key);
                 }
             }
             Err(_) => {
-                let end = hosted.run_out();
+                let end = hosted.run_out(&mut self.letters, self.time.now());
                 let ended = hosted.ended(end);
                 self.budget.forget(number_of(key));
                 self.close(key, ended);
             }
+        }
+    }
+
+    /// A letter is for a session that isn't there: what goes back for it, if something does, is the last.
+    fn bounce(&mut self, letter: Letter)
+        requires { deque_len self.old.letters < deque_capacity self.old.letters }
+        ensures back { self.new.letters.items ≡ self.old.letters.items ++ option_to_list (bounced letter) }
+        ensures guests { self.new.guests ≡ self.old.guests }
+        ensures ended { self.new.ended ≡ self.old.ended }
+        ensures budget { self.new.budget ≡ self.old.budget }
+        ensures time { self.new.time ≡ self.old.time }
+    {
+        if let Some(back) = letter.bounced() {
+            self.letters.push_back_reserved(back);
         }
     }
 
@@ -337,7 +345,7 @@ impl<S: DrivenSession, D: Socket> EventLoop<S, D> {
         ensures updates { Updates self.old.guests self.new.guests key None }
         ensures ended { self.new.ended.items ≡ self.old.ended.items ++ ended ∷ [] }
         ensures budget { self.new.budget ≡ self.old.budget }
-        ensures wakes { self.new.wakes ≡ self.old.wakes }
+        ensures letters { self.new.letters ≡ self.old.letters }
         ensures time { self.new.time ≡ self.old.time }
     {
         self.ended.push_back_reserved(ended);
@@ -349,14 +357,60 @@ impl<S: DrivenSession, D: Socket> EventLoop<S, D> {
     fn sweep(&mut self) -> io::Result<()>
         ensures guests { self.new.guests ≡ self.old.guests }
         ensures turns { Turns S.table (floor_of S.state D.flow self.old) (floor_of S.state D.flow self.new) }
-        ensures swept { OnOk result (IsDue self.old.time → HasOverdue S.table S.state self.new.guests self.old.time.at self.new.queue.items) }
+        ensures swept { OnOk result (IsDue self.old.time → HasOverdue S.table S.state self.new.guests self.old.time.at self.new.readiness.queue.items) }
     {
         if !self.time.is_due() {
             return Ok(());
         }
-        let first = queue_overdue(&self.guests, self.time.now(), &mut self.queue)?;
+        let first = queue_overdue(&self.guests, self.time.now(), &mut self.readiness.queue)?;
         self.time.set_sweep(first);
         Ok(())
+    }
+}
+
+impl<S: CallingSession, D: Socket> EventLoop<S, D> {
+    /// The number that the session of a connection of this number gets that is served next.
+    pub(crate) fn next_session(&self, number: u64) -> u64
+        ensures { result ≡ session_of number self.now.guests.vacant_key }
+    {
+        session_number(number, self.guests.vacant_key())
+    }
+
+    /// Serves a connection that is made from here with these objects, and asks the peer for its bootstrap capability.
+    pub(crate) fn admit_asking(
+        &mut self,
+        plan: &HostConfig,
+        mut pending: PendingConnection<D>,
+        objects: S::Objects,
+    ) -> io::Result<()>
+        ensures served { OnOk result (slab_len self.new.guests ≡ slab_len self.old.guests + 1) }
+        ensures lost { OnErr result (slab_len self.new.guests ≡ slab_len self.old.guests) }
+        ensures asks { OnOk result (AsksNext S.table S.state D.flow plan.now pending objects self.old self.new) }
+        ensures unasked { OnErr result (Rests (floor_of S.state D.flow self.old) (floor_of S.state D.flow self.new)) }
+    {
+        match self.make_room(&mut pending.stream) {
+            Ok(key) => {
+                let named = session_number(pending.number, key);
+                let begun = self.time.now();
+                let options = plan.own_session();
+                let mut session = S::begin(self.alloc, &options, named, objects, begun);
+                // Under this number its objects lend what the peer gives.
+                let Ok(0) = session.bootstrap() else {
+                    drop(pending);
+                    drop(session);
+                    return Err(io::Error::from(ErrorKind::OutOfMemory));
+                };
+                let asking = HostedConnection::new(self.alloc, pending, session);
+                self.time.expect(asking.deadline());
+                let _ = self.guests.insert_reserved(asking);
+                Ok(())
+            }
+            Err(error) => {
+                drop(pending);
+                drop(objects);
+                Err(error)
+            }
+        }
     }
 }
 
@@ -393,44 +447,4 @@ fn key_of(session: u64) -> usize
     ensures { result ≡ key_of session }
 {
     (session % 0x1_0000_0000) as usize
-}
-
-/// Notes what events say of connections, and puts those into the queue that weren't in it. Says whether the listener had an event.
-fn note_events<S: DrivenSession, D: Socket>(
-    events: &Events,
-    guests: &mut Slab<HostedConnection<S, D>>,
-    queue: &mut VecDeque<usize>,
-) -> io::Result<bool>
-    ensures len { slab_len guests.new ≡ slab_len guests.old }
-    ensures same { (key : ℕ) → seen S.state D.flow guests.new key ≡ seen S.state D.flow guests.old key }
-{
-    let mut has_event = false;
-    for event in events {
-        let is_listener = note_event(event, guests, queue)?;
-        has_event = has_event || is_listener;
-    }
-    Ok(has_event)
-}
-
-/// Notes what an event says. Says whether it is one of the listener.
-fn note_event<S: DrivenSession, D: Socket>(
-    event: &Event,
-    guests: &mut Slab<HostedConnection<S, D>>,
-    queue: &mut VecDeque<usize>,
-) -> io::Result<bool>
-    ensures len { slab_len guests.new ≡ slab_len guests.old }
-    ensures same { (key : ℕ) → seen S.state D.flow guests.new key ≡ seen S.state D.flow guests.old key }
-{
-    let token = event.token();
-    if token == LISTENER {
-        return Ok(true);
-    }
-    let Some(hosted) = guests.get_mut(token.0) else {
-        return Ok(false);
-    };
-    let enters = hosted.mark(event);
-    if enters {
-        queue.push_back(token.0)?;
-    }
-    Ok(false)
 }

@@ -1,12 +1,13 @@
 //! A host.
 
-ghost use Rattle.std.specs.Prelude.{◌≡◌, ◌<◌, ◌↔◌, Some, None, IsTrue, IfOk, OnOk, OnErr};
+ghost use Rattle.std.specs.Prelude.{◌≡◌, ◌<◌, ◌↔◌, ◌-◌, ◌^◌, min, Some, None, IsTrue, IfOk, OnOk, OnErr};
 ghost use Rattle.cp_objects.specs.Context.{time_after};
 ghost use Rattle.net_sockets.specs.Incoming.{came_of, count_of};
 ghost use Rattle.net_sockets.specs.Sockets.{flow_of_socket};
 ghost use Rattle.net_host.specs.Figures.{IsOfAll};
 ghost use Rattle.net_host.specs.Floor as floor;
 ghost use Rattle.net_host.specs.Floor.{IsFresh, LooksOn, Reports, Rests, Seats, connections_of, nobody, waking};
+ghost use Rattle.net_host.specs.Connecting.{one_more, outgoing};
 ghost use Rattle.net_host.specs.Limits.{HasRoom};
 ghost use Rattle.net_host.specs.Roster.{begun, Accepts, Admits, GoesOn, Hears, IsOnTime, IsOpen, IsOver, Looks, LooksOnTime, Rounds};
 ghost use Rattle.net_host.specs.RosterOf.{now_of, roster};
@@ -28,6 +29,9 @@ use std::alloc::AllocGlobal;
 use std::io::{self, ErrorKind};
 use std::net::Net;
 use std::time::{Clock, Duration};
+
+/// The number of the first connection that is made from here. Those that come have numbers below, as long as there are fewer.
+const OUTGOING: u64 = 0x8000_0000;
 
 /// What a host tells its program.
 #[derive(Drop)]
@@ -108,10 +112,12 @@ pub type Host<O> = SessionHost<Session<O>>;
 
 /// A `Host` whose connections are sessions of this type.
 pub struct SessionHost<S> {
-    plan: HostConfig,
+    pub(crate) plan: HostConfig,
     incoming: Incoming,
     pending: Option<PendingConnection<StreamSocket>>,
-    event_loop: EventLoop<S, StreamSocket>,
+    pub(crate) event_loop: EventLoop<S, StreamSocket>,
+    /// How many connections were made from here.
+    made: u64,
     /// When the program is to be told that its time has come, if it is to be.
     alarm: Option<u64>,
 }
@@ -123,6 +129,7 @@ impl<S: Drop> Drop for SessionHost<S> {
             incoming: _,
             pending: _,
             event_loop: _,
+            made: _,
             alarm: _,
         } = self;
     }
@@ -145,6 +152,7 @@ impl<S: DrivenSession> SessionHost<S> {
             incoming,
             pending: None,
             event_loop,
+            made: 0,
             alarm: None,
         })
     }
@@ -215,6 +223,16 @@ impl<S: DrivenSession> SessionHost<S> {
         ensures { IsOfAll S.table S.state self.now result }
     {
         self.event_loop.figures()
+    }
+
+    /// The number of the next connection that is made from here.
+    pub(crate) fn next_outgoing(&mut self) -> u64
+        ensures number { result ≡ min (outgoing self.old.made) (2 ^ 64 - 1) }
+        ensures rest { self.new ≡ record self.old { made = one_more self.old.made } }
+    {
+        let number = OUTGOING.saturating_add(self.made);
+        self.made = self.made.saturating_add(1);
+        number
     }
 
     /// Looks for news: an end of which there was none, the time that the program named, or a connection that waits. Where there is none of

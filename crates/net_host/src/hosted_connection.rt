@@ -5,7 +5,7 @@ ghost use Rattle.cp_session.specs.Doing.{due_of};
 ghost use Rattle.cp_session.specs.State.{link_of};
 ghost use Rattle.net_sockets.specs.Reading.{Fits, came_by, ends_by};
 ghost use Rattle.net_host.specs.Feeding.{IsFed};
-ghost use Rattle.net_host.specs.HostedConnections.{Accounts, Adds, Breaks, CanTake, CanWrite, ClosesAdding, FailsAdding, FailsBy, HandsOver, HandsSome, Hears, IsOverdue, IsShort, IsUnroused, MayHaveBytes, Minds, Proceeds, Rouses, Sends, Serves, StaysAdding, StopsShort, TakesIn, VisitsAdding, WorksAdding, end_or, ended_of, heard, kept_by, new_served, served_of};
+ghost use Rattle.net_host.specs.HostedConnections.{Accounts, Breaks, CanTake, CanWrite, ClosesAdding, FailsAdding, FailsBy, HandsAdding, HandsSomeAdding, Hears, IsOverdue, IsUndelivered, LeavesAdding, MayHaveBytes, Minds, Proceeds, Sends, Serves, StaysAdding, StopsShort, TakesIn, TakesLetter, VisitsAdding, WorksAdding, end_or, ended_of, heard, kept_by, new_served, served_of};
 ghost use Rattle.net_host.specs.Waking.{session_of};
 
 use crate::allowance::Allowance;
@@ -13,10 +13,10 @@ use crate::end::{End, Ended};
 use crate::pending::PendingConnection;
 use cp_connection::ConnectionStats;
 use cp_dispatch::{Limit, SessionEvent};
-use cp_objects::Waker;
+use cp_objects::{Letter, LetterBody};
 use cp_session::{Budget, DrivenSession};
 use mio::event::Event;
-use net_sockets::{Got, NonblockingStream, Peer, Socket};
+use net_sockets::{Got, NonblockingStream, Peer, Socket, Watched};
 use std::alloc::{AllocError, Global};
 use std::collections::VecDeque;
 use std::io::{self, ErrorKind};
@@ -83,16 +83,6 @@ impl<S: DrivenSession, D: Socket> HostedConnection<S, D> {
         }
     }
 
-    /// What an event says of it. Says whether it comes into the queue.
-    pub(crate) fn mark(&mut self, event: &Event) -> bool
-        ensures { let at = served_of S.state D.flow in at self.new ≡ at self.old }
-    {
-        self.stream.mark(event);
-        let enters = !self.queued;
-        self.queued = true;
-        enters
-    }
-
     /// When it meets a limit of time, if no byte moves before, or an object of it is to be woken.
     pub(crate) fn deadline(&self) -> Option<u64>
         ensures { result ≡ due_of S.table (S.state self.now.session) }
@@ -131,45 +121,46 @@ impl<S: DrivenSession, D: Socket> HostedConnection<S, D> {
         session_number(self.number, key)
     }
 
-    /// Wakes an object. Says whether it comes into the queue.
-    pub(crate) fn wake(&mut self, object: u32) -> Result<bool, AllocError>
-        ensures woken { let at = served_of S.state D.flow in OnOk result (Rouses S.table object (at self.old) (at self.new)) }
-        ensures err { let at = served_of S.state D.flow in OnErr result (IsUnroused (at self.old) (at self.new)) }
+    /// Takes in a letter of another connection. Says whether it comes into the queue.
+    pub(crate) fn deliver(&mut self, body: LetterBody) -> Result<bool, AllocError>
+        ensures delivered { let at = served_of S.state D.flow in OnOk result (TakesLetter S.table body (at self.old) (at self.new)) }
+        ensures err { let at = served_of S.state D.flow in OnErr result (IsUndelivered (at self.old) (at self.new)) }
     {
-        self.session.wake(object)?;
+        self.session.deliver(body)?;
         let enters = !self.queued;
         self.queued = true;
         Ok(enters)
     }
 
-    /// How it ended, as memory ran out.
-    pub(crate) fn run_out(&mut self) -> End
-        ensures end { let at = served_of S.state D.flow in IsShort (at self.old) result }
-        ensures same { let at = served_of S.state D.flow in at self.new ≡ record (at self.old) { end = None } }
+    /// How it ended, as memory ran out. Its objects are told their end, and what they say then is handed out as far as memory suffices.
+    pub(crate) fn run_out(&mut self, letters: &mut VecDeque<Letter>, now: u64) -> End
+        ensures { let at = served_of S.state D.flow in LeavesAdding S.table now (at self.old) letters.old.items result (at self.new) letters.new.items }
     {
+        self.session.close(now);
+        let _ = self.hand_over(letters);
         let error = io::Error::from(ErrorKind::OutOfMemory);
         self.end_or(End::Failed(error))
     }
 
     /// Has a turn. A budget notes how much is kept for it then, or forgets it where it ended. Where it can't be noted, it ends. The
-    /// objects of other connections that are to be woken come after those that were to be before.
+    /// letters to other connections come after those of before.
     pub(crate) fn turn(
         &mut self,
         piece: &mut [u8],
         budget: &mut Budget,
-        wakes: &mut VecDeque<Waker>,
+        letters: &mut VecDeque<Letter>,
         allowed: Allowance,
     ) -> Turn
-        ensures visits { let at = served_of S.state D.flow in VisitsAdding S.table allowed (at self.old) wakes.old.items result (at self.new) wakes.new.items }
+        ensures visits { let at = served_of S.state D.flow in VisitsAdding S.table allowed (at self.old) letters.old.items result (at self.new) letters.new.items }
         ensures accounts { let at = served_of S.state D.flow in Accounts result allowed.account (kept_by S.table (at self.new)) budget.old budget.new }
     {
-        if let Some(end) = self.visit(piece, wakes, allowed) {
+        if let Some(end) = self.visit(piece, letters, allowed) {
             budget.forget(allowed.account);
             return Turn::Over(end);
         }
         if budget.note(allowed.account, self.kept()).is_err() {
             budget.forget(allowed.account);
-            return Turn::Over(self.run_out());
+            return Turn::Over(self.run_out(letters, allowed.now));
         }
         self.queued = self.can_go_on();
         if !self.queued {
@@ -183,13 +174,13 @@ impl<S: DrivenSession, D: Socket> HostedConnection<S, D> {
     fn visit(
         &mut self,
         piece: &mut [u8],
-        wakes: &mut VecDeque<Waker>,
+        letters: &mut VecDeque<Letter>,
         allowed: Allowance,
     ) -> Option<End>
-        ensures closes { let at = served_of S.state D.flow in IfSome result (λ end. ClosesAdding S.table allowed (at self.old) wakes.old.items end (at self.new) wakes.new.items) }
-        ensures stays { let at = served_of S.state D.flow in IfNone result (StaysAdding S.table allowed (at self.old) wakes.old.items (at self.new) wakes.new.items) }
+        ensures closes { let at = served_of S.state D.flow in IfSome result (λ end. ClosesAdding S.table allowed (at self.old) letters.old.items end (at self.new) letters.new.items) }
+        ensures stays { let at = served_of S.state D.flow in IfNone result (StaysAdding S.table allowed (at self.old) letters.old.items (at self.new) letters.new.items) }
     {
-        if let Err(error) = self.work(piece, wakes, allowed) {
+        if let Err(error) = self.work(piece, letters, allowed) {
             return Some(self.end_or(End::Failed(error)));
         }
         self.shut();
@@ -202,28 +193,28 @@ impl<S: DrivenSession, D: Socket> HostedConnection<S, D> {
         None
     }
 
-    /// Goes on by one piece, and has time pass. Notes events, and hands out the objects of other connections that are to be woken.
+    /// Goes on by one piece, and has time pass. Notes events, and hands out the letters to other connections.
     fn work(
         &mut self,
         piece: &mut [u8],
-        wakes: &mut VecDeque<Waker>,
+        letters: &mut VecDeque<Letter>,
         allowed: Allowance,
     ) -> io::Result<()>
-        ensures works { let at = served_of S.state D.flow in OnOk result (WorksAdding S.table allowed (at self.old) wakes.old.items (at self.new) wakes.new.items) }
-        ensures fails { let at = served_of S.state D.flow in IfErr result (λ error. FailsAdding S.table allowed (at self.old) wakes.old.items error (at self.new) wakes.new.items) }
+        ensures works { let at = served_of S.state D.flow in OnOk result (WorksAdding S.table allowed (at self.old) letters.old.items (at self.new) letters.new.items) }
+        ensures fails { let at = served_of S.state D.flow in IfErr result (λ error. FailsAdding S.table allowed (at self.old) letters.old.items error (at self.new) letters.new.items) }
     {
         if let Err(error) = self.move_on(piece, allowed) {
             // What happened before the stream failed counts.
             self.note_events();
             self.session.close(allowed.now);
-            self.hand_over(wakes)?;
+            self.hand_over(letters)?;
             return Err(error);
         }
         // A limit of time ends it at once. One that keeps too much is told so first.
         self.session.tick(allowed.now);
         self.refuse(allowed);
         self.note_events();
-        self.hand_over(wakes)?;
+        self.hand_over(letters)?;
         Ok(())
     }
 
@@ -238,18 +229,18 @@ impl<S: DrivenSession, D: Socket> HostedConnection<S, D> {
         }
     }
 
-    /// Hands out the objects of other connections that are to be woken.
-    fn hand_over(&mut self, wakes: &mut VecDeque<Waker>) -> Result<(), AllocError>
-        ensures all { let at = served_of S.state D.flow in OnOk result (Adds wakes.old.items (λ woken. HandsOver S.table (at self.old) woken (at self.new)) wakes.new.items) }
-        ensures some { let at = served_of S.state D.flow in OnErr result (Adds wakes.old.items (λ woken. HandsSome S.table (at self.old) woken (at self.new)) wakes.new.items) }
+    /// Hands out the letters to other connections.
+    fn hand_over(&mut self, letters: &mut VecDeque<Letter>) -> Result<(), AllocError>
+        ensures all { let at = served_of S.state D.flow in OnOk result (HandsAdding S.table (at self.old) letters.old.items (at self.new) letters.new.items) }
+        ensures some { let at = served_of S.state D.flow in OnErr result (HandsSomeAdding S.table (at self.old) letters.old.items (at self.new) letters.new.items) }
     {
         for _ in 0..u64::MAX {
             // Before one is taken out, so that none is lost.
-            wakes.reserve(1)?;
-            let Some(waker) = self.session.next_wake() else {
+            letters.reserve(1)?;
+            let Some(letter) = self.session.next_letter() else {
                 return Ok(());
             };
-            wakes.push_back_reserved(waker);
+            letters.push_back_reserved(letter);
         }
         Err(AllocError)
     }
@@ -432,6 +423,24 @@ impl<S: DrivenSession, D: Socket> HostedConnection<S, D> {
             Some(end) => end,
             None => other,
         }
+    }
+}
+
+impl<S: DrivenSession, D: Socket> Watched for HostedConnection<S, D> {
+    ghost use Rattle.net_host.specs.HostedConnections.{Served, served_of};
+
+    ghost Kept = { Served S.Objects };
+
+    ghost kept = { served_of S.state D.flow };
+
+    ghost is_queued = { λ hosted. hosted.queued };
+
+    /// It has no second stream.
+    fn mark(&mut self, _is_second: bool, event: &Event) -> bool {
+        self.stream.mark(event);
+        let enters = !self.queued;
+        self.queued = true;
+        enters
     }
 }
 

@@ -1,6 +1,7 @@
 //! What follows of what a host does, whatever it is.
 
 ghost use Rattle.net_host.specs.Floor.{BeginsAwaited, ReportsAwaited, ReportsWithin};
+ghost use Rattle.net_host.specs.Letters.{DeliversInOrder};
 ghost use Rattle.net_host.specs.Waking.{NamesOne};
 ghost use Rattle.net_host.specs.Once.{BeginsOnce, BeginsUnfailed, ReportsOnce, StaysUnfailed};
 
@@ -31,6 +32,12 @@ pub fn sleeps_past_none<H: ObjectTable>()
 /// whose object was to be, or that session ended and nothing is done.
 pub fn wakes_its_own()
     ensures { NamesOne }
+{}
+
+/// Letters between connections are delivered in the order in which they were written, each once, whatever turns there are: to the session that
+/// each is for, or what bounces for one that ended is written last.
+pub fn delivers_in_order<H: ObjectTable>()
+    ensures { DeliversInOrder H.table }
 {}
 
 /// No connection is served whose stream failed, whatever turns and news there are. So the error that one ended by came in its last turn.

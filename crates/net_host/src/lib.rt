@@ -3,6 +3,7 @@
 
 mod allowance;
 mod config;
+mod connecting;
 mod end;
 mod event_loop;
 mod figures;
@@ -17,5 +18,7 @@ pub use config::HostConfig;
 pub use end::End;
 pub use figures::HostFigures;
 pub use host::{Host, HostEvent, SessionHost};
-pub use laws::{fails_once, keeps_within, reported_once, sleeps_past_none, wakes_its_own};
+pub use laws::{
+    delivers_in_order, fails_once, keeps_within, reported_once, sleeps_past_none, wakes_its_own,
+};
 pub use limits::{HostLimits, WhenFull};

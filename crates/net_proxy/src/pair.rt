@@ -11,8 +11,7 @@ use cp_frame::FrameFault;
 use cp_relay::RelayCause;
 use cp_stream::Refusal;
 use mio::event::Event;
-use mio::{Registry, Token};
-use net_sockets::NonblockingStream;
+use net_sockets::{NonblockingStream, Readiness, Watched};
 use std::alloc::{AllocError, Global};
 use std::fmt;
 use std::io::{self, Write};
@@ -192,22 +191,10 @@ impl<'r> Pair<'r> {
         }
     }
 
-    /// Has the readiness of its streams reported: of the near one under this token, of the far one under the next.
-    pub(crate) fn register(&mut self, registry: &Registry, token: Token) -> io::Result<()> {
-        self.near.register(registry, token)?;
-        self.far.register(registry, Token(token.0 | 1))
-    }
-
-    /// What an event says of one of the streams. Says whether the pair comes into the queue.
-    pub(crate) fn mark(&mut self, is_far: bool, event: &Event) -> bool {
-        if is_far {
-            self.far.mark(event);
-        } else {
-            self.near.mark(event);
-        }
-        let enters = !self.queued;
-        self.queued = true;
-        enters
+    /// Has its streams watched, under this key: the near one is its first.
+    pub(crate) fn watch(&mut self, readiness: &Readiness, key: usize) -> io::Result<()> {
+        readiness.watch(&mut self.near, key, false)?;
+        readiness.watch(&mut self.far, key, true)
     }
 
     /// Moves some pieces in each direction.
@@ -283,6 +270,23 @@ impl<'r> Pair<'r> {
         }
         let one = there.or(back)?;
         if one.ends_both() { Some(one) } else { None }
+    }
+}
+
+impl<'r> Watched for Pair<'r> {
+    ghost kept = { λ _. tt };
+
+    ghost is_queued = { λ pair. pair.queued };
+
+    fn mark(&mut self, is_second: bool, event: &Event) -> bool {
+        if is_second {
+            self.far.mark(event);
+        } else {
+            self.near.mark(event);
+        }
+        let enters = !self.queued;
+        self.queued = true;
+        enters
     }
 }
 

@@ -12,22 +12,14 @@ use crate::target::Target;
 use crate::watch::Watch;
 use cp_commands::{ACCEPTED, FIGURES_EVERY};
 use cp_relay::{Breach, Cause, MethodId};
-use mio::{Events, Poll, Token};
-use net_sockets::{Incoming, NonblockingStream};
+use net_sockets::{Incoming, NonblockingStream, Readiness};
 use slab::Slab;
 use std::alloc::{AllocGlobal, Global};
-use std::collections::VecDeque;
 use std::fs::{File, Files};
 use std::io::{self, Write};
 use std::mem;
 use std::net::Net;
 use std::time::{Clock, Duration, Instant};
-
-/// The listener's token, which no stream has.
-const LISTENER: Token = Token(usize::MAX);
-
-/// The most events that one wait reports.
-const EVENTS: usize = 256;
 
 /// The most connections that are relayed at once: two descriptors each, below the 1,024 that most systems let a process have.
 const MOST_PAIRS: usize = 480;
@@ -45,15 +37,12 @@ const SECOND: u64 = 250;
 pub(crate) struct Proxy<'a, 'p, 'r> {
     alloc: Global,
     plan: &'p RelayPlan<'r>,
-    poll: Poll,
-    events: Events,
+    readiness: Readiness,
     incoming: Incoming,
     target: Target<'a>,
     pairs: Slab<Pair<'r>>,
     /// A buffer without bytes, for the next long frame.
     spare: Vec<u8>,
-    /// The keys of the pairs that can go on at once.
-    queue: VecDeque<usize>,
     start: Instant,
     /// The second, from the start on, that guards count.
     second: u64,
@@ -67,13 +56,11 @@ impl<'a, 'p, 'r> Drop for Proxy<'a, 'p, 'r> {
         let Proxy {
             alloc: _,
             plan: _,
-            poll: _,
-            events: _,
+            readiness: _,
             incoming: _,
             target: _,
             pairs: _,
             spare: _,
-            queue: _,
             start: _,
             second: _,
             status: _,
@@ -91,18 +78,16 @@ impl<'a, 'p, 'r> Proxy<'a, 'p, 'r> {
         target: Target<'a>,
     ) -> io::Result<Proxy<'a, 'p, 'r>> {
         let start = Instant::now(rt)?;
-        let (poll, events) = polled(rt, &mut incoming)?;
+        let readiness = Readiness::new(rt, &mut incoming)?;
         let alloc = rt.alloc();
         Ok(Proxy {
             alloc,
             plan,
-            poll,
-            events,
+            readiness,
             incoming,
             target,
             pairs: Slab::new(alloc),
             spare: Vec::new(alloc),
-            queue: VecDeque::new(alloc),
             start,
             second: 0,
             status: ACCEPTED,
@@ -143,15 +128,14 @@ impl<'a, 'p, 'r> Proxy<'a, 'p, 'r> {
         N: Net + Clock + Files<File = File> + AllocGlobal,
     {
         let wait = self.wait();
-        self.poll.poll(&mut self.events, wait)?;
-        let has_event = self.note_events()?;
+        let has_event = self.readiness.wait(wait, &mut self.pairs)?;
         if self.plan.guard.is_some() {
             self.pass_seconds(rt)?;
         }
         self.incoming.begin_round(has_event);
         self.accept(rt, watch, err);
-        for _ in 0..self.queue.len() {
-            if let Some(key) = self.queue.pop_front() {
+        for _ in 0..self.readiness.queue.len() {
+            if let Some(key) = self.readiness.queue.pop_front() {
                 watch.tape.tick(rt)?;
                 self.turn(key, watch, err)?;
             }
@@ -179,7 +163,7 @@ impl<'a, 'p, 'r> Proxy<'a, 'p, 'r> {
 
     /// How long the next wait may take: no time while a pair can go on or a connection can be taken.
     fn wait(&self) -> Option<Duration> {
-        if !self.queue.is_empty() || self.incoming.has_burst() || self.can_accept() {
+        if !self.readiness.queue.is_empty() || self.incoming.has_burst() || self.can_accept() {
             return Some(Duration::from_millis(0));
         }
         if let Some(again) = self.incoming.retry_after() {
@@ -207,7 +191,7 @@ impl<'a, 'p, 'r> Proxy<'a, 'p, 'r> {
                 None => false,
             };
             if enters {
-                self.queue.push_back(key)?;
+                self.readiness.queue.push_back(key)?;
             }
         }
         Ok(())
@@ -227,25 +211,6 @@ impl<'a, 'p, 'r> Proxy<'a, 'p, 'r> {
         } else {
             MOST_PAIRS
         }
-    }
-
-    /// Notes what events say of pairs. Says whether the listener had one. Nothing is closed before all are read, so no event
-    /// names a pair that is gone.
-    fn note_events(&mut self) -> io::Result<bool> {
-        let mut has_event = false;
-        for event in &self.events {
-            let token = event.token();
-            if token == LISTENER {
-                has_event = true;
-            } else if let Some(pair) = self.pairs.get_mut(token.0 / 2) {
-                // Two tokens a pair: the even one is that of the stream that was accepted.
-                let enters = pair.mark(token.0 % 2 == 1, event);
-                if enters {
-                    self.queue.push_back(token.0 / 2)?;
-                }
-            }
-        }
-        Ok(has_event)
     }
 
     /// Takes the connections that wait.
@@ -291,10 +256,10 @@ impl<'a, 'p, 'r> Proxy<'a, 'p, 'r> {
         };
         let mut pair = Pair::new(self.alloc, self.plan, near, far, number)?;
         let key = self.pairs.vacant_key();
-        let registered = pair.register(self.poll.registry(), Token(key.wrapping_mul(2)));
-        if registered.is_err() {
+        let watched = pair.watch(&self.readiness, key);
+        if watched.is_err() {
             drop(pair);
-            return registered;
+            return watched;
         }
         pair.tape = tape.begin(rt, number);
         self.pairs.insert(pair)?;
@@ -313,7 +278,7 @@ impl<'a, 'p, 'r> Proxy<'a, 'p, 'r> {
         };
         let number = pair.number();
         match pair.turn(watch, &mut self.spare) {
-            PairTurn::More => self.queue.push_back(key)?,
+            PairTurn::More => self.readiness.queue.push_back(key)?,
             PairTurn::Waits => (),
             PairTurn::Ends(ended) => {
                 self.close(key, &mut watch.tape);
@@ -371,13 +336,4 @@ impl<'a, 'p, 'r> Proxy<'a, 'p, 'r> {
         let guard = self.plan.guard?;
         Some(guard.rules.name_of(MethodId { interface, method }))
     }
-}
-
-/// What waits for the listener, and room for its events.
-fn polled<N: Net + AllocGlobal>(rt: &N, incoming: &mut Incoming) -> io::Result<(Poll, Events)> {
-    let poll = Poll::new(rt)?;
-    let alloc = rt.alloc();
-    incoming.register(alloc, poll.registry(), LISTENER)?;
-    let events = Events::with_capacity(alloc, EVENTS)?;
-    Ok((poll, events))
 }

@@ -1,3 +1,4 @@
 pub mod Flowing
 pub mod Hearing
 pub mod Headers
+pub mod Noting

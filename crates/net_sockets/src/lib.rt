@@ -7,6 +7,7 @@ mod incoming;
 mod listener;
 mod nonblocking_stream;
 mod proxy_header;
+mod readiness;
 mod socket;
 mod stream;
 
@@ -14,5 +15,6 @@ pub use incoming::Incoming;
 pub use listener::{Listener, Peer};
 pub use nonblocking_stream::{Got, NonblockingStream};
 pub use proxy_header::ProxyHeader;
+pub use readiness::{Readiness, Watched};
 pub use socket::Socket;
 pub use stream::StreamSocket;

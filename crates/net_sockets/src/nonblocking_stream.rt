@@ -38,7 +38,9 @@ pub struct NonblockingStream<D = StreamSocket> {
 
 impl NonblockingStream<StreamSocket> {
     /// Begins a connection to an address. An event says when there is one, or why there is none.
-    pub fn connect<N: Net>(rt: &N, address: SocketAddr) -> io::Result<NonblockingStream> {
+    pub fn connect<N: Net>(rt: &N, address: SocketAddr) -> io::Result<NonblockingStream>
+        ensures unfailed { IfOk result (λ stream. failure_of stream ≡ None) }
+    {
         Ok(NonblockingStream {
             socket: StreamSocket::connect(rt, address)?,
             readable: false,
@@ -49,7 +51,9 @@ impl NonblockingStream<StreamSocket> {
     }
 
     /// A connection to the Unix socket at a path.
-    pub fn connect_path<N: Net>(rt: &N, path: &str) -> io::Result<NonblockingStream> {
+    pub fn connect_path<N: Net>(rt: &N, path: &str) -> io::Result<NonblockingStream>
+        ensures unfailed { IfOk result (λ stream. failure_of stream ≡ None) }
+    {
         Ok(NonblockingStream::of_unix(UnixStream::connect(rt, path)?))
     }
 
@@ -59,7 +63,9 @@ impl NonblockingStream<StreamSocket> {
     }
 
     /// A connection over a Unix socket.
-    pub fn of_unix(stream: UnixStream) -> NonblockingStream {
+    pub fn of_unix(stream: UnixStream) -> NonblockingStream
+        ensures unfailed { failure_of result ≡ None }
+    {
         NonblockingStream::new(StreamSocket::Unix(stream))
     }
 }

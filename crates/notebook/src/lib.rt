@@ -11,17 +11,17 @@ pub use notebook::{
     NotebookNextCall, NotebookNextLater, NotebookNextParamsReader, NotebookNextResultsBuilder,
     NotebookNextResultsPipeline, NotebookNextResultsReader, NotebookOpenCall, NotebookOpenLater,
     NotebookOpenParamsReader, NotebookOpenResultsBuilder, NotebookOpenResultsPipeline,
-    NotebookOpenResultsReader, NotebookResolver, NotebookServer, NotebookWatchCall,
+    NotebookOpenResultsReader, NotebookResolver, NotebookServer, NotebookShared, NotebookWatchCall,
     NotebookWatchLater, NotebookWatchParamsReader, NotebookWatchResultsBuilder,
     NotebookWatchResultsPipeline, NotebookWatchResultsReader,
 };
 pub use page::{
     PageClient, PageDispatch, PageReadCall, PageReadLater, PageReadParamsReader,
     PageReadResultsBuilder, PageReadResultsPipeline, PageReadResultsReader, PageResolver,
-    PageServer,
+    PageServer, PageShared,
 };
 pub use watcher::{
     WatcherAddedCall, WatcherAddedLater, WatcherAddedParamsReader, WatcherAddedResultsBuilder,
     WatcherAddedResultsPipeline, WatcherAddedResultsReader, WatcherClient, WatcherDispatch,
-    WatcherResolver, WatcherServer,
+    WatcherResolver, WatcherServer, WatcherShared,
 };

@@ -25,7 +25,8 @@ use cp_interfaces::{
     CallTarget, Caller, CapFault, CapTable, CapTableBuilder, Dispatch, LaterAnswer, Lends,
     MethodCall, MethodFault, MethodRequest, MethodResult, NamingError, NoFieldsBuilder,
     NoFieldsPipeline, NoFieldsReader, ObjectDispatch, Pipeline, ResultPayload, Results,
-    ServiceCall, ServiceObject, TypedClient, TypedPipeline, TypedResolver, refuse, refuse_method,
+    ServiceCall, ServiceObject, SharedClient, TypedClient, TypedPipeline, TypedResolver, refuse,
+    refuse_method,
 };
 use cp_objects::{Context, SessionCap};
 use cp_servants::Reply;
@@ -239,6 +240,9 @@ pub type NotebookDispatch<T> = ObjectDispatch<T, NotebookClient>;
 
 /// Resolves a promise of an object of `interface Notebook`: one that is named before it is there.
 pub type NotebookResolver = TypedResolver<NotebookClient>;
+
+/// An object of `interface Notebook` that all connections of a host may name.
+pub type NotebookShared = SharedClient<NotebookClient>;
 
 impl<T: NotebookServer> Dispatch<T> for NotebookClient {
     ghost takes = { NotebookTakes T.notebook_kind };

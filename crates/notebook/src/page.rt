@@ -19,7 +19,7 @@ use cp_fields::{StructReader, TextReader, WrongKind};
 use cp_interfaces::{
     CallTarget, Caller, CapTableBuilder, Dispatch, LaterAnswer, Lends, MethodCall, MethodFault,
     MethodRequest, MethodResult, NoFieldsReader, ObjectDispatch, Results, ServiceCall,
-    ServiceObject, TypedClient, TypedPipeline, TypedResolver, refuse, refuse_method,
+    ServiceObject, SharedClient, TypedClient, TypedPipeline, TypedResolver, refuse, refuse_method,
 };
 use cp_objects::{Context, SessionCap};
 use cp_servants::Reply;
@@ -102,6 +102,9 @@ pub type PageDispatch<T> = ObjectDispatch<T, PageClient>;
 
 /// Resolves a promise of an object of `interface Page`: one that is named before it is there.
 pub type PageResolver = TypedResolver<PageClient>;
+
+/// An object of `interface Page` that all connections of a host may name.
+pub type PageShared = SharedClient<PageClient>;
 
 impl<T: PageServer> Dispatch<T> for PageClient {
     ghost takes = { PageTakes T.page_kind };

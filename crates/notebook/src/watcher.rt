@@ -18,7 +18,7 @@ use cp_fields::{StructReader, TextReader, WrongKind};
 use cp_interfaces::{
     CallTarget, Caller, Dispatch, LaterAnswer, MethodCall, MethodFault, MethodRequest,
     MethodResult, NoFieldsBuilder, NoFieldsPipeline, NoFieldsReader, ObjectDispatch, ServiceCall,
-    ServiceObject, TypedClient, TypedResolver, refuse, refuse_method,
+    ServiceObject, SharedClient, TypedClient, TypedResolver, refuse, refuse_method,
 };
 use cp_objects::{Context, SessionCap};
 use cp_servants::Reply;
@@ -109,6 +109,9 @@ pub type WatcherDispatch<T> = ObjectDispatch<T, WatcherClient>;
 
 /// Resolves a promise of an object of `interface Watcher`: one that is named before it is there.
 pub type WatcherResolver = TypedResolver<WatcherClient>;
+
+/// An object of `interface Watcher` that all connections of a host may name.
+pub type WatcherShared = SharedClient<WatcherClient>;
 
 impl<T: WatcherServer> Dispatch<T> for WatcherClient {
     ghost takes = { WatcherTakes T.watcher_kind };

@@ -23,7 +23,8 @@ use cp_fields::{StructReader, TextReader, WrongKind};
 use cp_interfaces::{
     CallTarget, Caller, CapFault, CapTable, CapTableBuilder, Dispatch, LaterAnswer, MethodCall,
     MethodFault, MethodRequest, MethodResult, NamingError, ObjectDispatch, Pipeline, ResultPayload,
-    Results, ServiceCall, ServiceObject, TypedClient, TypedResolver, refuse, refuse_method,
+    Results, ServiceCall, ServiceObject, SharedClient, TypedClient, TypedResolver, refuse,
+    refuse_method,
 };
 use cp_objects::{Context, SessionCap};
 use cp_servants::Reply;
@@ -121,6 +122,9 @@ pub type ChatDispatch<T> = ObjectDispatch<T, ChatClient>;
 
 /// Resolves a promise of an object of `interface Chat`: one that is named before it is there.
 pub type ChatResolver = TypedResolver<ChatClient>;
+
+/// An object of `interface Chat` that all connections of a host may name.
+pub type ChatShared = SharedClient<ChatClient>;
 
 impl<T: ChatServer> Dispatch<T> for ChatClient {
     ghost takes = { ChatTakes T.chat_kind };

@@ -8,15 +8,15 @@ mod member_;
 pub use chat::{
     ChatClient, ChatDispatch, ChatJoinCall, ChatJoinLater, ChatJoinParamsReader,
     ChatJoinResultsBuilder, ChatJoinResultsPipeline, ChatJoinResultsReader, ChatResolver,
-    ChatServer,
+    ChatServer, ChatShared,
 };
 pub use listener::{
     ListenerClient, ListenerDispatch, ListenerHeardCall, ListenerHeardLater,
     ListenerHeardParamsReader, ListenerHeardResultsBuilder, ListenerHeardResultsPipeline,
-    ListenerHeardResultsReader, ListenerResolver, ListenerServer,
+    ListenerHeardResultsReader, ListenerResolver, ListenerServer, ListenerShared,
 };
 pub use member_::{
     MemberClient, MemberDispatch, MemberResolver, MemberSayCall, MemberSayLater,
     MemberSayParamsReader, MemberSayResultsBuilder, MemberSayResultsPipeline,
-    MemberSayResultsReader, MemberServer,
+    MemberSayResultsReader, MemberServer, MemberShared,
 };

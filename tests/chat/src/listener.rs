@@ -18,7 +18,7 @@ use cp_fields::{StructReader, TextReader, WrongKind};
 use cp_interfaces::{
     CallTarget, Caller, Dispatch, LaterAnswer, MethodCall, MethodFault, MethodRequest,
     MethodResult, NoFieldsBuilder, NoFieldsPipeline, NoFieldsReader, ObjectDispatch, ServiceCall,
-    ServiceObject, TypedClient, TypedResolver, refuse, refuse_method,
+    ServiceObject, SharedClient, TypedClient, TypedResolver, refuse, refuse_method,
 };
 use cp_objects::{Context, SessionCap};
 use cp_servants::Reply;
@@ -111,6 +111,9 @@ pub type ListenerDispatch<T> = ObjectDispatch<T, ListenerClient>;
 
 /// Resolves a promise of an object of `interface Listener`: one that is named before it is there.
 pub type ListenerResolver = TypedResolver<ListenerClient>;
+
+/// An object of `interface Listener` that all connections of a host may name.
+pub type ListenerShared = SharedClient<ListenerClient>;
 
 impl<T: ListenerServer> Dispatch<T> for ListenerClient {
     ghost takes = { ListenerTakes T.listener_kind };

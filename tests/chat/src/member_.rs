@@ -18,7 +18,7 @@ use cp_fields::{StructReader, TextReader, WrongKind};
 use cp_interfaces::{
     CallTarget, Caller, Dispatch, LaterAnswer, MethodCall, MethodFault, MethodRequest,
     MethodResult, NoFieldsBuilder, NoFieldsPipeline, NoFieldsReader, ObjectDispatch, ServiceCall,
-    ServiceObject, TypedClient, TypedResolver, refuse, refuse_method,
+    ServiceObject, SharedClient, TypedClient, TypedResolver, refuse, refuse_method,
 };
 use cp_objects::{Context, SessionCap};
 use cp_servants::Reply;
@@ -105,6 +105,9 @@ pub type MemberDispatch<T> = ObjectDispatch<T, MemberClient>;
 
 /// Resolves a promise of an object of `interface Member`: one that is named before it is there.
 pub type MemberResolver = TypedResolver<MemberClient>;
+
+/// An object of `interface Member` that all connections of a host may name.
+pub type MemberShared = SharedClient<MemberClient>;
 
 impl<T: MemberServer> Dispatch<T> for MemberClient {
     ghost takes = { MemberTakes T.member_kind };

@@ -31,8 +31,8 @@ use cp_fields::{DataReader, List, StructReader, TextReader, WrongKind};
 use cp_interfaces::{
     CallTarget, Caller, CapFault, CapTable, CapTableBuilder, Dispatch, LaterAnswer, Lends,
     MethodCall, MethodFault, MethodRequest, MethodResult, NamingError, ObjectDispatch, Pipeline,
-    ResultPayload, Results, ServiceCall, ServiceObject, TypedClient, TypedPipeline, TypedResolver,
-    refuse, refuse_method,
+    ResultPayload, Results, ServiceCall, ServiceObject, SharedClient, TypedClient, TypedPipeline,
+    TypedResolver, refuse, refuse_method,
 };
 use cp_objects::{Context, SessionCap};
 use cp_servants::Reply;
@@ -232,6 +232,9 @@ pub type BlankDispatch<T> = ObjectDispatch<T, BlankClient>;
 
 /// Resolves a promise of an object of `interface Blank`: one that is named before it is there.
 pub type BlankResolver = TypedResolver<BlankClient>;
+
+/// An object of `interface Blank` that all connections of a host may name.
+pub type BlankShared = SharedClient<BlankClient>;
 
 impl<T: BlankServer> Dispatch<T> for BlankClient {
     ghost takes = { BlankTakes T.blank_kind };

@@ -9,7 +9,7 @@ pub use blank::{
     BlankClient, BlankDispatch, BlankGiveCall, BlankGiveLater, BlankGiveParamsReader,
     BlankGiveResultsBuilder, BlankGiveResultsPipeline, BlankGiveResultsReader, BlankHoldCall,
     BlankHoldLater, BlankHoldParamsReader, BlankHoldResultsBuilder, BlankHoldResultsPipeline,
-    BlankHoldResultsReader, BlankResolver, BlankServer, BlankTakeCall, BlankTakeLater,
+    BlankHoldResultsReader, BlankResolver, BlankServer, BlankShared, BlankTakeCall, BlankTakeLater,
     BlankTakeParamsReader, BlankTakeResultsBuilder, BlankTakeResultsPipeline,
     BlankTakeResultsReader,
 };

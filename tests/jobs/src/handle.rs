@@ -19,7 +19,7 @@ use cp_fields::{StructReader, TextReader, WrongKind};
 use cp_interfaces::{
     CallTarget, Caller, CapTableBuilder, Dispatch, LaterAnswer, Lends, MethodCall, MethodFault,
     MethodRequest, MethodResult, NoFieldsReader, ObjectDispatch, Results, ServiceCall,
-    ServiceObject, TypedClient, TypedPipeline, TypedResolver, refuse, refuse_method,
+    ServiceObject, SharedClient, TypedClient, TypedPipeline, TypedResolver, refuse, refuse_method,
 };
 use cp_objects::{Context, SessionCap};
 use cp_servants::Reply;
@@ -102,6 +102,9 @@ pub type HandleDispatch<T> = ObjectDispatch<T, HandleClient>;
 
 /// Resolves a promise of an object of `interface Handle`: one that is named before it is there.
 pub type HandleResolver = TypedResolver<HandleClient>;
+
+/// An object of `interface Handle` that all connections of a host may name.
+pub type HandleShared = SharedClient<HandleClient>;
 
 impl<T: HandleServer> Dispatch<T> for HandleClient {
     ghost takes = { HandleTakes T.handle_kind };

@@ -6,18 +6,19 @@ mod queue;
 mod task;
 
 pub use handle::{
-    HandleClient, HandleDispatch, HandleResolver, HandleServer, HandleWaitCall, HandleWaitLater,
-    HandleWaitParamsReader, HandleWaitResultsBuilder, HandleWaitResultsPipeline,
+    HandleClient, HandleDispatch, HandleResolver, HandleServer, HandleShared, HandleWaitCall,
+    HandleWaitLater, HandleWaitParamsReader, HandleWaitResultsBuilder, HandleWaitResultsPipeline,
     HandleWaitResultsReader,
 };
 pub use queue::{
-    QueueClient, QueueDispatch, QueueResolver, QueueServer, QueueSubmitCall, QueueSubmitLater,
-    QueueSubmitParamsReader, QueueSubmitResultsBuilder, QueueSubmitResultsPipeline,
-    QueueSubmitResultsReader, QueueTakeCall, QueueTakeLater, QueueTakeParamsReader,
-    QueueTakeResultsBuilder, QueueTakeResultsPipeline, QueueTakeResultsReader,
+    QueueClient, QueueDispatch, QueueResolver, QueueServer, QueueShared, QueueSubmitCall,
+    QueueSubmitLater, QueueSubmitParamsReader, QueueSubmitResultsBuilder,
+    QueueSubmitResultsPipeline, QueueSubmitResultsReader, QueueTakeCall, QueueTakeLater,
+    QueueTakeParamsReader, QueueTakeResultsBuilder, QueueTakeResultsPipeline,
+    QueueTakeResultsReader,
 };
 pub use task::{
     TaskClient, TaskDispatch, TaskDoneCall, TaskDoneLater, TaskDoneParamsReader,
     TaskDoneResultsBuilder, TaskDoneResultsPipeline, TaskDoneResultsReader, TaskResolver,
-    TaskServer,
+    TaskServer, TaskShared,
 };

@@ -24,8 +24,8 @@ use cp_fields::{StructReader, TextReader, WrongKind};
 use cp_interfaces::{
     CallTarget, Caller, CapFault, CapTable, CapTableBuilder, Dispatch, LaterAnswer, MethodCall,
     MethodFault, MethodRequest, MethodResult, NamingError, NoFieldsReader, ObjectDispatch,
-    Pipeline, ResultPayload, Results, ServiceCall, ServiceObject, TypedClient, TypedResolver,
-    refuse, refuse_method,
+    Pipeline, ResultPayload, Results, ServiceCall, ServiceObject, SharedClient, TypedClient,
+    TypedResolver, refuse, refuse_method,
 };
 use cp_objects::{Context, SessionCap};
 use cp_servants::Reply;
@@ -149,6 +149,9 @@ pub type QueueDispatch<T> = ObjectDispatch<T, QueueClient>;
 
 /// Resolves a promise of an object of `interface Queue`: one that is named before it is there.
 pub type QueueResolver = TypedResolver<QueueClient>;
+
+/// An object of `interface Queue` that all connections of a host may name.
+pub type QueueShared = SharedClient<QueueClient>;
 
 impl<T: QueueServer> Dispatch<T> for QueueClient {
     ghost takes = { QueueTakes T.queue_kind };

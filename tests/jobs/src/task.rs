@@ -18,7 +18,7 @@ use cp_fields::{StructReader, TextReader, WrongKind};
 use cp_interfaces::{
     CallTarget, Caller, Dispatch, LaterAnswer, MethodCall, MethodFault, MethodRequest,
     MethodResult, NoFieldsBuilder, NoFieldsPipeline, NoFieldsReader, ObjectDispatch, ServiceCall,
-    ServiceObject, TypedClient, TypedResolver, refuse, refuse_method,
+    ServiceObject, SharedClient, TypedClient, TypedResolver, refuse, refuse_method,
 };
 use cp_objects::{Context, SessionCap};
 use cp_servants::Reply;
@@ -105,6 +105,9 @@ pub type TaskDispatch<T> = ObjectDispatch<T, TaskClient>;
 
 /// Resolves a promise of an object of `interface Task`: one that is named before it is there.
 pub type TaskResolver = TypedResolver<TaskClient>;
+
+/// An object of `interface Task` that all connections of a host may name.
+pub type TaskShared = SharedClient<TaskClient>;
 
 impl<T: TaskServer> Dispatch<T> for TaskClient {
     ghost takes = { TaskTakes T.task_kind };

@@ -7,5 +7,5 @@ pub use store::{
     StoreClient, StoreDispatch, StoreGetCall, StoreGetLater, StoreGetParamsReader,
     StoreGetResultsBuilder, StoreGetResultsPipeline, StoreGetResultsReader, StorePutCall,
     StorePutLater, StorePutParamsReader, StorePutResultsBuilder, StorePutResultsPipeline,
-    StorePutResultsReader, StoreResolver, StoreServer,
+    StorePutResultsReader, StoreResolver, StoreServer, StoreShared,
 };

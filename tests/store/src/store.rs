@@ -19,8 +19,8 @@ use cp_fields::{StructReader, TextReader, WrongKind};
 use cp_interfaces::{
     CallTarget, Caller, CapTableBuilder, Dispatch, LaterAnswer, Lends, MethodCall, MethodFault,
     MethodRequest, MethodResult, NoFieldsBuilder, NoFieldsPipeline, NoFieldsReader, ObjectDispatch,
-    Results, ServiceCall, ServiceObject, TypedClient, TypedPipeline, TypedResolver, refuse,
-    refuse_method,
+    Results, ServiceCall, ServiceObject, SharedClient, TypedClient, TypedPipeline, TypedResolver,
+    refuse, refuse_method,
 };
 use cp_objects::{Context, SessionCap};
 use cp_servants::Reply;
@@ -147,6 +147,9 @@ pub type StoreDispatch<T> = ObjectDispatch<T, StoreClient>;
 
 /// Resolves a promise of an object of `interface Store`: one that is named before it is there.
 pub type StoreResolver = TypedResolver<StoreClient>;
+
+/// An object of `interface Store` that all connections of a host may name.
+pub type StoreShared = SharedClient<StoreClient>;
 
 impl<T: StoreServer> Dispatch<T> for StoreClient {
     ghost takes = { StoreTakes T.store_kind };

@@ -25,6 +25,8 @@ mod frames;
 #[cfg(test)]
 mod host;
 #[cfg(test)]
+mod readiness;
+#[cfg(test)]
 mod server;
 #[cfg(test)]
 mod services;

@@ -16,5 +16,6 @@ mod pair;
 mod promising;
 mod resting;
 mod ringing;
+mod sharing;
 mod streaming;
 mod watching;

@@ -38,6 +38,9 @@ pub type $Type$Dispatch<T> = ObjectDispatch<T, $Type$Client>;
 /// Resolves a promise of an object of `interface $title$`: one that is named before it is there.
 pub type $Type$Resolver = TypedResolver<$Type$Client>;
 
+/// An object of `interface $title$` that all connections of a host may name.
+pub type $Type$Shared = SharedClient<$Type$Client>;
+
 impl<T: $Type$Server> Dispatch<T> for $Type$Client {
     ghost takes = { $insert takes_calls$ };
 
@@ -92,6 +95,7 @@ use cp_objects::Context;
 use cp_servants::Reply;
 use cp_interfaces::Dispatch;
 use cp_interfaces::ObjectDispatch;
+use cp_interfaces::SharedClient;
 use cp_interfaces::TypedResolver;
 use cp_interfaces::MethodCall;
 use cp_interfaces::refuse_method;

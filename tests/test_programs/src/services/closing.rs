@@ -1,6 +1,7 @@
 //! Objects are told their end once, however their connection ends, and may have objects of other sessions woken then.
 
 use crate::frames::{ABORT, BOOTSTRAP, CALL_BOOTSTRAP, STRANGE_FINISH, bytes_of};
+use crate::services::ends::waker_in;
 use crate::services::notebook::done;
 use cp_client::Client;
 use cp_frame::Mode;
@@ -188,13 +189,13 @@ fn objects_are_told_their_end_once(rt: HostRuntime) {
         drop(bytes);
         write(&mut session, 0);
         expect_gone(&rt, &gone, &[]);
-        check!(&rt; session.next_wake().is_none());
+        check!(&rt; session.next_letter().is_none());
         end(&rt, alloc, &mut session, way);
         expect_gone(&rt, &gone, &[0, 1]);
         check!(&rt; session.objects().len() == 0);
         // What they want then is done.
         for object in [0, 1] {
-            let waker = session.next_wake().expect(&rt, "a wake");
+            let waker = waker_in(session.next_letter()).expect(&rt, "a wake");
             check!(&rt; waker.session == 9 && waker.object == object);
         }
         // Nothing tells them again.
@@ -203,7 +204,7 @@ fn objects_are_told_their_end_once(rt: HostRuntime) {
         session.tick(1_000_000_000);
         session.close(1_000_000_000);
         expect_gone(&rt, &gone, &[0, 1]);
-        check!(&rt; session.next_wake().is_none() && session.is_over());
+        check!(&rt; session.next_letter().is_none() && session.is_over());
         drop(session);
         drop(gone);
     }

@@ -1,6 +1,6 @@
 //! Calls that are answered later by another object, or dropped, and objects that are told their end.
 
-use crate::services::ends::{Ends, Got, Seen, Step, With};
+use crate::services::ends::{Ends, Got, Seen, Step, With, waker_in};
 use crate::services::notebook::NOTES;
 use cp_objects::{Objects, ObjectTable, Context, LaterCall, ServedObject, ServantObject, Waker};
 use cp_refs::{Cap, Caps, Outcome, Request};
@@ -387,10 +387,10 @@ fn all_ends_are_told(rt: HostRuntime) {
         expect_ended(&rt, &board, &[0, 1, 2]);
     }
     for _ in 0..3 {
-        let woken = family.next_wake().expect(&rt, "a wake");
+        let woken = waker_in(family.next_letter()).expect(&rt, "a wake");
         check!(&rt; woken.session == 9);
     }
-    check!(&rt; family.next_wake().is_none());
+    check!(&rt; family.next_letter().is_none());
     drop(family);
     drop(board);
 }

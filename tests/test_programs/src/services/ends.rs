@@ -4,7 +4,7 @@
 use crate::services::notebook::NOTES;
 use cp_dispatch::SessionEvent;
 use cp_frame::Mode;
-use cp_objects::{ObjectTable, Waker};
+use cp_objects::{Letter, LetterBody, ObjectTable, Waker};
 use cp_refs::{Cap, Caps, Outcome, Path, Request};
 use cp_servants::{PayloadBuilder, results_of, word_in};
 use cp_session::{CallingSession, DrivenSession, SessionLimits, SessionOptions, SessionOver};
@@ -97,6 +97,8 @@ pub(crate) struct Seen {
 pub(crate) struct Got {
     pub(crate) word: u64,
     pub(crate) import: Option<u32>,
+    /// Whether its table names an object of the client first.
+    pub(crate) is_own: bool,
     pub(crate) is_failed: bool,
 }
 
@@ -132,7 +134,7 @@ impl<C: ObjectTable, S: ObjectTable> Ends<C, S> {
                 asked = self.client.call(result, request).ok();
             }
             Step::Take => got = self.take(rt),
-            Step::HandOn => woken = self.server.next_wake(),
+            Step::HandOn => woken = waker_in(self.server.next_letter()),
             other => self.go_on(rt, other),
         }
         Seen {
@@ -269,6 +271,19 @@ fn give<H: ObjectTable>(rt: &impl Abort, session: &mut SessionOver<H>, bytes: &[
     check!(rt; false);
 }
 
+/// Who is woken by a letter.
+pub(crate) fn waker_in(letter: Option<Letter>) -> Option<Waker> {
+    let letter = letter?;
+    let session = letter.to;
+    match letter.body {
+        LetterBody::Wake(object) => Some(Waker { session, object }),
+        other => {
+            drop(other);
+            None
+        }
+    }
+}
+
 /// A call of a method.
 fn request(rt: &impl Abort, alloc: Global, method: u16, with: With) -> Request {
     let params = PayloadBuilder::new(alloc);
@@ -311,11 +326,13 @@ fn got_of(outcome: &Outcome) -> Got {
                 None => 0,
             },
             import: first_import(caps),
+            is_own: matches!(caps.caps().first(), Some(Cap::Object(_))),
             is_failed: false,
         },
         _ => Got {
             word: 0,
             import: None,
+            is_own: false,
             is_failed: true,
         },
     }

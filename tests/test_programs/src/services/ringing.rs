@@ -2,6 +2,7 @@
 
 use crate::devices::{Device, Fails};
 use crate::frames::{BOOTSTRAP, CALL_BOOTSTRAP, bytes_of};
+use crate::services::ends::waker_in;
 use crate::services::notebook::done;
 use cp_client::{Client, ClientFault};
 use cp_frame::Mode;
@@ -138,10 +139,10 @@ fn expect_trial<R: Read + Drop, W: Write + Drop, O: ServedObject<Makes = O>>(
     check!(rt; client.stats().sent == trial.sent);
     expect_polled(rt, polled, trial.served);
     if trial.sent > 0 {
-        let waker = client.next_wake().expect(rt, "a wake");
+        let waker = waker_in(client.next_letter()).expect(rt, "a wake");
         check!(rt; waker.session == 8 && waker.object == 1);
     }
-    check!(rt; client.next_wake().is_none());
+    check!(rt; client.next_letter().is_none());
     // There is no object 5.
     check!(rt; client.wake(1).is_ok() && client.wake(5).is_ok());
     check!(rt; client.serve().is_ok());

@@ -1,4 +1,5 @@
 use Rattle.std.proofs.Common.{◌≡◌, ℕ, List, refl}
+use Rattle.cp_objects.specs.AnyObject.{any_object}
 use Rattle.cp_objects.specs.Objects.{objects_of, own_of}
 use Rattle.cp_objects.specs.Context.{context_of}
 use Rattle.cp_objects.proofs.Holding.{held_at}
@@ -19,6 +20,6 @@ returns g c =
       own =
           held_at (λ (holds : List ℕ). c.in_ok-given.given ≡ own_of c.args.number holds c.in_ok-said.said c.args.self.now.pending_answers) c.args.self.now.members c.args.number
           (record c.entry_mut-member.result.now { object = c.poll.new.self }) _ refl c.in_ok-given.ensures;
-      goes_on = goes_by g.O.ServedObject.makes _ _ _ _ _ c.has_more-has_more.result noted.gave noted.more noted.rests c.has_more-has_more.ensures;
+      goes_on = goes_by (any_object g.O.ServedObject.makes) _ _ _ _ _ c.has_more-has_more.result noted.gave noted.more noted.rests c.has_more-has_more.ensures;
       is = c.in_ok-settle.ensures;
     }

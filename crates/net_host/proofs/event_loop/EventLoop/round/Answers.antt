@@ -13,7 +13,7 @@ pub returns-in_err-turn-clause-turns : goal.returns-in_err-turn-clause-turns
 returns-in_err-turn-clause-turns g c = turns c.loop.invariant.turns c.turn.ensures.turns
 
 pub returns-clause-turns : goal.returns-clause-turns
-returns-clause-turns g c = turns (rounds_both c.loop.invariant.turns c.in_ok-wake_each.ensures.turns) c.sweep.ensures.turns
+returns-clause-turns g c = turns (rounds_both c.loop.invariant.turns c.in_ok-deliver_each.ensures.turns) c.sweep.ensures.turns
 
-pub returns-in_err-wake_each-clause-turns : goal.returns-in_err-wake_each-clause-turns
-returns-in_err-wake_each-clause-turns g c = rounds_both c.loop.invariant.turns c.wake_each.ensures.turns
+pub returns-in_err-deliver_each-clause-turns : goal.returns-in_err-deliver_each-clause-turns
+returns-in_err-deliver_each-clause-turns g c = rounds_both c.loop.invariant.turns c.deliver_each.ensures.turns

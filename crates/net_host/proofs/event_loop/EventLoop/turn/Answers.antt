@@ -7,13 +7,13 @@ use Rattle.net_host.specs.HostedConnections.{served_of}
 use Rattle.net_host.proofs.event_loop.EventLoop.turn.Goals as goal
 
 pub returns-in_err-reserve-clause-turns : goal.returns-in_err-reserve-clause-turns
-returns-in_err-reserve-clause-turns g c = rests (record { same = λ key. refl; ended = c.reserve.ensures.items; budget = refl; wakes = refl; due = refl })
+returns-in_err-reserve-clause-turns g c = rests (record { same = λ key. refl; ended = c.reserve.ensures.items; budget = refl; letters = refl; due = refl })
 
 pub returns-in_default-clause-turns : goal.returns-in_default-clause-turns
-returns-in_default-clause-turns g c = rests (record { same = λ key. refl; ended = c.reserve.ensures.items; budget = refl; wakes = refl; due = refl })
+returns-in_default-clause-turns g c = rests (record { same = λ key. refl; ended = c.reserve.ensures.items; budget = refl; letters = refl; due = refl })
 
 pub returns-in_default-get_mut-clause-turns : goal.returns-in_default-get_mut-clause-turns
-returns-in_default-get_mut-clause-turns g c = rests (record { same = λ key. refl; ended = c.reserve.ensures.items; budget = refl; wakes = refl; due = refl })
+returns-in_default-get_mut-clause-turns g c = rests (record { same = λ key. refl; ended = c.reserve.ensures.items; budget = refl; letters = refl; due = refl })
 
 pub returns-in-More-clause-turns : goal.returns-in-More-clause-turns
 returns-in-More-clause-turns g c =
@@ -38,7 +38,7 @@ returns-in-Over-clause-turns g c =
     ends c.in-Some.key (served_of g.S.DrivenSession.state g.D.Socket.flow c.in-Some-get_mut.hosted.now) over.2.2 over.0 c.in-Over.end (sym (ap (λ o. option_map (served_of g.S.DrivenSession.state g.D.Socket.flow) o) c.in-Some-get_mut.ensures.value)) over.2.3
     (seen_taken g.S.DrivenSession.state g.D.Socket.flow c.args.self.now.guests c.close.new.self.guests _ c.in-Some-get_mut.hosted.now c.turn.new.self c.in-Some-get_mut.ensures.value c.close.ensures.updates)
     (rw c.reserve.ensures.items at (c.close.ensures.ended ∙ ap (λ x. c.reserve.new.self.items ++ x ∷ []) is))
-    (rw (← c.number_of-account.ensures) (c.close.ensures.budget ∙ c.in-Over.ensures.accounts)) (ap (λ w. w.items) c.close.ensures.wakes ∙ over.1) (ap (λ t. t.sweep_at) c.close.ensures.time)
+    (rw (← c.number_of-account.ensures) (c.close.ensures.budget ∙ c.in-Over.ensures.accounts)) (ap (λ w. w.items) c.close.ensures.letters ∙ over.1) (ap (λ t. t.sweep_at) c.close.ensures.time)
 
 pub returns-in-More-clause-len : goal.returns-in-More-clause-len
 returns-in-More-clause-len g c = as_many c.args.self.now.guests c.in-Some.key c.in-Some-get_mut.hosted.now c.turn.new.self c.in-Some-get_mut.ensures.value

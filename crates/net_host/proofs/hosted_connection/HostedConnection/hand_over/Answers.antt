@@ -5,10 +5,10 @@ use Rattle.net_host.specs.HostedConnections.{served_of}
 use Rattle.net_host.proofs.hosted_connection.HostedConnection.hand_over.Goals as goal
 
 pub loop-init : goal.loop-init
-loop-init g c = hands_begin (served_of g.S.DrivenSession.state g.D.Socket.flow c.args.self.now) c.args.wakes.now.items
+loop-init g c = hands_begin (served_of g.S.DrivenSession.state g.D.Socket.flow c.args.self.now) c.args.letters.now.items
 
 pub loop-preserved : goal.loop-preserved
-loop-preserved g c = hands_next _ _ _ _ c.in-Some.waker c.loop.invariant c.reserve.ensures.items c.in-Some.ensures refl c.push_back_reserved.ensures.items
+loop-preserved g c = hands_next _ _ _ _ c.in-Some.letter c.loop.invariant c.reserve.ensures.items c.in-Some.ensures refl c.push_back_reserved.ensures.items
 
 pub returns-in_default-clause-all : goal.returns-in_default-clause-all
 returns-in_default-clause-all g c = hands_end _ _ _ c.loop.invariant c.reserve.ensures.items c.in_default.ensures refl

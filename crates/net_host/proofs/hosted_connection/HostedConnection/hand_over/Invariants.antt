@@ -3,4 +3,4 @@ use Rattle.net_host.proofs.hosted_connection.HostedConnection.hand_over.Given as
 
 -- some were handed out
 abbrev pub invariant-loop : goal.invariant-loop
-invariant-loop g l = Adds l.fn.wakes.items (λ woken. HandsSome g.S.DrivenSession.table (served_of g.S.DrivenSession.state g.D.Socket.flow l.fn.self) woken (served_of g.S.DrivenSession.state g.D.Socket.flow l.self)) l.wakes.items
+invariant-loop g l = Adds l.fn.letters.items (λ sent. HandsSome g.S.DrivenSession.table (served_of g.S.DrivenSession.state g.D.Socket.flow l.fn.self) sent (served_of g.S.DrivenSession.state g.D.Socket.flow l.self)) l.letters.items
