@@ -4,7 +4,7 @@ use crate::chat_server::{Room, Served, new_objects, new_room};
 use chat::{ChatClient, ListenerClient, ListenerHeardCall, ListenerDispatch, ListenerServer};
 use jamdrosek::client::Client;
 use jamdrosek::interfaces::{MethodResult, ServiceObject};
-use jamdrosek::server::{Objects, Context, Waker};
+use jamdrosek::server::{Context, Letter, Objects};
 use jamdrosek::session::{DrivenSession, Session, SessionLimits, SessionOptions};
 use jamdrosek::{Limits, Mode};
 use std::alloc::Global;
@@ -33,8 +33,8 @@ fn told(alloc: Global, room: &Rc<RefCell<Room>>) -> anyhow::Result<Vec<u8>> {
     let (joins, _) = talk(alloc, &[], "Ann", None)?;
     let (talks, _) = talk(alloc, &[], "Bob", Some("hello"))?;
     let mut silent = serve(alloc, room, 1, &joins)?;
-    if let Some(waker) = woken(alloc, room, &talks)? {
-        silent.wake(waker.object)?;
+    if let Some(letter) = woken(alloc, room, &talks)? {
+        silent.deliver(letter.body)?;
     }
     silent.poll(0)?;
     let sent = Vec::from_slice(alloc, silent.outgoing());
@@ -42,12 +42,12 @@ fn told(alloc: Global, room: &Rc<RefCell<Room>>) -> anyhow::Result<Vec<u8>> {
     Ok(sent?)
 }
 
-/// Whom the session of a client that talks wants to be woken.
-fn woken(alloc: Global, room: &Rc<RefCell<Room>>, bytes: &[u8]) -> anyhow::Result<Option<Waker>> {
+/// What the session of a client that talks sends to another one: whom that is to wake.
+fn woken(alloc: Global, room: &Rc<RefCell<Room>>, bytes: &[u8]) -> anyhow::Result<Option<Letter>> {
     let mut session = serve(alloc, room, 2, bytes)?;
-    let waker = session.next_wake();
+    let letter = session.next_letter();
     drop(session);
-    Ok(waker)
+    Ok(letter)
 }
 
 /// The session of this number, once it took these bytes.

@@ -13,22 +13,20 @@ pub fn run(rt: &HostRuntime, job: Option<String>) -> anyhow::Result<()> {
     let root = client.bootstrap()?.cap(alloc);
     let queue = QueueClient::new(alloc, client.own(root));
     if let Some(job) = job {
+        let handle = queue.submit(&mut client, job.as_str())?.handle()?;
+        let waited = handle.wait(&mut client)?;
         // A job that takes longer is given up, as the connection ends.
         let time = Duration::from_secs(10);
-        let waited = queue
-            .submit(&mut client, job.as_str())?
-            .handle()?
-            .wait(&mut client)?;
-        let results = stream.results_within(&mut client, waited.question(), time)?;
-        let output = waited.results(&results)?.output()?.text(alloc)?;
+        let came = stream.results_within(&mut client, waited.question(), time)?;
+        let output = waited.results(&came)?.output()?.text(alloc)?;
         println!(rt; "{}", output.as_str())?;
         return Ok(());
     }
-    for _ in 0..u64::MAX {
+    loop {
         let taken = queue.take(&mut client)?;
-        let results = client.results(taken.question())?;
-        let job = taken.results(&results)?.job()?.text(alloc)?;
-        let task = taken.results(&results)?.task_client(alloc, results.caps())?;
+        let came = client.results(taken.question())?;
+        let job = taken.results(&came)?.job()?.text(alloc)?;
+        let task = taken.results(&came)?.task_client(alloc, came.caps())?;
         let mut output = String::new(alloc);
         for letter in job.as_str().chars().rev() {
             output.push(letter)?;
@@ -39,5 +37,4 @@ pub fn run(rt: &HostRuntime, job: Option<String>) -> anyhow::Result<()> {
             client.release(import)?;
         }
     }
-    Ok(())
 }

@@ -31,7 +31,7 @@ pub struct Jobs {
     outputs: BTreeMap<u64, String>,
     /// What wakes the handle of each.
     handles: BTreeMap<u64, Waker>,
-    /// What wakes the queues whose workers wait, by the numbers of their connections.
+    /// What wakes the queues whose workers wait, by the numbers of their sessions.
     idle: BTreeMap<u64, Waker>,
 }
 
@@ -39,8 +39,8 @@ impl Jobs {
     /// Adds a job that no worker has, and wakes those who wait for one.
     fn open(&mut self, number: u64, job: String, context: &mut Context<Served>) -> MethodResult {
         self.open.insert(number, job)?;
-        for (_, waker) in &self.idle {
-            context.wake(*waker)?;
+        while let Some((_, waker)) = self.idle.pop_first() {
+            context.wake(waker)?;
         }
         Ok(())
     }
@@ -50,9 +50,9 @@ pub fn run(rt: &HostRuntime) -> anyhow::Result<()> {
     let listener = Listener::bind(rt, SocketAddr::from((Ipv4Addr::LOCALHOST, 7003)))?;
     let mut host = Host::new(rt, HostConfig::standard(), listener)?;
     let jobs = new_jobs(rt.alloc())?;
-    for _ in 0..u64::MAX {
-        if let Some(HostEvent::Connected { number, .. }) = host.next(rt)? {
-            host.admit(new_objects(rt.alloc(), &jobs, number)?)?;
+    while let Some(event) = host.next(rt)? {
+        if let HostEvent::Connected { .. } = event {
+            host.admit(new_objects(rt.alloc(), &jobs)?)?;
         }
     }
     Ok(())
@@ -70,16 +70,11 @@ pub fn new_jobs(alloc: Global) -> anyhow::Result<Shared> {
     Ok(Rc::new(alloc, RefCell::new(jobs))?)
 }
 
-/// The objects of the connection of this number: a queue at first.
-pub fn new_objects(alloc: Global, jobs: &Shared, number: u64) -> anyhow::Result<Objects<Served>> {
+/// The objects of a connection: a queue at first.
+pub fn new_objects(alloc: Global, jobs: &Shared) -> anyhow::Result<Objects<Served>> {
     let (jobs, takes) = (jobs.clone()?, VecDeque::new(alloc));
-    let queue = Queue {
-        jobs,
-        number,
-        takes,
-    };
     let mut objects = Objects::new(alloc);
-    objects.add(Served::Left(QueueDispatch::new(queue)))?;
+    objects.add(Served::Left(QueueDispatch::new(Queue { jobs, takes })))?;
     Ok(objects)
 }
 
@@ -87,7 +82,6 @@ pub fn new_objects(alloc: Global, jobs: &Shared, number: u64) -> anyhow::Result<
 #[derive(Drop)]
 pub struct Queue {
     jobs: Shared,
-    number: u64,
     takes: VecDeque<QueueTakeLater>,
 }
 
@@ -100,16 +94,11 @@ impl QueueServer for Queue {
         let job = call.params.job()?.text(context.alloc())?;
         let mut jobs = self.jobs.try_borrow_mut()?;
         jobs.submitted = jobs.submitted.saturating_add(1);
-        let number = jobs.submitted;
-        let waits = Vec::new(context.alloc());
-        let handle = Handle {
-            jobs: self.jobs.clone()?,
-            number,
-            waits,
-        };
+        let (number, waits) = (jobs.submitted, Vec::new(context.alloc()));
+        let handle = Handle { jobs: self.jobs.clone()?, number, waits };
         let handle = context.make(Served::Right(Either::Left(HandleDispatch::new(handle))))?;
-        call.results
-            .set_handle(HandleClient::new(context.alloc(), handle))?;
+        let handle = HandleClient::new(context.alloc(), handle);
+        call.results.set_handle(handle)?;
         jobs.open(number, job, context)
     }
 
@@ -129,27 +118,19 @@ impl ServiceObject for Queue {
     /// It was called or woken: gives jobs to those who wait for one.
     fn poll(&mut self, context: &mut Context<Served>) -> Result<Option<Settled>, MethodFault> {
         let mut jobs = self.jobs.try_borrow_mut()?;
-        while !self.takes.is_empty() {
+        while let Some(take) = self.takes.pop_front() {
             let Some((number, job)) = jobs.open.pop_first() else {
+                self.takes.push_front(take)?;
+                jobs.idle.insert(context.session(), context.waker())?;
                 break;
             };
             let mut results = QueueTakeResultsBuilder::new(context.alloc())?;
             results.set_job(job.as_str())?;
-            let task = Task {
-                jobs: self.jobs.clone()?,
-                number,
-                job: Some(job),
-            };
-            let task = context.make(Served::Right(Either::Right(TaskDispatch::new(task))))?;
+            let (jobs, job) = (self.jobs.clone()?, Some(job));
+            let task = TaskDispatch::new(Task { jobs, number, job });
+            let task = context.make(Served::Right(Either::Right(task)))?;
             results.set_task(TaskClient::new(context.alloc(), task))?;
-            if let Some(take) = self.takes.pop_front() {
-                take.answer(context, results)?;
-            }
-        }
-        if self.takes.is_empty() {
-            let _ = jobs.idle.remove(&self.number);
-        } else {
-            jobs.idle.insert(self.number, context.waker())?;
+            take.answer(context, results)?;
         }
         Ok(None)
     }
@@ -157,11 +138,6 @@ impl ServiceObject for Queue {
     /// A worker doesn't wait any longer.
     fn on_cancel(&mut self, ticket: u64, _context: &mut Context<Served>) -> MethodResult {
         self.takes.retain(|take| take.ticket() != ticket);
-        Ok(())
-    }
-
-    fn ended(&mut self, _context: &mut Context<Served>) -> MethodResult {
-        let _ = self.jobs.try_borrow_mut()?.idle.remove(&self.number);
         Ok(())
     }
 }

@@ -143,9 +143,8 @@ fn turn(rt: &HostRuntime, server: &mut Server) -> anyhow::Result<()> {
     server.host.wake_after(rt, 10)?;
     for _ in 0..u64::MAX {
         match server.host.next(rt)? {
-            Some(HostEvent::Connected { number, .. }) => {
-                let objects = new_objects(rt.alloc(), &server.jobs, number)?;
-                server.host.admit(objects)?;
+            Some(HostEvent::Connected { .. }) => {
+                server.host.admit(new_objects(rt.alloc(), &server.jobs)?)?;
             }
             Some(HostEvent::Woken) | None => break,
             Some(_) => {}

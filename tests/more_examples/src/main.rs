@@ -1,7 +1,9 @@
 //! Runs each example on its file of `data/`, under a heading. With the word `chat` it serves a chat room. With `jobs` it serves a queue of jobs,
 //! for which it works with `job`, and to which it submits the text after that. With `store` it serves a store,
-//! with `store-shared` one whose texts lie in Redis, and calls it with `store-client` and `store-returning`. With `again` it calls the notebook
-//! that `server` serves, with `way` and a number it serves so many calls, and with `shapes` it runs that example alone. Those of
+//! with `store-shared` one whose texts lie in Redis, and calls it with `store-client` and `store-returning`. With `directory` it serves
+//! a directory, with `gateway` and two ports it passes calls on to another server, with `clerk` it answers from what a store says, and with
+//! `pool` it hands out workers. With `again` it calls the notebook that `server` serves, with `way` and a
+//! number it serves so many calls, and with `shapes` it runs that example alone. Those of
 //! `crates/examples` are laid out beside them, as the file `also` says.
 #![tactic(auto)]
 
@@ -10,16 +12,21 @@ mod book;
 mod call;
 mod chat_server;
 mod chat_test;
+mod clerk;
 mod connection;
 mod copies;
 mod count;
+mod directory_server;
+mod directory_test;
 mod draft;
+mod gateway;
 mod jobs_client;
 mod jobs_server;
 mod jobs_test;
 mod notebook_client;
 mod notebook_server;
 mod notebook_test;
+mod pool;
 mod serve;
 mod shapes;
 mod store;
@@ -44,6 +51,10 @@ fn main(rt: HostRuntime) -> anyhow::Result<()> {
         Some(word) if word.as_str() == "store" => store_server::run(&rt),
         Some(word) if word.as_str() == "store-client" => store_client::run(&rt),
         Some(word) if word.as_str() == "again" => again::run(&rt),
+        Some(word) if word.as_str() == "directory" => directory_server::run(&rt),
+        Some(word) if word.as_str() == "gateway" => gateway::run(&rt),
+        Some(word) if word.as_str() == "clerk" => clerk::run(&rt),
+        Some(word) if word.as_str() == "pool" => pool::run(&rt),
         Some(word) if word.as_str() == "store-returning" => store_returning::run(&rt),
         Some(word) if word.as_str() == "store-shared" => store_shared::run(&rt),
         Some(word) if word.as_str() == "way" => way::run(&rt),
@@ -83,7 +94,9 @@ fn run_all(rt: &HostRuntime) -> anyhow::Result<()> {
     heading(rt, "chat_test")?;
     chat_test::run(rt)?;
     heading(rt, "jobs_test")?;
-    jobs_test::run(rt)
+    jobs_test::run(rt)?;
+    heading(rt, "directory_test")?;
+    directory_test::run(rt)
 }
 
 /// Prints an example's name on a line of its own.
