@@ -35,6 +35,8 @@
 #   lives     an hour of 950 connections that watch, open pages and go       the proof of examples, and an hour, with a fifth of a processor
 #   queue     a queue of jobs, with clients and workers of the reference library   the proof of a program of its own, and half a minute
 #   chat      a chat room with 999 silent members of the reference library      the proof of a program of its own, and half a minute
+#   directory members of a directory, a gateway, a clerk and a pool, with the reference library   the proof of a program of its own, and five minutes
+#   parties   an hour of random sessions of parties that call one another, beside a model   the proof of a program of its own, and an hour
 #   groups    groups that are members of unions, chosen by both libraries     the proof of a program of its own, and some seconds
 #   netns     servers and clients over a slow, lossy link, as root              the proof of examples, and three minutes
 #   sessions  15,000 random sessions with two servers                          ten minutes
@@ -58,7 +60,7 @@
 set -u
 here=$(cd "$(dirname "${BASH_SOURCE[0]}")" && pwd)
 . "$here/../tools/crates.sh"
-all=(look proofs memory moves peers matrix relay recordings guard fields schemas texts json canonical host load operate callees large faults readme interfaces services notebook lives queue chat groups netns sessions crowd served pieces starved embed fuzz words made edits planted plants)
+all=(look proofs memory moves peers matrix relay recordings guard fields schemas texts json canonical host load operate callees large faults readme interfaces services notebook lives queue chat directory parties groups netns sessions crowd served pieces starved embed fuzz words made edits planted plants)
 alone=night # runs only where it is named: it takes as long as all others
 of_plants=(cp_words cp_tables cp_writing cp_packed cp_frame cp_messages cp_rpc cp_stream cp_refs cp_vat cp_serve)
 
@@ -182,11 +184,15 @@ notebook() { "$root/tools/build.sh" examples && "$here/notebook/run.sh" "$root/c
 
 lives() { "$root/tools/build.sh" examples && "$here/notebook/lives.sh" "$root/crates/examples/out/examples" "$folder/lives"; }
 
-more_examples() { lay_tests "$folder/more" store jobs chat shapes more_examples && (cd "$folder/more/crates/more_examples" && rt run); }
+more_examples() { lay_tests "$folder/more" store jobs chat directory shapes more_examples && (cd "$folder/more/crates/more_examples" && rt run); }
 
 queue() { more_examples && "$here/jobs/run.sh" "$folder/more/crates/more_examples/out/more_examples" "$folder/jobs"; }
 
 chat() { more_examples && "$here/chat/run.sh" "$folder/more/crates/more_examples/out/more_examples" "$folder/chat"; }
+
+directory() { more_examples && "$here/directory/run.sh" "$folder/more/crates/more_examples/out/more_examples" "$folder/directory"; }
+
+parties() { more_examples && "$here/directory/parties.sh" "$folder/more/crates/more_examples/out/more_examples" "$folder/directory" 3600; }
 
 groups() { more_examples && "$here/groups/run.sh" "$folder/more/crates/more_examples/out/more_examples" "$folder/groups"; }
 
