@@ -99,7 +99,7 @@ int main(int argc, char** argv) {
   size_t size = argc == 4 ? std::strtoull(argv[2], nullptr, 10) : 0, count = argc == 4 ? std::strtoull(argv[3], nullptr, 10) : 0;
   Cut builder(6 << 20, 1 << 10);
   if (kind == "small") small(builder);
-  else if (kind == "data" && size <= 32 << 20) data(builder, size);
+  else if (kind == "data" && size <= 256 << 20) data(builder, size);
   else if (kind == "texts" && size <= 32 << 20) texts(builder, size);
   else if (kind == "segments" && size >= 1) segments(builder, size);
   else if (kind == "nesting" && size > 5) nesting(builder, size);

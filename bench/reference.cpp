@@ -1,4 +1,4 @@
-// The jobs of capnp_cli over a file, done by the reference library: reference check|pack|unpack [--packed] FILE
+// The jobs of capnp_cli over a file, done by the reference library: reference check|pack|unpack [--packed] [--traversal WORDS] FILE
 #include "whole.hpp"
 #include <fcntl.h>
 #include <cstdio>
@@ -26,14 +26,16 @@ static std::vector<kj::ArrayPtr<const capnp::word>> segments_of(capnp::MessageRe
 
 int main(int argc, char** argv) {
   bool packed = false;
+  auto limits = whole::limits();
   std::vector<std::string> words;
   for (int place = 1; place < argc; place++) {
     if (std::string(argv[place]) == "--packed") packed = true;
+    else if (std::string(argv[place]) == "--traversal" && place + 1 < argc) limits.traversalLimitInWords = std::stoull(argv[++place]);
     else words.push_back(argv[place]);
   }
   int descriptor = words.size() == 2 ? open(words[1].c_str(), O_RDONLY) : -1;
   if (descriptor < 0) {
-    fprintf(stderr, "usage: reference check|pack|unpack [--packed] FILE\n");
+    fprintf(stderr, "usage: reference check|pack|unpack [--packed] [--traversal WORDS] FILE\n");
     return 2;
   }
   kj::FdInputStream file(descriptor);
@@ -42,7 +44,7 @@ int main(int argc, char** argv) {
   if (words[0] == "check") {
     uint64_t sum = 0;
     auto look = [&](capnp::MessageReader& reader) { sum += whole::message(reader.getRoot<whole::rpc::Message>()); };
-    uint64_t count = packed ? each<capnp::PackedMessageReader>(in, whole::limits(), look) : each<capnp::InputStreamMessageReader>(in, whole::limits(), look);
+    uint64_t count = packed ? each<capnp::PackedMessageReader>(in, limits, look) : each<capnp::InputStreamMessageReader>(in, limits, look);
     asm volatile("" ::"r"(sum));
     printf("messages %llu\n", (unsigned long long)count);
     return 0;
@@ -51,12 +53,12 @@ int main(int argc, char** argv) {
   auto room = kj::heapArray<kj::byte>(65536);
   kj::BufferedOutputStreamWrapper out(standard, room);
   if (words[0] == "pack") {
-    each<capnp::InputStreamMessageReader>(in, whole::limits(), [&](capnp::MessageReader& reader) {
+    each<capnp::InputStreamMessageReader>(in, limits, [&](capnp::MessageReader& reader) {
       auto segments = segments_of(reader);
       capnp::writePackedMessage(out, kj::arrayPtr(segments.data(), segments.size()));
     });
   } else {
-    each<capnp::PackedMessageReader>(in, whole::limits(), [&](capnp::MessageReader& reader) {
+    each<capnp::PackedMessageReader>(in, limits, [&](capnp::MessageReader& reader) {
       auto segments = segments_of(reader);
       capnp::writeMessage(out, kj::arrayPtr(segments.data(), segments.size()));
     });

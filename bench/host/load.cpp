@@ -1,9 +1,10 @@
 // Many connections that call a server of a Desk and its Cell at the same time, by frames made beforehand.
-// Usage: load PORT CONNECTIONS CALLS SILENT PID
-// SILENT more connections are opened first, of which each second one sends half a message. Then each of CONNECTIONS makes its next call
-// when the last one was answered, CALLS in all. PID is the server's. Prints: calls a second, microseconds of the median call and of the 99th
-// in a hundred, and the server's kB before the connections and with them. Its own memory counts. Pages of its program don't: the first
-// connections bring them in, and all share them.
+// Usage: load PORT CONNECTIONS CALLS SILENT PID [KEPT]
+// SILENT more connections are opened first, of which each second one sends half a message. Each of CONNECTIONS makes KEPT calls, none by default,
+// that are answered and not finished. Then each makes its next call when the last one was answered, CALLS in all. PID is the server's, which has
+// one thread. Prints: calls a second, microseconds of the median call, of the 99th in a hundred and of the server's processor a call, and the
+// server's kB before the connections and with them. Its own memory counts. Pages of its program don't: the first connections bring them in, and
+// all share them.
 #include "../../nightly/connect.hpp"
 #include <capnp/message.h>
 #include <capnp/rpc.capnp.h>
@@ -98,13 +99,22 @@ long own_memory(const std::string& pid) {
   return kilobytes;
 }
 
+// The microseconds of a processor that the server took so far.
+double worked(const std::string& pid) {
+  double nanoseconds;
+  FILE* file = fopen(("/proc/" + pid + "/schedstat").c_str(), "r");
+  KJ_REQUIRE(file != nullptr && fscanf(file, "%lf", &nanoseconds) == 1, "no such process");
+  fclose(file);
+  return nanoseconds / 1e3;
+}
+
 int main(int argc, char** argv) {
-  if (argc != 6) {
-    fprintf(stderr, "usage: load PORT CONNECTIONS CALLS SILENT PID\n");
+  if (argc != 6 && argc != 7) {
+    fprintf(stderr, "usage: load PORT CONNECTIONS CALLS SILENT PID [KEPT]\n");
     return 2;
   }
   unsigned port = atoi(argv[1]);
-  size_t count = atol(argv[2]), calls = atol(argv[3]), silent = atol(argv[4]);
+  size_t count = atol(argv[2]), calls = atol(argv[3]), silent = atol(argv[4]), kept = argc > 6 ? atol(argv[6]) : 0;
   rlimit most{65536, 65536};
   setrlimit(RLIMIT_NOFILE, &most);
   long before = own_memory(argv[5]);
@@ -122,6 +132,11 @@ int main(int argc, char** argv) {
   put(next, [](rpc::Message::Builder message) { message.initFinish().setQuestionId(2); });
   put_call(next, 2, 1, true, CELL, 0);
 
+  // Of these there are PIECE in a write.
+  constexpr size_t PIECE = 100;
+  std::vector<Bytes> unfinished((kept + PIECE - 1) / PIECE);
+  for (size_t i = 0; i < kept; i++) put_call(unfinished[i / PIECE], 1000 + i, 1, true, CELL, 0);
+
   int poll;
   KJ_SYSCALL(poll = epoll_create1(0));
   std::vector<Caller> callers(count);
@@ -133,10 +148,17 @@ int main(int argc, char** argv) {
     KJ_SYSCALL(epoll_ctl(poll, EPOLL_CTL_ADD, callers[i].fd, &event));
     callers[i].write_all(begin);
     for (int frames = 0; frames < 3;) frames += callers[i].frames();
+    size_t answered = 0;
+    for (auto& piece : unfinished) {
+      callers[i].write_all(piece);
+      size_t sent = std::min(kept, answered + PIECE);
+      while (answered < sent) answered += callers[i].frames();
+    }
   }
   long with = own_memory(argv[5]);
 
   std::vector<double> took;
+  double worked_before = worked(argv[5]);
   auto start = Clock::now();
   size_t sent = 0;
   for (auto& caller : callers) {
@@ -159,7 +181,8 @@ int main(int argc, char** argv) {
     }
   }
   double seconds = std::chrono::duration<double>(Clock::now() - start).count();
+  double work = (worked(argv[5]) - worked_before) / took.size();
   std::sort(took.begin(), took.end());
-  printf("%.0f %.1f %.1f %ld %ld\n", took.size() / seconds, took[took.size() / 2], took[took.size() * 99 / 100], before, with);
+  printf("%.0f %.1f %.1f %.2f %ld %ld\n", took.size() / seconds, took[took.size() / 2], took[took.size() * 99 / 100], work, before, with);
   return 0;
 }

@@ -18,7 +18,7 @@ import time
 
 HERE = pathlib.Path(__file__).resolve().parent
 sys.path.insert(0, str(HERE.parent))
-from servers import expect_built, free_port, wait_for
+from servers import expect_built, free_port, spent, wait_for
 
 COMMAND = HERE.parent.parent / "crates/cp_cli/out/cp_cli"
 BALANCER = """
@@ -33,12 +33,6 @@ listen store
     bind 127.0.0.1:{port}
     balance leastconn
 """
-
-
-def spent(process):
-    """The seconds of a processor that a process and its threads took."""
-    fields = pathlib.Path(f"/proc/{process.pid}/stat").read_text().rpartition(")")[2].split()
-    return (int(fields[11]) + int(fields[12])) / os.sysconf("SC_CLK_TCK")
 
 
 def started(words):

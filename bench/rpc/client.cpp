@@ -5,6 +5,7 @@
 //   pipeline     Desk.now, and Cell.add on what it will give, in one round trip; each counts as one call
 //   large        one call of Cell.add after another, whose params hold 1 MiB that the Cell doesn't read
 //   large-N      the same with N MB
+//   params-N     the same with N bytes
 //   large-results   one call of Blob.get after another, whose results hold 1 MiB that the client doesn't read; the server offers a Blob
 //   echo-N-W     W calls of Blob.echo under way at a time, whose params and results hold N MiB; the server offers a Blob
 //   raw-seq      as seq, by frames made beforehand over a bare socket, so that nearly all the time is the server's
@@ -34,7 +35,14 @@ namespace rpc = capnp::rpc;
 constexpr uint64_t DESK = 0xe5a1000000000001, CELL = 0xe5a1000000000002;
 constexpr size_t LARGE = 1 << 20;
 
-static bool is_large(const std::string& mode) { return mode.rfind("large", 0) == 0; }
+static bool is_large(const std::string& mode) { return mode.rfind("large", 0) == 0 || mode.rfind("params-", 0) == 0; }
+
+// How many bytes the params of such a call hold.
+static size_t size_of(const std::string& mode) {
+  size_t number;
+  if (sscanf(mode.c_str(), "params-%zu", &number) == 1) return number;
+  return sscanf(mode.c_str(), "large-%zu", &number) == 1 ? 1000000 * number : LARGE;
+}
 
 class Timer {
   std::chrono::steady_clock::time_point start = std::chrono::steady_clock::now();
@@ -78,7 +86,7 @@ static void by_library(unsigned port, const std::string& mode, uint64_t calls) {
     request.setAmount(1);
     return request.send();
   };
-  std::vector<kj::byte> bytes(is_large(mode) && mode != "large" ? 1000000 * std::stoull(mode.substr(6)) : LARGE, 0x5a);
+  std::vector<kj::byte> bytes(size_of(mode), 0x5a);
   auto add_large = [&] {
     auto request = cell.typelessRequest(CELL, 0, capnp::MessageSize{bytes.size() / 8 + 8, 0});
     auto params = request.initAsAnyStruct(1, 2);
@@ -304,7 +312,7 @@ static void by_frames(unsigned port, uint32_t window, uint32_t kept, uint64_t ca
 
 int main(int argc, char** argv) {
   if (argc != 4) {
-    fprintf(stderr, "usage: client PORT seq|window|pipeline|large|large-N|large-results|echo-N-W|raw-seq|raw-window|raw-full CALLS\n");
+    fprintf(stderr, "usage: client PORT seq|window|pipeline|large|large-N|params-N|large-results|echo-N-W|raw-seq|raw-window|raw-full CALLS\n");
     return 2;
   }
   unsigned port = atoi(argv[1]);

@@ -13,7 +13,6 @@ ratio is appended to FILE; plot.py draws it. `client.cpp` says what the modes ar
 import argparse
 import os
 import pathlib
-import resource
 import statistics
 import subprocess
 import sys
@@ -21,7 +20,7 @@ import sys
 HERE = pathlib.Path(__file__).resolve().parent
 sys.path.insert(0, str(HERE.parent))
 import history
-from servers import expect_built, free_port, wait_for
+from servers import expect_built, free_port, used, wait_for
 
 COMMAND = HERE.parent.parent / "crates/cp_cli/out/cp_cli"
 
@@ -30,12 +29,6 @@ GOALS = {"seq": 0.85, "window": 0.9, "pipeline": 0.85, "large": 1.2, "large-3": 
 
 # Of calls that take longer there are fewer, by this factor.
 FEWER = {"large": 30, "large-3": 90, "large-30": 900, "large-results": 30}
-
-
-def used():
-    """Processor microseconds of the children that have ended."""
-    use = resource.getrusage(resource.RUSAGE_CHILDREN)
-    return 1e6 * (use.ru_utime + use.ru_stime)
 
 
 def run(words, mode, args):

@@ -3,15 +3,15 @@
 
     compare.py --build FOLDER [--runs 5] [--seconds 1] [--only WORD] [--cpus 1,2] [--enforce] [--history FILE]
 
-`build.sh FOLDER` builds our server, `make BUILD=FOLDER` the other one, and the client of both. A row: the bytes in the params of each call, the
-calls under way at a time, and the socket. Then of each server the calls a second, and its processor time a call in microseconds. A ratio is ours
-over the reference's, of the times: below 1 we are faster. Each server runs on one processor, the client on another. With --enforce the status is
-1 where a ratio passes its goal; with --history ratios are appended to FILE.
+`build.sh FOLDER` builds our server, `make BUILD=FOLDER` the other one, and the client of both, `ask.cpp`, which says what the modes are. A row:
+the socket, the mode, its size (bytes or items), the calls under way at a time, then of each server the microseconds of a call by the client's
+clock and of the server's processor, and the server's peak memory in MB. A ratio is ours over the reference's: below 1 we are faster. The spread
+is that of the processor times, the median over the least. Each server runs on one processor, the client on another. With --enforce the status is
+1 where a ratio of times passes its goal; with --history ratios are appended to FILE.
 """
 import argparse
 import os
 import pathlib
-import resource
 import statistics
 import subprocess
 import sys
@@ -21,18 +21,20 @@ import time
 HERE = pathlib.Path(__file__).resolve().parent
 sys.path.insert(0, str(HERE.parent))
 import history
-from servers import expect_built, free_port, wait_for
+from servers import expect_built, free_port, peak, spent, wait_for
 
-# Bytes in each call, calls under way, and about how many microseconds a call takes.
-ROWS = [(0, 1, 40), (0, 64, 12), (1024, 1, 45), (1024, 64, 15), (1 << 20, 1, 1200), (1 << 20, 8, 1000)]
+KILO, MEGA = 1 << 10, 1 << 20
+
+# Size, calls under way, about how many microseconds a call takes, and the greatest ratio that is asked for.
+SIZES = [
+    (0, 1, 40, 0.6), (0, 64, 12, 0.6), (200, 1, 40, 0.6), (200, 64, 12, 0.6), (4 * KILO, 1, 50, 0.7), (4 * KILO, 64, 20, 0.7),
+    (MEGA, 1, 1200, 0.9), (MEGA, 8, 1000, 0.9), (16 * MEGA, 1, 40000, 0.9),
+]
+ROWS = [
+    *((mode, *it) for mode in ("put", "get") for it in SIZES),
+    ("raise", 1000, 1, 700, 0.9), ("raise", 1000, 8, 500, 0.9), ("pages", 0, 64, 30, 0.6), ("pages", 0, 10000, 30, 0.6),
+]
 SOCKETS = ("tcp", "unix")
-GOAL = 1.0
-
-
-def used():
-    """Processor microseconds of the children that have ended."""
-    use = resource.getrusage(resource.RUSAGE_CHILDREN)
-    return 1e6 * (use.ru_utime + use.ru_stime)
 
 
 class Place:
@@ -55,32 +57,39 @@ class Place:
         sys.exit("the server doesn't listen")
 
 
-def run(name, socket, size, window, calls, args):
-    """Microseconds a call by the client's clock, and of the server's processor, which serves it alone."""
+def run(name, socket, row, args):
+    """Microseconds a call by the client's clock and of the server's processor, and the server's peak of memory."""
+    mode, size, window, micros, _ = row
+    calls = window * max(1, int(1e6 * args.seconds / micros) // window)
     here, there = args.cpus.split(",")
     with tempfile.TemporaryDirectory() as room:
         place = Place(socket, room)
-        words = [place.ours if name == "sinking" else place.address, "1"]
+        words = [place.ours, "2"] if name == "sinking" else [place.address, "2"]
         server = subprocess.Popen(["taskset", "-c", there, str(args.build / name), *words])
-        place.wait(server)
-        client = ["taskset", "-c", here, str(args.build / "put"), place.address, str(size), str(window), str(calls)]
-        took = float(subprocess.run(client, stdout=subprocess.PIPE, check=True, timeout=300).stdout) / 1e3
-        before = used()
-        server.wait(5)
-        return took, (used() - before) / calls
+        try:
+            place.wait(server)
+            before = spent(server)
+            client = ["taskset", "-c", here, str(args.build / "ask"), place.address, mode, *map(str, (size, window, calls))]
+            took = float(subprocess.run(client, stdout=subprocess.PIPE, check=True, timeout=300).stdout) / 1e3
+            # The turn that isn't timed counts too.
+            return took, 1e6 * (spent(server) - before) / (calls + window), peak(server) / KILO
+        finally:
+            server.kill()
+            server.wait()
 
 
 def compare(socket, row, args):
-    """Prints a row; its name and its two ratios."""
-    size, window, micros = row
-    calls = max(window, int(1e6 * args.seconds / micros))
-    runs = [[run(name, socket, size, window, calls, args) for name in ("sinking", "sink")] for _ in range(args.runs)]
+    """Prints a row; its name, its two ratios, and whether they meet the goal."""
+    mode, size, window, _, goal = row
+    runs = [[run(name, socket, row, args) for name in ("sinking", "sink")] for _ in range(args.runs)]
     ours, theirs = ([statistics.median(it) for it in zip(*those)] for those in zip(*runs))
     ratio, work = ours[0] / theirs[0], ours[1] / theirs[1]
-    spread = [statistics.median(those) / min(those) for those in zip(*((a[0], b[0]) for a, b in runs))]
-    rates = f"{1e6 / ours[0]:>9.0f}{1e6 / theirs[0]:>10.0f}{ratio:>7.2f}"
-    print(f"{socket:<6}{size:>9}{window:>4}{rates}{ours[1]:>10.1f}{theirs[1]:>10.1f}{work:>7.2f}   {spread[0]:.2f} {spread[1]:.2f}", flush=True)
-    return f"{size} bytes, {window} at once, {socket}", ratio, work
+    spread = " ".join(f"{statistics.median(those) / min(those):.2f}" for those in zip(*((a[1], b[1]) for a, b in runs)))
+    times = f"{ours[0]:>9.1f}{theirs[0]:>9.1f}{ratio:>6.2f}{ours[1]:>9.1f}{theirs[1]:>9.1f}{work:>6.2f}"
+    met = max(ratio, work) <= goal
+    note = "" if met else "over"
+    print(f"{socket:<5}{mode:<6}{size:>9}{window:>6}{times}{goal:>6.1f}{ours[2]:>7.1f}{theirs[2]:>7.1f}   {spread}  {note}", flush=True)
+    return f"{mode} {size}, {window} at once, {socket}", ratio, work, met
 
 
 def main():
@@ -93,15 +102,17 @@ def main():
     words.add_argument("--enforce", action="store_true")
     words.add_argument("--history", type=pathlib.Path)
     args = words.parse_args()
-    expect_built(*(args.build / it for it in ("sinking", "sink", "put")))
+    expect_built(*(args.build / it for it in ("sinking", "sink", "ask")))
     load = os.getloadavg()[0]
     print(f"{args.runs} runs of each, in turn; load {load:.1f}")
-    print(f"{'':<6}{'bytes':>9}{'':>4}{'calls/s':>9}{'theirs':>10}{'ratio':>7}{'us':>10}{'theirs':>10}{'ratio':>7}   spread")
-    found = [compare(socket, row, args) for socket in SOCKETS if args.only in socket for row in ROWS]
+    columns = f"{'us':>9}{'theirs':>9}{'':>6}{'server':>9}{'theirs':>9}{'':>6}{'goal':>6}{'MB':>7}{'theirs':>7}"
+    print(f"{'':<5}{'mode':<6}{'size':>9}{'':>6}{columns}   spread")
+    rows = [(socket, row) for socket in SOCKETS for row in ROWS if args.only in f"{socket}/{row[0]}/{row[1]}/{row[2]}"]
+    found = [compare(*it, args) for it in rows]
     if args.history:
-        rows = [it for what, ratio, work in found for it in ((what, "", f"{ratio:.2f}", "ratio"), (what, "server's processor", f"{work:.2f}", "ratio"))]
+        rows = [it for what, ratio, work, _ in found for it in ((what, "", f"{ratio:.2f}", "ratio"), (what, "server's processor", f"{work:.2f}", "ratio"))]
         history.keep(args.history, "sink/compare.py", rows, f"load {load:.1f} at first, medians of {args.runs} runs")
-    return 1 if args.enforce and any(max(it[1:]) > GOAL for it in found) else 0
+    return 1 if args.enforce and not all(met for *_, met in found) else 0
 
 
 if __name__ == "__main__":
