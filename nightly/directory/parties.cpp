@@ -1,7 +1,8 @@
 // Random sessions of three to five parties beside a plain model: who can call what, in which order, and what is held where.
 //   parties NAME SEED SECONDS MOVES PORT..    sessions of so many moves, one after another, for so long. Each party comes by one of these ports:
 //                                             the directory's first, or a gateway's to it. NAME begins the names by which it joins, so that
-//                                             several runs don't meet. STORY=1 prints the whole session that went wrong, TRACE=1 each move at once.
+//                                             several runs don't meet. STORY=1 prints the whole session that went wrong, TRACE=1 each move at once. LIMIT is
+//                                             for how many seconds calls may be open once nobody stalls (60).
 // Each party is a connection of its own, by the reference library. It joins, finds, calls, passes on what it has, makes objects and promises,
 // resolves these to what it has, gives calls up, stalls, floods, and dies. What the model doesn't know is what a party that died took along: so
 // calls that may go over its connection may fail, as disconnected. Promises that are resolved to what wasn't answered yet may lose order once.
@@ -184,7 +185,6 @@ struct Party {
   std::vector<Vow> vows;
   std::vector<std::unique_ptr<Call>> calls;
   std::map<Party*, long> in_pair;
-  long came_back = 0;  // calls for ever that may have come back, and were given up
   capnp::CapabilityServerSet<Member> own;
   Party(Session& session, int number, bool is_straight, kj::Own<Link> link)
       : session(session), number(number), is_straight(is_straight), link(kj::mv(link)), hub(this->link->hub()) {}
@@ -211,6 +211,7 @@ struct Session {
   std::map<std::string, Node*> names;
   std::map<long, std::pair<Node*, std::vector<long>>> came; // by reference: what it stands for, and the places of the calls that came
   std::map<std::pair<Party*, Party*>, long> pairs;          // the last call of two connections that came
+  std::vector<Call*> untold;                                // those that were given up and may have come back to their caller
   std::vector<Doubt> doubts;                                
   std::vector<std::string> story;
   long last = 0;
@@ -462,7 +463,12 @@ bool Session::may_fail(Call& call, kj::Exception::Type type) {
   Found found = find(call.target);
   if (found.is_broken || !call.from->lives) return true;
   for (auto it : found.parties) if (!it->lives && type == kj::Exception::Type::DISCONNECTED) return true;
-  return false;
+  // (A vat that sends a call back to its caller names what is broken by `none`, which the reference library doesn't take.)
+  if (call.passed == nullptr || found.object == nullptr || found.object->party != call.from) return false;
+  Found passed = find(call.passed);
+  bool lost = passed.is_broken;
+  for (auto it : passed.parties) lost |= !it->lives;
+  return lost && (call.comes_back || found.has_promise);
 }
 
 void Session::join(Party& from, Handle* handle, std::string as) {
@@ -518,8 +524,7 @@ void Session::reap() {
     auto& all = party->calls;
     for (size_t at = 0; at < all.size();) {
       if (!all[at]->is_over) { at++; continue; }
-      Found found = find(all[at]->target);
-      party->came_back += all[at]->verb == NEVER && all[at]->comes_back && found.object && found.object->party == party.get();
+      if (all[at]->verb == NEVER && all[at]->comes_back) untold.push_back(all[at].get());
       all[at]->promise = nullptr;
       finished.push_back(std::move(all[at]));
       all.erase(all.begin() + at);
@@ -543,6 +548,7 @@ long Session::open() {
 // Waits until all calls have come to something, and looks at what they came to.
 void Session::quiesce() {
   auto begin = std::chrono::steady_clock::now();
+  auto limit = std::chrono::seconds(getenv("LIMIT") ? atoi(getenv("LIMIT")) : 60);
   for (long left = 1; left > 0;) {
     for (auto party : living()) {
       if (party->link->stream.stalls) party->link->stream.go_on();
@@ -551,7 +557,7 @@ void Session::quiesce() {
     wait(300);
     reap();
     left = open();
-    if (std::chrono::steady_clock::now() - begin > std::chrono::seconds(60)) {
+    if (std::chrono::steady_clock::now() - begin > limit) {
       for (auto party : living()) for (auto& it : party->calls) if (!it->is_over) note("open: ", words_of(*it));
       fail(left, " calls come to nothing");
     }
@@ -607,10 +613,14 @@ void Session::check_given_up() {
         if (found.object) (may_be_over ? wanted[found.object->party].second : wanted[found.object->party].first)++;
       }
     }
+    for (auto it : untold) {
+      Found found = find(it->target);
+      if (found.object && found.object->party == it->from) wanted[it->from].second++;
+    }
     Party* wrong = nullptr;
     for (auto party : living()) {
       auto& of = wanted[party];
-      if (party->nevers < of.first || party->nevers > of.first + of.second + party->came_back) wrong = party;
+      if (party->nevers < of.first || party->nevers > of.first + of.second) wrong = party;
     }
     if (wrong == nullptr) return;
     if (tries > 10000) {
@@ -695,6 +705,7 @@ void Session::check_held() {
   };
   for (auto party : living()) for (auto& it : party->handles) look(it->node);
   for (auto& it : names) look(it.second);
+  for (auto it : untold) may_be_held.insert(find(it->target).object);
   for (auto& it : nodes) if (held.count(it.get()) && !it->is_there) fail("object ", it->number, " went, though it is held");
   for (int tries = 0;; tries++) {
     Node* stays = nullptr;

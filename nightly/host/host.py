@@ -241,13 +241,14 @@ def a_reset_has_its_cause():
 
 
 def idle():
-    server = Server(2, "--at-once", "2", "--idle", "1")
+    server = Server(2, "--at-once", "2", "--idle", "2")
     silent, other = (server.peer().send(bootstrap(0)) for _ in range(2))
     assert silent.kinds(1) + other.kinds(1) == [RETURN, RETURN]
     for question in range(1, 6):
         time.sleep(0.5)
         assert other.send(call(question)).kinds(1) == [RETURN]
-    assert silent.is_closed()
+    # It was asked at half of the time.
+    assert silent.kinds(2) == [BOOTSTRAP, FINISH] and silent.is_closed()
     other.close()
     server.ended(1, "closed: no byte moved in time")
 
